@@ -5,7 +5,7 @@ use super::tell;
 use dbtg_cells::{Cell, CellName, DbKey, Extent, Owner, Ring, Slot, Usage};
 use dbtg_schema::{AreaNo, RecordNo, Row, Schema, SetNo};
 use dbtg_script::{read_script, units_text};
-use dbtg_step::{Run, next_need, opening_unit, prepare, run_serial};
+use dbtg_step::{Run, next_need, opening_unit, prepare, run_serial, true_guesses};
 use dbtg_unit::{
     Held, Need, Owners, Prepared, Statement, Status, Unit, finish, reserve_member, reserve_user,
 };
@@ -149,9 +149,10 @@ fn gather(rt: &HostRuntime, work: &mut Work, statement: &Statement) -> Option<()
                 let cell = cell_of(rt, &mut work.home, &name)?;
                 take(rt, &mut work.held, name, cell)?;
             }
-            Ok(Need::Stale(owners)) => {
+            Ok(Need::Stale) => {
+                let guesses = true_guesses(&work.schema, &work.unit, statement, &work.held);
                 give_cells_back(work);
-                work.held.set_guesses(owners);
+                work.held.set_guesses(guesses);
                 course = None;
             }
             Ok(Need::Ready) => return Some(()),

@@ -1,6 +1,6 @@
 -- Where the cells stand in their order: areas, record types, rings set by set, slots type by type.
-use Rattle.std.proofs.Common.{◌≡◌, ℕ, zero, suc, ◌+◌, ◌*◌, ◌-◌, ◌<◌, ◌≤◌, Bool, true, false, ◌&&◌, List, [], ◌∷◌, ◌++◌, Option, Some, None, map, length, refl, sym, ap, ◌∙◌, arith, length-append, slice_get, cond}
-use Rattle.std.specs.Prelude.{is_none, ◌==◌, nat_lt, nat_le, option_map, option_and_then, unwrap_or}
+use Rattle.std.proofs.Common.{◌≡◌, ℕ, zero, suc, ◌+◌, ◌*◌, ◌-◌, ◌<◌, ◌≤◌, Bool, true, false, ◌&&◌, List, [], ◌∷◌, ◌++◌, Option, Some, None, map, length, get_or, refl, sym, ap, ◌∙◌, arith, length-append, slice_get, cond}
+use Rattle.std.specs.Prelude.{is_none, is_some, ◌==◌, nat_lt, nat_le, option_map, option_and_then, unwrap_or}
 use Rattle.std.specs.List.{flat_map, range_with_len}
 use Rattle.std.proofs.lemmas.Bool.{and_parts, ltb-true, leb-true, eqb-true}
 use Rattle.std.proofs.lemmas.Option.{slice_get-map, slice_get_within}
@@ -12,7 +12,8 @@ use Rattle.dbtg_schema.specs.Structure.{is_system, owner_type, owns, set_numbers
 use Rattle.dbtg_schema.proofs.Public.{none_is}
 use Rattle.dbtg_cells.specs.declared.name.CellName.{CellName}
 use Rattle.dbtg_cells.specs.declared.name.CellName.TheVariants.{Usage, Extent, Ring, Slot}
-use Rattle.dbtg_cells.specs.CellNumbers.{cells_in_order, rings_of, slots_of, is_cell, cell_number, cell_count}
+use Rattle.dbtg_cells.specs.declared.numbering.Layout.{Layout}
+use Rattle.dbtg_cells.specs.CellNumbers.{IsLayoutOf, cells_in_order, rings_of, slots_of, is_cell, cell_number, cell_count, place_in}
 use Rattle.dbtg_cells.proofs.NumbersOfCells.{has_number, numbered_at}
 
 -- what a list has at an index stays there when more follows
@@ -175,3 +176,24 @@ module _ (schema : Lists) (capacity : ℕ) where
       mapped_in_range (Slot (0 + t)) 1 capacity (n - 1) (omega arith) ∙ (λ i. Some (Slot ((let zero_and : 0 + t ≡ t = omega arith in zero_and) i) ((let back : 1 + (n - 1) ≡ n = omega arith in back) i))) in
       numbered_at schema capacity _ (Slot t n) (behind_rings _ ∙ in_part (slots_of capacity) 0 (length schema.types) t (n - 1) (Slot t n) l here)
       ∙ ap Some (ap (λ m. length schema.areas + length schema.types + length rings + (m + (n - 1))) (slots_length t) ∙ omega arith)
+
+-- a layout with the numbers of the first cells of each kind puts each cell at its number
+pub laid_out : (schema : Lists) (capacity : ℕ) (layout : Layout) → layout.areas ≡ length schema.areas → layout.capacity ≡ capacity
+    → layout.first_slot ≡ length schema.areas + length schema.types + length (rings schema capacity)
+    → ((s : ℕ) → s < length schema.sets → get_or layout.first_rings s 0 ≡ length schema.areas + length schema.types + length (flat_map (rings_of schema capacity) (range_with_len 0 s)))
+    → IsLayoutOf schema capacity layout
+laid_out schema capacity layout areas wide slot firsts c n e = at c (sym (has_number schema capacity c) ∙ ap is_some e) e
+  where
+    same : {p q : ℕ} (o : Option ℕ) → o ≡ Some p → o ≡ Some q → p ≡ q
+    same o a b = cc (a, b)
+
+    at : (c : CellName) → is_cell schema capacity c ≡ true → cell_number schema capacity c ≡ Some n → place_in layout c ≡ n
+    at (Usage a) is e = same (cell_number schema capacity (Usage a)) (usage_number schema capacity a is) e
+    at (Extent t) is e = ap (λ k. k + t) areas ∙ same (cell_number schema capacity (Extent t)) (extent_number schema capacity t is) e
+    at (Ring s None) is e = firsts s (system_there schema capacity s is) ∙ same (cell_number schema capacity (Ring s None)) (system_ring_number schema capacity s is) e
+    at (Ring s (Some owner)) is e =
+        ap (λ k. k + (owner.1 - 1)) (firsts s (owned_there schema capacity s owner.0 (and_parts _ _ is).0).0)
+        ∙ same (cell_number schema capacity (Ring s (Some owner))) (ring_number schema capacity s owner.0 owner.1 is) e
+    at (Slot t m) is e =
+        (λ i. slot i + t * wide i + (m - 1))
+        ∙ same (cell_number schema capacity (Slot t m)) (slot_number schema capacity t m is) e

@@ -242,13 +242,13 @@ rising_push : (lt : ℕ → ℕ → Bool) (xs : List ℕ) (n : ℕ) → is_risin
 rising_push lt [] n rising h = refl
 rising_push lt (x ∷ xs) n rising h = and_from _ _ (all_push (lt x) xs n (and_parts _ _ rising).0 (and_parts _ _ h).0) (rising_push lt xs n (and_parts _ _ rising).1 (and_parts _ _ h).1)
 
--- a node differs from those in front of it
+-- a node differs from those before it
 not_in_front : (xs : List ℕ) (i : ℕ) → i < length xs → are_distinct xs ≡ true → is_in (get_or xs i 0) (take i xs) ≡ false
 not_in_front xs zero within h = refl
 not_in_front [] (suc i) within h = refl
 not_in_front (x ∷ xs) (suc i) within h = or_from _ _ (not-true _ (passes_at (differ x) xs i 0 (and_parts _ _ h).0 (omega arith))) (not_in_front xs i (omega arith) (and_parts _ _ h).1)
 
--- the nodes in front of an index have labels that rise and are below the next one
+-- the nodes before an index have labels that rise and are below the next one
 pub record Labelled (nodes labels : List ℕ) (i label : ℕ) : Type 0 where
   pub rising : is_rising (label_below labels) (take i nodes) ≡ true
   pub under : list_all (λ n. nat_lt (get_or labels n 0) label) (take i nodes) ≡ true

@@ -34,15 +34,15 @@ pub use Rattle.dbtg_cells.proofs.NumbersOfCells.{or_nothing}
 pub use Rattle.dbtg_cells.proofs.NumbersOfCells.{stands_at}
 -- what a list has at an index stays there when more follows
 pub use Rattle.dbtg_cells.proofs.PlaceNumbers.{at_left}
--- the number of an extent: its record type's, behind the areas
+-- the number of an extent: its record type's, after the areas
 pub use Rattle.dbtg_cells.proofs.PlaceNumbers.{extent_number}
 -- what is made of the numbers from a on, at an index
 pub use Rattle.dbtg_cells.proofs.PlaceNumbers.{mapped_in_range}
--- the number of the ring of an owner record: the owner's, behind areas, types and the rings of earlier sets
+-- the number of the ring of an owner record: the owner's, after areas, types and the rings of earlier sets
 pub use Rattle.dbtg_cells.proofs.PlaceNumbers.{ring_number}
--- the number of a slot: its record's, type by type, behind areas, types and rings
+-- the number of a slot: its record's, type by type, after areas, types and rings
 pub use Rattle.dbtg_cells.proofs.PlaceNumbers.{slot_number}
--- the number of the ring of a system set: behind areas, types and the rings of earlier sets
+-- the number of the ring of a system set: after areas, types and the rings of earlier sets
 pub use Rattle.dbtg_cells.proofs.PlaceNumbers.{system_ring_number}
 -- the number of the usage cell of an area is the area's
 pub use Rattle.dbtg_cells.proofs.PlaceNumbers.{usage_number}

@@ -78,12 +78,12 @@ places_with a e b n is =
     let count : n ≡ length (places a) = is ∙ sym (length-map a (λ e. e.at)) in
     rw (map-append (λ e. e.at) a b) (insert_at (places a) (places b) e.at n count) ∙ sym (map-append (λ e. e.at) a (e ∷ b))
 
--- the node in front of a place, or what stands in front of the list
+-- the node before a place, or what stands before the list
 abbrev before_place : Option ℕ → List ℕ → ℕ → Option ℕ
 before_place p ns zero = p
 before_place p ns (suc n) = slice_get ns n
 
--- a list of links in two parts, of which the first has so many
+-- a list of links in two parts, the first of this length
 pub record Cut (es : List Link) (n : ℕ) (p : Option ℕ) : Type 0 where
   pub front : List Link
   pub back : List Link

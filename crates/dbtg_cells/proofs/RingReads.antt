@@ -152,7 +152,7 @@ without_none find s keyed p (e ∷ es) q k x at away h = by (has_key k e.member)
 
 module _ (find : DbKey → Option ℕ) (s : Slots) (first last : Option ℕ) (len : ℕ) (R : IsRing find s first last len) where
   module _ (a : List Link) (e : Link) (b : List Link) (split : R.chain ≡ a ++ e ∷ b) where
-    -- what is read behind a node, and in front of it
+    -- what is read after a node, and before it
     pub reads_behind : follow len s (head_at b None) ≡ members b
     reads_behind =
         let links : Seg s None (a ++ e ∷ b) None = subst (λ c. Seg s None c None) split R.links in

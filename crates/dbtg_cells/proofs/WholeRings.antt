@@ -81,7 +81,7 @@ in_marks s x m p q i ne =
     ∙ ap (option_map (λ k. k.linked)) (slot_put_other x i (as_linked m p q) s ne)
     ) ∙ sym (linked_at_map s i)
 
--- the same of taking one out, which is then not linked
+-- the same for taking one out, which is then not linked
 out_keys : (s : Slots) (x : ℕ) (p q : Option ℕ) (i : ℕ) → key_at (linked_out x p q s) i ≡ key_at s i
 out_keys s x p q i =
     let s1 = put_if p (with_next q) s in

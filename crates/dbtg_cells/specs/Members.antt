@@ -10,7 +10,7 @@ use Rattle.dbtg_cells.specs.Shown.{RingView}
 abbrev pub Entry : Type 0
 Entry = DbKey × Option Value
 
--- the members of an occurrence, in order; none where there is none
+-- the members of an occurrence, in order; none if there is none
 abbrev pub members_in : Option Occurrence → List Entry
 members_in occurrence = unwrap_or (option_map (λ o. o.members) occurrence) []
 
@@ -26,7 +26,7 @@ has_key k e = key_eq k e.0
 abbrev pub with_members : (List Entry → List Entry) → Option Occurrence → Option Occurrence
 with_members change = option_map (λ o. record { owner = o.owner; members = change o.members })
 
--- there is a place for the key, which is no member
+-- there is room for the key, which is not a member
 abbrev pub has_room : RingView → DbKey → Bool
 has_room ring k = is_member k ring.reserved
 
@@ -34,7 +34,7 @@ has_room ring k = is_member k ring.reserved
 abbrev pub without_key : DbKey → List Entry → List Entry
 without_key k = filter (λ e. not (has_key k e))
 
--- the one key that is left out, where there is one
+-- the one key that is left out, if there is one
 abbrev pub is_left_out : Option DbKey → DbKey → Bool
 is_left_out None k = false
 is_left_out (Some left) k = key_eq left k

@@ -12,13 +12,13 @@ is_update ProtectedUpdate = true
 is_update ExclusiveRetrieval = false
 is_update ExclusiveUpdate = true
 
--- the modes beside which there is no other
+-- the modes that allow no other mode beside them
 abbrev pub is_exclusive : Mode → Bool
 is_exclusive ExclusiveRetrieval = true
 is_exclusive ExclusiveUpdate = true
 is_exclusive _ = false
 
--- the modes beside which there is no update
+-- the modes that allow no update mode beside them
 abbrev pub is_protected : Mode → Bool
 is_protected ProtectedRetrieval = true
 is_protected ProtectedUpdate = true

@@ -36,11 +36,11 @@ abbrev pub with_entry : ℕ → Number → List Number → List Number
 with_entry zero e numbers = numbers
 with_entry (suc i) e numbers = slice_set numbers i e
 
--- the last generation of number n, 0 where it was never used
+-- the last generation of number n, 0 if it was never used
 abbrev pub last_of : ℕ → List Number → ℕ
 last_of n numbers = unwrap_or (option_map (λ e. e.last) (entry_of n numbers)) 0
 
--- the one number that is left out, where there is one
+-- the one number that is left out, if there is one
 abbrev pub is_number_left_out : Option ℕ → ℕ → Bool
 is_number_left_out None n = false
 is_number_left_out (Some left) n = left == n

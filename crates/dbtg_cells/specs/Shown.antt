@@ -1,4 +1,4 @@
--- What each kind of cell shows, and the room that is reserved in it, which nobody sees.
+-- What each kind of cell shows, and the room that is reserved in it, which is not shown.
 use Rattle.std.specs.Prelude.{ℕ, List, Option}
 use Rattle.dbtg_cells.specs.declared.key.DbKey.{DbKey}
 use Rattle.dbtg_cells.specs.declared.usage.Mode.{Mode}
@@ -15,7 +15,7 @@ pub record UsageView : Type 0 where
 pub record ExtentView : Type 0 where
   pub numbers : List Number
 
--- an occurrence, or none; the keys that are no members and for which there is a place
+-- an occurrence, or none; the keys that are not members and for which there is room
 pub record RingView : Type 0 where
   pub occurrence : Option Occurrence
   pub reserved : List DbKey

@@ -1,7 +1,7 @@
-//! The live numbers of a record type, ordered by their CALC values and, where these are the same, ascending. A look-up by values
+//! The live numbers of a record type, ordered by their CALC values and, if these are equal, ascending. A look-up by values
 //! halves the list and takes no memory.
-ghost use Rattle.std.specs.Prelude.{◌≡◌, ◌<◌, ◌≤◌, ◌^◌, IsTrue, true, not, ◌==◌, length, filter, nat_lt, vec_capacity};
-ghost use Rattle.std.specs.List.{position_or_len, slice_index_or};
+ghost use Rattle.std.specs.Prelude.{◌≡◌, ◌<◌, ◌≤◌, ◌^◌, IsTrue, Some, true, not, ◌==◌, length, filter, nat_lt, slice_get, vec_capacity};
+ghost use Rattle.std.specs.List.{list_any, position_or_len, slice_index_or};
 ghost use Rattle.std.specs.Ordering.{ordering_then, nat_cmp, is_lt};
 ghost use Rattle.std.specs.Cmp.Lexicographic.{slice_cmp};
 ghost use Rattle.dbtg_schema.specs.Lookups.{first as first_in, some_and};
@@ -56,7 +56,7 @@ fn compare_item(items: &[Value], item: ItemNo, value: &Value) -> Ordering
     }
 }
 
-// Compares the items with these numbers to some values.
+// Compares some items with some values.
 pub(crate) fn compare_picked(item_numbers: &[ItemNo], items: &[Value], values: &[Value]) -> Ordering
     ensures { result ≡ slice_cmp value_cmp (picked item_numbers.now items.now) values.now }
 {
@@ -77,7 +77,7 @@ pub(crate) fn compare_picked(item_numbers: &[ItemNo], items: &[Value], values: &
     }
 }
 
-// The CALC values of a number, none where it is not live.
+// The CALC values of a number; none if it is not live.
 fn values_at(numbers: &[Number], number: u32) -> &[Value]
     ensures { result.now ≡ values_of numbers.now number }
 {
@@ -90,7 +90,7 @@ fn values_at(numbers: &[Number], number: u32) -> &[Value]
     }
 }
 
-// Whether a number stands behind a place, by the order of the values and then of the numbers.
+// Whether a number comes after a place, by the order of the values and then of the numbers.
 fn is_past(by_values: Ordering, number: u32, other: u32) -> bool
     ensures { result ≡ is_lt (ordering_then by_values (nat_cmp number other)) }
 {
@@ -101,7 +101,7 @@ fn is_past(by_values: Ordering, number: u32, other: u32) -> bool
     }
 }
 
-// Whether another number stands behind the place of these values and this number.
+// Whether another number comes after the place of these values and this number.
 fn is_behind(numbers: &[Number], values: &[Value], number: u32, other: u32) -> bool
     ensures { result ≡ is_behind numbers.now (values.now, number) other }
 {
@@ -112,7 +112,7 @@ fn is_behind(numbers: &[Number], values: &[Value], number: u32, other: u32) -> b
     )
 }
 
-// Where the first number behind a place stands, or the length.
+// The place of the first number after this place, or the length.
 fn place_of(listed: &[u32], numbers: &[Number], values: &[Value], number: u32) -> usize
     requires { is_rising (stands_before numbers.now) listed.now ≡ true }
     ensures at { result ≡ position_or_len (is_behind numbers.now (values.now, number)) listed.now }
@@ -121,7 +121,7 @@ fn place_of(listed: &[u32], numbers: &[Number], values: &[Value], number: u32) -
     listed.partition_point(|other| !is_behind(numbers, values, number, *other))
 }
 
-// The first number behind a place.
+// The first number after a place.
 fn first_behind(listed: &[u32], numbers: &[Number], values: &[Value], number: u32) -> Option<u32>
     requires { is_rising (stands_before numbers.now) listed.now ≡ true }
     ensures { result ≡ first_in (filter (is_behind numbers.now (values.now, number)) listed.now) }
@@ -158,7 +158,7 @@ pub(crate) fn next_by_calc(
     }
 }
 
-// Whether another number stands behind the place of the items with these numbers and this number.
+// Whether another number comes after the place of these items and this number.
 fn is_behind_picked(
     numbers: &[Number],
     item_numbers: &[ItemNo],
@@ -175,7 +175,7 @@ fn is_behind_picked(
     )
 }
 
-// Where the first number behind such a place stands, or the length.
+// The place of the first number after such a place, or the length.
 fn place_of_picked(
     listed: &[u32],
     numbers: &[Number],
@@ -225,6 +225,30 @@ pub(crate) fn next_picked(
     }
 }
 
+// Whether the last listed number, and so each, stands before the place of these values and this number.
+fn is_past_all(listed: &[u32], numbers: &[Number], values: &[Value], number: u32) -> bool
+    requires { is_rising (stands_before numbers.now) listed.now ≡ true }
+    ensures { IsTrue result → position_or_len (is_behind numbers.now (values.now, number)) listed.now ≡ length listed.now }
+{
+    if listed.is_empty() {
+        return true;
+    }
+    !is_behind(numbers, values, number, listed[listed.len() - 1])
+}
+
+// Where the first number behind a place stands, or the length. The place of a new number is mostly the last one.
+fn place_of_new(listed: &[u32], numbers: &[Number], values: &[Value], number: u32) -> usize
+    requires { is_rising (stands_before numbers.now) listed.now ≡ true }
+    ensures at { result ≡ position_or_len (is_behind numbers.now (values.now, number)) listed.now }
+    ensures within { result ≤ length listed.now }
+{
+    if is_past_all(listed, numbers, values, number) {
+        listed.len()
+    } else {
+        place_of(listed, numbers, values, number)
+    }
+}
+
 // Puts a number into the list, in the place of its values.
 pub(crate) fn list_by_calc(listed: &mut Vec<u32>, numbers: &[Number], number: u32)
     requires rising { is_rising (stands_before numbers.now) listed.old.items ≡ true }
@@ -232,32 +256,36 @@ pub(crate) fn list_by_calc(listed: &mut Vec<u32>, numbers: &[Number], number: u3
     ensures items { listed.new.items ≡ before (stands_before numbers.now number) number listed.old.items }
     ensures capacity { vec_capacity listed.new ≡ vec_capacity listed.old }
 {
-    let at = place_of(
-        listed.as_slice(),
-        numbers,
-        values_at(numbers, number),
-        number,
-    );
+    let values = values_at(numbers, number);
+    let at = place_of_new(listed.as_slice(), numbers, values, number);
     insert_number(listed, at, number);
 }
 
-// Takes a number out of the list. The first number behind the place of its values and the number below it is itself.
+// Where a listed number stands. It is the first behind the place of its values and the number below it; numbers that go one
+// after another mostly stand first.
+fn place_of_listed(listed: &[u32], numbers: &[Number], number: u32) -> usize
+    requires rising { is_rising (stands_before numbers.now) listed.now ≡ true }
+    requires some { 0 < number }
+    ensures { list_any (λ n. n == number) listed.now ≡ true → slice_get listed.now result ≡ Some number }
+{
+    match number_at(listed, 0) {
+        Some(first) if first == number => 0,
+        _ => place_of(listed, numbers, values_at(numbers, number), number - 1),
+    }
+}
+
+// Takes a number out of the list.
 pub(crate) fn drop_by_calc(listed: &mut Vec<u32>, numbers: &[Number], number: u32)
     requires rising { is_rising (stands_before numbers.now) listed.old.items ≡ true }
     requires some { 0 < number }
     ensures items { listed.new.items ≡ filter (λ n. not (n == number)) listed.old.items }
     ensures capacity { vec_capacity listed.new ≡ vec_capacity listed.old }
 {
-    let at = place_of(
-        listed.as_slice(),
-        numbers,
-        values_at(numbers, number),
-        number - 1,
-    );
+    let at = place_of_listed(listed.as_slice(), numbers, number);
     remove_number(listed, at, number);
 }
 
-// Gives a live number another entry, and puts it into the place of its new values.
+// Gives a live number another entry, and moves it to the place of its new values.
 pub(crate) fn list_again(
     listed: &mut Vec<u32>,
     numbers: &mut Vec<Number>,

@@ -21,7 +21,7 @@ pub use extent::{Extent, Number};
 pub use key::{DbKey, Owner, Value, key_below, owner_below, same_key, same_owner};
 pub use laws::{a_cell_stands_at_its_number, cells_have_numbers, each_cell_stands_once};
 pub use name::{CellName, name_below, same_name};
-pub use numbering::{cell_count, cell_number, is_cell};
+pub use numbering::{Layout, cell_count, cell_number, is_cell};
 pub use ring::{Occurrence, Ring};
 pub use slot::{Slot, Stored};
 pub use usage::{Mode, Usage};

@@ -1,4 +1,4 @@
-//! The nodes of an occurrence, each linked to the one before it and the one behind it, and what is read along the links.
+//! The nodes of an occurrence, each linked to the ones before and after it, and what is read along the links.
 //!
 //! A node is either linked, and then its member is in the list, or only reserved for its key. The owner is both ends of the list.
 ghost use Rattle.std.specs.Prelude.{◌≡◌, Option, Some, None, IfOk, IfSome, cond, option_map, map, filter, slice_get};
@@ -61,7 +61,7 @@ fn set_prior(nodes: &mut Slab<Node>, at: Option<usize>, prior: Option<usize>)
     }
 }
 
-// Links a node in between two ends, each a node or the owner.
+// Links a node between two ends, each a node or the owner.
 pub(crate) fn link_in(
     nodes: &mut Slab<Node>,
     at: usize,
@@ -84,7 +84,7 @@ pub(crate) fn link_in(
     set_prior(nodes, next, Some(at));
 }
 
-// Takes a node from between two ends.
+// Takes a node out from between two ends.
 pub(crate) fn link_out(nodes: &mut Slab<Node>, at: usize, prior: Option<usize>, next: Option<usize>)
     requires node { ContainsKey nodes.old at }
     requires prior { IfSome prior (ContainsKey nodes.old) }
@@ -96,7 +96,7 @@ pub(crate) fn link_out(nodes: &mut Slab<Node>, at: usize, prior: Option<usize>, 
     nodes[at].linked = false;
 }
 
-// The first of a record type, or of any, read from a node on in this direction.
+// The first of a record type, or of any, from a node on in this direction.
 pub(crate) fn first_along(
     nodes: &Slab<Node>,
     start: Option<usize>,
@@ -124,14 +124,14 @@ pub(crate) fn first_along(
     None
 }
 
-// 1 where the key is of the record type, and else 0.
+// 1 if the key is of the record type, otherwise 0.
 fn count_of(rtype: &Option<RecordNo>, key: DbKey) -> u32
     ensures { result ≡ cond (has_type rtype.now key) 1 0 }
 {
     if is_of_type(rtype, key) { 1 } else { 0 }
 }
 
-// The n-th of a record type, or of any, from 0, read from a node on in this direction.
+// The n-th of a record type, or of any, from 0, from a node on in this direction.
 pub(crate) fn nth_along(
     nodes: &Slab<Node>,
     start: Option<usize>,
@@ -196,7 +196,7 @@ pub(crate) fn has_sort_key(own: &Option<Value>, sort: &Value) -> bool
     own.as_ref().is_some_and(|own| same_value(sort, own))
 }
 
-// Whether one has this sort key, other than the one that is left out.
+// Whether a node has this sort key, other than the one that is left out.
 pub(crate) fn is_taken_along(
     nodes: &Slab<Node>,
     start: Option<usize>,
@@ -234,7 +234,7 @@ pub(crate) fn takes(
     is_other(left_out, member.0) && same_sort_key(&member.1, sort)
 }
 
-// The keys, read from a node on in this direction.
+// The keys, from a node on in this direction.
 pub(crate) fn keys_along(
     nodes: &Slab<Node>,
     start: Option<usize>,

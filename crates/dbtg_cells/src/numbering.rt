@@ -1,11 +1,11 @@
 //! The number of each cell: its place in the order of all cells. Nothing here takes memory.
-ghost use Rattle.std.specs.Prelude.{◌≡◌, ◌≤◌, ◌+◌, ◌*◌, ◌&&◌, true, length, nat_lt, nat_le};
+ghost use Rattle.std.specs.Prelude.{◌≡◌, ℕ, ◌≤◌, ◌<◌, ◌+◌, ◌*◌, ◌&&◌, true, length, get_or, nat_lt, nat_le};
 ghost use Rattle.dbtg_schema.specs.Structure.{set_numbers};
 ghost use Rattle.std.specs.List.{flat_map, range_with_len};
-ghost use Rattle.dbtg_cells.specs.CellNumbers.{cell_count, cell_number, is_cell, rings_of};
+ghost use Rattle.dbtg_cells.specs.CellNumbers.{IsLayoutOf, cell_count, cell_number, is_cell, place_in, rings_of};
 
 use crate::name::CellName;
-use dbtg_schema::{RecordNo, Schema, SetNo};
+use dbtg_schema::{MOST_SETS, RecordNo, Schema, SetNo};
 
 fn is_number(capacity: u16, number: u32) -> bool
     ensures { result ≡ nat_lt 0 number && nat_le number capacity }
@@ -44,7 +44,7 @@ fn ring_count(schema: &Schema, capacity: u16, set: SetNo) -> usize
     }
 }
 
-// How many rings the sets have that come before this one.
+// How many rings the sets before this one have.
 fn rings_before(schema: &Schema, capacity: u16, set: u8) -> usize
     ensures count { result ≡ length (flat_map (rings_of schema.now capacity) (range_with_len 0 set)) }
     ensures limit { result ≤ 65536 * set }
@@ -112,7 +112,7 @@ fn slot_number(schema: &Schema, capacity: u16, rtype: RecordNo, number: u32) -> 
     first_slot(schema, capacity) + earlier + (number as usize - 1)
 }
 
-/// The number of a cell, and none where the schema has no such cell.
+/// The number of a cell; none if the schema has no such cell.
 pub fn cell_number(schema: &Schema, capacity: u16, name: &CellName) -> Option<usize>
     ensures { result ≡ cell_number schema.now capacity name.now }
 {
@@ -127,5 +127,69 @@ pub fn cell_number(schema: &Schema, capacity: u16, name: &CellName) -> Option<us
             Some(ring_number(schema, capacity, *set, *rtype, *number))
         }
         CellName::Slot(rtype, number) => Some(slot_number(schema, capacity, *rtype, *number)),
+    }
+}
+
+/// Where each cell stands, worked out once: by it a number is found with no look at the schema.
+#[derive(Clone, Copy, Drop)]
+pub struct Layout {
+    areas: u8,
+    capacity: u16,
+    first_slot: u32,
+    first_rings: [u32; MOST_SETS],
+}
+
+// The numbers of the first rings of all sets.
+fn first_rings(schema: &Schema, capacity: u16) -> [u32; MOST_SETS]
+    ensures { (s : ℕ) → s < length schema.now.sets → get_or result s 0 ≡ length schema.now.areas + length schema.now.types + length (flat_map (rings_of schema.now capacity) (range_with_len 0 s)) }
+{
+    let mut firsts = [0; MOST_SETS];
+    for set in 0..schema.sets().len() {
+        let first = first_ring(schema) + rings_before(schema, capacity, set as u8);
+        firsts[set] = first as u32;
+    }
+    firsts
+}
+
+impl Layout {
+    /// The layout of the schema's cells at this capacity.
+    pub fn of(schema: &Schema, capacity: u16) -> Layout
+        ensures { IsLayoutOf schema.now capacity result }
+    {
+        Layout {
+            areas: schema.areas().len() as u8,
+            capacity,
+            first_slot: first_slot(schema, capacity) as u32,
+            first_rings: first_rings(schema, capacity),
+        }
+    }
+
+    // The number of a set's first ring.
+    fn first_ring(&self, set: SetNo) -> usize
+        ensures value { result ≡ get_or self.now.first_rings set 0 }
+        ensures limit { result < 4294967296 }
+    {
+        match self.first_rings.get(set.index() as usize) {
+            Some(first) => *first as usize,
+            None => 0,
+        }
+    }
+
+    /// The number of a cell. Of a name that no cell has it is any number.
+    pub fn number(&self, name: &CellName) -> usize
+        ensures { result ≡ place_in self.now name.now }
+    {
+        match name {
+            CellName::Usage(area) => area.index() as usize,
+            CellName::Extent(rtype) => self.areas as usize + rtype.index() as usize,
+            CellName::Ring(set, None) => self.first_ring(*set),
+            CellName::Ring(set, Some((_rtype, number))) => {
+                self.first_ring(*set) + number.saturating_sub(1) as usize
+            }
+            CellName::Slot(rtype, number) => {
+                let earlier = rtype.index() as usize * self.capacity as usize;
+                self.first_slot as usize + earlier + number.saturating_sub(1) as usize
+            }
+        }
     }
 }

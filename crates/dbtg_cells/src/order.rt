@@ -1,7 +1,7 @@
-//! The order of a ring's nodes, by their numbers. The n-th node is read off a list, and a node's place is found by halving it.
+//! The order of a ring's nodes, by their numbers. The n-th node is read from a list, and a node's place is found by halving it.
 //!
-//! Each node has a label, and labels rise from the first node to the last. A node that comes in gets a label between those
-//! beside it; where none is left, all get new ones.
+//! Each node has a label, and labels rise from the first node to the last. A node that is inserted gets a label between those
+//! beside it; if none is left, all nodes get new labels.
 ghost use Rattle.std.specs.Prelude.{◌≡◌, ◌-◌, ◌*◌, ◌<◌, ◌≤◌, ◌^◌, true, false, ◌==◌, Some, None, option_map, if◌then◌else◌, length, slice_get, slice_set, slice_index, [], IsOk, OnOk, OnErr, vec_capacity};
 ghost use Rattle.std.specs.List.{list_any, insert, remove};
 ghost use Rattle.std.specs.Option.{IfSome};
@@ -11,10 +11,10 @@ ghost use Rattle.dbtg_cells.specs.Inside.Ordered.{node_in_front, last_node, labe
 use std::alloc::{AllocError, Global};
 use std::marker::Model;
 
-// The label of a node that is alone.
+// The label of a node that is the only one.
 const MIDDLE: u64 = 1 << 63;
 
-// How far labels are apart where there is space.
+// How far labels are apart if there is space.
 const STEP: u64 = 1 << 32;
 
 // Nodes are listed by 32-bit numbers, so there are at most this many.
@@ -53,7 +53,7 @@ fn label_below(labels: &[u64], node: usize, other: usize) -> bool
     label_of(labels, node) < label_of(labels, other)
 }
 
-// Where a node of the list stands.
+// The place of a node in the list.
 fn place_among(nodes: &[u32], labels: &[u64], node: usize) -> usize
     requires rising { is_rising (label_below labels.now) nodes.now ≡ true }
     requires listed { list_any (λ n. n == node) nodes.now ≡ true }
@@ -77,7 +77,7 @@ fn label_at(nodes: &[u32], labels: &[u64], place: usize) -> Option<u64>
         .map(|node| label_of(labels, *node as usize))
 }
 
-// The label of the node in front of a place, if there is one.
+// The label of the node before a place, if there is one.
 fn label_in_front(nodes: &[u32], labels: &[u64], place: usize) -> Option<u64>
     ensures { result ≡ (if place == 0 then None else option_map (slice_index labels.now) (slice_get nodes.now (place - 1))) }
 {
@@ -99,7 +99,7 @@ fn label_inside(below: u64, above: u64) -> Option<u64>
     }
 }
 
-// A label above the one and below the other, where they are given.
+// A label above the one and below the other, if they are given.
 fn label_between(below: Option<u64>, above: Option<u64>) -> Option<u64>
     ensures low { IfSome result (λ label. IfSome below (λ b. b < label)) }
     ensures high { IfSome result (λ label. IfSome above (λ a. label < a)) }
@@ -112,7 +112,7 @@ fn label_between(below: Option<u64>, above: Option<u64>) -> Option<u64>
     }
 }
 
-// A label for a node that comes in at a place, if one is left.
+// A label for a node that is inserted at a place, if one is left.
 fn free_label(nodes: &[u32], labels: &[u64], place: usize) -> Option<u64>
     requires rising { is_rising (label_below labels.now) nodes.now ≡ true }
     requires place { place ≤ length nodes.now }
@@ -124,7 +124,7 @@ fn free_label(nodes: &[u32], labels: &[u64], place: usize) -> Option<u64>
     )
 }
 
-// Puts a node into the list.
+// Inserts a node into the list.
 fn insert_node(nodes: &mut Vec<u32>, place: usize, node: usize)
     requires room { length nodes.old.items < vec_capacity nodes.old }
     requires place { place ≤ length nodes.old.items }
@@ -201,7 +201,7 @@ impl Order {
         node_at(self.nodes.as_slice(), place)
     }
 
-    /// The node in front of a place.
+    /// The node before a place.
     pub(crate) fn in_front(&self, place: usize) -> Option<usize>
         ensures { result ≡ node_in_front self.now.nodes place }
     {
@@ -219,7 +219,7 @@ impl Order {
         self.in_front(self.len())
     }
 
-    /// Where a node stands.
+    /// The place of a node.
     pub(crate) fn place_of(&self, node: usize) -> usize
         requires { list_any (λ n. n == node) self.now.nodes ≡ true }
         ensures { slice_get self.now.nodes result ≡ Some node }
@@ -227,7 +227,7 @@ impl Order {
         place_among(self.nodes.as_slice(), self.labels.as_slice(), node)
     }
 
-    /// Makes room, so that this node can come in without memory.
+    /// Makes room, so that this node can be inserted without memory.
     pub(crate) fn reserve(&mut self, node: usize) -> Result<(), AllocError>
         ensures ok { OnOk result (node < self.new.room) }
         ensures nodes { self.new.nodes ≡ self.old.nodes }
@@ -256,7 +256,7 @@ impl Order {
         self.labels.resize(room, 0)
     }
 
-    /// Puts a node that is not listed in at a place.
+    /// Inserts a node that is not listed at a place.
     pub(crate) fn insert(&mut self, place: usize, node: usize)
         requires place { place ≤ length self.old.nodes }
         requires room { node < self.old.room }
@@ -276,7 +276,7 @@ impl Order {
         }
     }
 
-    /// Takes the node at a place out.
+    /// Removes the node at a place.
     pub(crate) fn remove(&mut self, place: usize)
         requires { place < length self.old.nodes }
         ensures nodes { self.new.nodes ≡ remove self.old.nodes place }
@@ -285,7 +285,7 @@ impl Order {
         let _ = self.nodes.remove(place);
     }
 
-    /// Takes all nodes out.
+    /// Removes all nodes.
     pub(crate) fn clear(&mut self)
         ensures nodes { self.new.nodes ≡ [] }
         ensures room { self.new.room ≡ self.old.room }

@@ -7,7 +7,7 @@ use crate::key::{Owner, Value};
 use dbtg_schema::{Row, SetNo};
 use std::marker::Model;
 
-/// A stored record: its generation, its version, its items, and for each set the owner in whose list it is.
+/// A stored record: its generation, its version, its items, and for each set the owner to whose list it belongs.
 #[derive(Drop)]
 pub struct Stored {
     pub generation: u8,
@@ -53,7 +53,7 @@ impl Slot {
         self.stored.as_ref()
     }
 
-    /// The owner in whose list of the set the record is.
+    /// The owner to whose list of the set the record belongs.
     pub fn owner(&self, set: SetNo) -> Option<Owner>
         ensures { result ≡ option_and_then (λ r. at r.owners set) self.now }
     {
@@ -89,7 +89,7 @@ impl Slot {
         }
     }
 
-    /// Notes in whose list of the set the record is. A vacant slot stays vacant, and so does a set without an entry.
+    /// Notes to whose list of the set the record belongs. A vacant slot does not change, nor does a set without an entry.
     pub fn set_owner(&mut self, set: SetNo, owner: Option<Owner>)
         ensures { self.new ≡ option_map (λ r. record { generation = r.generation; version = r.version; items = r.items; owners = slice_set r.owners set owner }) self.old }
     {

@@ -73,7 +73,7 @@ impl Model for Usage {
     ghost view = { λ u. record { users = u.users.items; room = vec_capacity u.users - vec_len u.users } };
 }
 
-// The users without one.
+// The users without this one.
 fn leave_users(users: &mut Vec<(u8, Mode)>, unit: u8)
     ensures { users.new.items ≡ left_by unit users.old.items }
 {
@@ -116,14 +116,14 @@ impl Usage {
         None
     }
 
-    /// Whether one more run-unit can enter without memory.
+    /// Whether another run-unit can enter without memory.
     pub fn has_room(&self) -> bool
         ensures { result ≡ nat_lt 0 self.now.room }
     {
         self.users.len() < self.users.capacity()
     }
 
-    /// Makes room for one more run-unit. Where there is room already it takes no memory.
+    /// Makes room for another run-unit. If there is room already it takes no memory.
     pub fn reserve_user(&mut self) -> Result<(), AllocError>
         ensures ok { OnOk result (0 < self.new.room) }
         ensures had_room { 0 < self.old.room → IsOk result × (self.new ≡ self.old) }
@@ -136,7 +136,7 @@ impl Usage {
         self.users.reserve(1)
     }
 
-    /// A run-unit opens the area: it goes last.
+    /// A run-unit opens the area: it is listed last.
     pub fn enter(&mut self, unit: u8, mode: Mode)
         requires { 0 < self.old.room }
         ensures { self.new.users ≡ self.old.users ++ (unit, mode) ∷ [] }
@@ -144,7 +144,7 @@ impl Usage {
         self.users.push_reserved((unit, mode));
     }
 
-    /// A run-unit closes the area: it is taken out, and the others keep their order.
+    /// A run-unit closes the area: it is removed, and the others keep their order.
     pub fn leave(&mut self, unit: u8)
         ensures { self.new.users ≡ left_by unit self.old.users }
     {

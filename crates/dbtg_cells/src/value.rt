@@ -104,7 +104,7 @@ pub fn sort_key_below(ascending: bool, a: &Option<Value>, b: &Option<Value>) -> 
     }
 }
 
-/// Whether a member with sort key `x` stands before a new one with sort key `new`.
+/// Whether a member with sort key `x` comes before a new one with sort key `new`.
 pub fn stands_before(
     ascending: bool,
     duplicates: Duplicates,

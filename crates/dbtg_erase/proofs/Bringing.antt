@@ -84,7 +84,7 @@ module _ (taken : DbKey → List DbKey) where
   stable zero i order h = refl
   stable (suc n) i order h = ap (λ d. brought taken n (suc i) (brought_from taken order d)) (none_past i order h) ∙ stable n (suc i) order (omega arith)
 
-  -- so many steps, and then so many more
+  -- some number of steps, followed by some more
   pub in_two : (m n t i j : ℕ) (order : List DbKey) → t ≡ m + n → j ≡ i + m → brought taken t i order ≡ brought taken n j (brought taken m i order)
   in_two zero n t i j order e f =
       let same : t ≡ n = omega arith in

@@ -141,7 +141,7 @@ module _ (schema : Lists) (hands hands' : Hands) (all : HasAllOf hands hands') w
   all_still : (gone : List DbKey) → first_missing hands (flat_map (cells_of_gone schema hands) gone) ≡ None → first_missing hands' (flat_map (cells_of_gone schema hands') gone) ≡ None
   all_still gone none = ap (first_missing hands') (all_same gone none) ∙ still (flat_map (cells_of_gone schema hands) gone) none
 
-  -- so many steps of the work list
+  -- this many steps of the work list
   steps_same : (option : Erase) (n : ℕ) (order gone : List DbKey) → brought (taken_in schema hands option) n 0 order ≡ gone → first_missing hands (flat_map (cells_of_gone schema hands) (take n gone)) ≡ None
       → brought (taken_in schema hands' option) n 0 order ≡ gone
   steps_same option n order gone e none =

@@ -38,8 +38,9 @@ use Rattle.dbtg_unit.specs.Hands.InHand.{owner_in, version_in, in_hand}
 use Rattle.dbtg_unit.specs.Database.State.Kept.{renoted_entry, noted_again}
 use Rattle.dbtg_unit.specs.Hands.Local.{Agrees, holds}
 use Rattle.dbtg_unit.specs.Hands.Prepared.{Plan, renoted_at}
-use Rattle.dbtg_erase.specs.Inside.ErasePlan.{erasing_plan, raised_versions}
+use Rattle.dbtg_erase.specs.Inside.ErasePlan.{erasing_plan, going_edits, raised_versions}
 use Rattle.dbtg_erase.specs.WorkList.{gone_in, list_in, members_in_hand, own_sets}
+use Rattle.dbtg_erase.proofs.EditLists.{four_append}
 use Rattle.dbtg_erase.proofs.Reading.{all_members_are, gone_agrees, unowned, unowned_in}
 
 -- THE FIRST CAUSE
@@ -369,10 +370,16 @@ module _ (schema : Lists) (capacity : ℕ) (db : Database) (hands : Hands) (unit
     edits_held = all_in (λ (e : CellEdit). holds hands.cells e.name) (delete_edits schema capacity db option k) edit_held
 
 -- a plan by its parts
-pub plan_from : (schema : Lists) (hands : Hands) (k : DbKey) (target gone : List DbKey) (edits : List CellEdit) (versions : List (DbKey × ℕ))
-    → gone ≡ target → edits ≡ erasing_edits schema (owner_in hands) (members_in_hand schema hands) gone → versions ≡ raised_versions schema hands gone
-    → record { answer = record { status = Done; key = None; items = None }; cells = edits; versions = versions; unit = LoseCurrent k } ≡ erasing_plan schema hands target k
-plan_from schema hands k target gone edits versions gone_are edits_are versions_are =
+pub plan_from : (schema : Lists) (hands : Hands) (k : DbKey) (target gone : List DbKey) (going losing : List CellEdit) (versions : List (DbKey × ℕ))
+    → gone ≡ target → going ≡ going_edits schema (owner_in hands) gone
+    → losing ≡ flat_map (losing_edits schema (owner_in hands) gone) (left_behind (members_in_hand schema hands) gone) → versions ≡ raised_versions schema hands gone
+    → record { answer = record { status = Done; key = None; items = None }; cells = going ++ losing; versions = versions; unit = LoseCurrent k } ≡ erasing_plan schema hands target k
+plan_from schema hands k target gone going losing versions gone_are going_are losing_are versions_are =
     let of_gone : Plan = erasing_plan schema hands gone k in
+    let left = left_behind (members_in_hand schema hands) gone in
+    let edits_are : going ++ losing ≡ erasing_edits schema (owner_in hands) (members_in_hand schema hands) gone
+    = (λ i. going_are i ++ losing_are i)
+    ∙ four_append (map leave_number gone) (flat_map (leaving_edits schema (owner_in hands) gone) gone) (flat_map (closing_edits schema) gone) (map (λ d. slot_edit d Vacate) gone)
+    (flat_map (losing_edits schema (owner_in hands) gone) left) in
     (λ i. record { answer = of_gone.answer; cells = edits_are i; versions = versions_are i; unit = LoseCurrent k })
     ∙ ap (λ g. erasing_plan schema hands g k) gone_are

@@ -6,6 +6,7 @@ mod Possible
 mod CanErase
 mod CanFinish
 mod KeyLists
+mod NoneLeft
 mod EditLists
 mod FirstNames
 mod LeastName

@@ -18,7 +18,7 @@ use Rattle.dbtg_unit.specs.Database.Statements.Checks.{refused_at_once}
 use Rattle.dbtg_unit.specs.Hands.Erasing.{delete_cells_of}
 use Rattle.dbtg_unit.specs.Hands.Hands.{Hands}
 use Rattle.dbtg_unit.specs.Hands.Local.{Agrees}
-use Rattle.dbtg_unit.specs.Hands.Needs.{areas_in_order, cells_of, is_stale, is_wrong_guess, need, need_of_cells, next_of, stale_owners}
+use Rattle.dbtg_unit.specs.Hands.Needs.{areas_in_order, cells_of, is_stale, is_wrong_guess, need, need_of_cells, next_of}
 use Rattle.dbtg_unit.proofs.Public.{holds_any}
 use Rattle.dbtg_erase.specs.Inside.NextCell.{need_of, next_cell_of}
 use Rattle.dbtg_erase.proofs.NextCell.{next_cell_is}
@@ -37,7 +37,7 @@ module _ (schema : Lists) (capacity : ℕ) (unit : Unit) (option : Erase) (hands
 
   pub area_wanted : (a : ℕ) → refused_at_once schema capacity unit (Delete option) ≡ None → wanted_area ≡ Some a → Area a ≡ need schema capacity db unit hands (Delete option)
   area_wanted a e h =
-      sym (ap (λ w. next_of w (find (λ c. not (list_any (λ e. name_eq c e.0) hands.cells)) (cells_of schema capacity db unit hands.guesses (Delete option))) (is_stale schema capacity db unit hands.guesses (Delete option)) (stale_owners schema capacity db unit hands.guesses (Delete option))) h)
+      sym (ap (λ w. next_of w (find (λ c. not (list_any (λ e. name_eq c e.0) hands.cells)) (cells_of schema capacity db unit hands.guesses (Delete option))) (is_stale schema capacity db unit hands.guesses (Delete option))) h)
       ∙ passes e
 
   fresh : (r : Option DbKey) → some_and (λ k. is_live db k && list_any (λ s. is_wrong_guess (owner_of schema capacity db s k) (at hands.guesses s)) []) r ≡ false
@@ -48,7 +48,7 @@ module _ (schema : Lists) (capacity : ℕ) (unit : Unit) (option : Erase) (hands
   cell_is agrees None = refl
   cell_is agrees (Some k) = (λ i. find (λ c. not (holds_any hands.cells c i)) (delete_cells_of schema capacity db unit option (Some k))) ∙ sym (next_cell_is schema capacity db hands unit agrees option k)
 
-  next_parts : (c : Option CellName) → next_of None c false (stale_owners schema capacity db unit hands.guesses (Delete option)) ≡ need_of c
+  next_parts : (c : Option CellName) → next_of None c false ≡ need_of c
   next_parts None = refl
   next_parts (Some c) = refl
 
@@ -56,5 +56,5 @@ module _ (schema : Lists) (capacity : ℕ) (unit : Unit) (option : Erase) (hands
       → need_of (next_cell_of schema capacity hands unit option unit.currency.run_unit) ≡ need schema capacity db unit hands (Delete option)
   cell_wanted agrees e h =
       sym (next_parts (next_cell_of schema capacity hands unit option unit.currency.run_unit))
-      ∙ (λ i. next_of (sym h i) (sym (cell_is agrees unit.currency.run_unit) i) (sym (fresh unit.currency.run_unit) i) (stale_owners schema capacity db unit hands.guesses (Delete option)))
+      ∙ (λ i. next_of (sym h i) (sym (cell_is agrees unit.currency.run_unit) i) (sym (fresh unit.currency.run_unit) i))
       ∙ passes e

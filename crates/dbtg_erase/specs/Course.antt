@@ -15,11 +15,11 @@ use Rattle.dbtg_erase.specs.declared.names.Names.{Names}
 use Rattle.dbtg_erase.specs.NextCell.{first_missing, least_name, outer_names}
 use Rattle.dbtg_erase.specs.WorkList.{cells_of_gone, gone_in, members_in_hand, most_gone, taken_in}
 
--- the names that are passed are in hand
+-- the names that are passed are held
 abbrev pub ArePassed : Hands → Names → Type 0
 ArePassed hands names = first_missing hands (take names.passed names.names.items) ≡ None
 
--- the slots of d's members, where its own slot and its rings are in hand
+-- the slots of d's members, if its own slot and its rings are held
 pub record AreOfMembers (schema : Lists) (hands : Hands) (d : DbKey) (names : Names) : Type 0 where
   pub own : first_missing hands (slot_name d ∷ own_rings schema d) ≡ None
   pub members : names.names.items ≡ map slot_name (members_in_hand schema hands d)
@@ -35,7 +35,7 @@ abbrev pub MembersKept : Lists → Hands → Option DbKey → Option Names → T
 MembersKept schema hands d None = ⊤
 MembersKept schema hands d (Some names) = (k : DbKey) → d ≡ Some k → AreOfMembers schema hands k names
 
--- the names that are kept of the cells around; all records that go are met, and their cells in hand
+-- the names that are kept of the cells around; all records that go are met, and their cells are held
 abbrev pub AroundKept : Lists → ℕ → Hands → Erase → DbKey → List DbKey → Option Names → Type 0
 AroundKept schema capacity hands option k gone None = ⊤
 AroundKept schema capacity hands option k gone (Some names) =
@@ -45,7 +45,7 @@ AroundKept schema capacity hands option k gone (Some names) =
 
 -- what is kept while a DELETE of k goes on
 pub record IsCourse (schema : Lists) (capacity : ℕ) (hands : Hands) (option : Erase) (k : DbKey) (course : Course) : Type 0 where
-  -- the first `done` records have all their cells in hand, and have brought those that go with them
+  -- the first `done` records hold all their cells, and those that go with them are added
   pub few : course.done ≤ most_gone schema capacity
   pub within : course.done ≤ length course.gone
   pub gone : course.gone ≡ brought (taken_in schema hands option) course.done 0 (k ∷ [])
@@ -58,7 +58,7 @@ abbrev pub IsKeptFor : Lists → ℕ → Hands → Erase → DbKey → Option Co
 IsKeptFor schema capacity hands option k None = ⊤
 IsKeptFor schema capacity hands option k (Some course) = IsCourse schema capacity hands option k course
 
--- of a DELETE of the current of run-unit. Callers know no more of it than the public lemmas say: nothing kept is right, and what is
--- kept stays right while more comes to hand
+-- for a DELETE of the current of run-unit. Callers know no more of it than the public lemmas say: nothing kept is right, and what is
+-- kept stays right while more cells are taken
 unfoldable pub IsKept : Lists → ℕ → Hands → Unit → Erase → Option Course → Type 0
 IsKept schema capacity hands unit option course = (k : DbKey) → unit.currency.run_unit ≡ Some k → IsKeptFor schema capacity hands option k course

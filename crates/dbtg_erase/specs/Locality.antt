@@ -1,4 +1,4 @@
--- What a DELETE has in hand determines what it does.
+-- What a DELETE holds determines what it does.
 use Rattle.std.specs.Prelude.{◌≡◌, ℕ}
 use Rattle.dbtg_schema.specs.Lists.{Lists}
 use Rattle.dbtg_schema.specs.Sound.{IsSound}
@@ -14,7 +14,7 @@ use Rattle.dbtg_unit.specs.Hands.Local.{Agrees}
 use Rattle.dbtg_unit.specs.Hands.Locality.{DoTheSame}
 use Rattle.dbtg_unit.specs.Hands.Needs.{need}
 
--- what a DELETE has in hand, once it is ready, determines its answer, its unit and the cells in hand
+-- what a DELETE holds, once it is ready, determines its answer, its unit and the held cells
 abbrev pub DeleteIsDetermined : Type 0
 DeleteIsDetermined =
     (schema : Lists) (capacity : ℕ) (db eb : Database) (hands : Hands) (unit : Unit) (option : Erase)

@@ -1,4 +1,4 @@
--- The next cell of a DELETE, read off the cells in hand.
+-- The next cell of a DELETE, read from the held cells.
 -- k and d are keys, s a set, b and c names of cells.
 use Rattle.std.specs.Prelude.{Bool, not, List, [], ◌∷◌, Option, Some, None, if◌then◌else◌}
 use Rattle.std.specs.List.{find, flat_map}
@@ -13,15 +13,15 @@ use Rattle.dbtg_unit.specs.Hands.InHand.{owner_in}
 use Rattle.dbtg_unit.specs.Hands.Local.{holds}
 use Rattle.dbtg_unit.specs.Hands.Needs.{ring_names}
 
--- the cell of this name is not in hand
+-- the cell with this name is not held
 abbrev pub is_missing : Hands → CellName → Bool
 is_missing hands c = not (holds hands.cells c)
 
--- the first of some cells that is not in hand
+-- the first of some cells that is not held
 abbrev pub first_missing : Hands → List CellName → Option CellName
 first_missing hands = find (is_missing hands)
 
--- the extent of d, and by set the ring of its owner in hand
+-- the extent of d, and by set the ring of its owner, read from the held cells
 abbrev pub outer_names : Lists → Hands → DbKey → List CellName
 outer_names schema hands d = Extent d.rtype ∷ flat_map (λ s. ring_names s (owner_in hands s d)) (set_numbers schema)
 

@@ -1,4 +1,4 @@
--- What a DELETE takes, read off the cells in hand.
+-- What a DELETE takes, read from the held cells.
 -- d and m are keys, s a set, o an owner.
 use Rattle.std.specs.Prelude.{ℕ, ◌*◌, Bool, not, ◌&&◌, ◌==◌, List, [], ◌∷◌, ◌++◌, filter, length, map}
 use Rattle.std.specs.List.{flat_map, list_any}
@@ -22,15 +22,15 @@ use Rattle.dbtg_unit.specs.Hands.InHand.{occurrence_in, owner_in}
 abbrev pub own_sets : Lists → DbKey → List ℕ
 own_sets schema d = filter (λ s. owns schema s d.rtype) (set_numbers schema)
 
--- the members of d's list of set s in hand
+-- the members of d's list of set s, read from the held cells
 abbrev pub list_in : Hands → DbKey → ℕ → List DbKey
 list_in hands d s = keys_in (occurrence_in hands s (Rec d))
 
--- the members of all lists of d in hand, set by set
+-- the members of all lists of d that are held, set by set
 abbrev pub members_in_hand : Lists → Hands → DbKey → List DbKey
 members_in_hand schema hands d = flat_map (list_in hands d) (own_sets schema d)
 
--- m is a member of a list other than o's list of s, by its slot in hand
+-- m is a member of a list other than o's list of s, by its held slot
 abbrev pub elsewhere_in : Lists → Hands → ℕ → Owner → DbKey → Bool
 elsewhere_in schema hands s o m = list_any (λ s'. some_and (λ o'. not (s' == s && owner_eq o' o)) (owner_in hands s' m)) (set_numbers schema)
 
@@ -50,6 +50,6 @@ most_gone schema capacity = length schema.types * capacity
 abbrev pub gone_in : Lists → ℕ → Hands → Erase → DbKey → List DbKey
 gone_in schema capacity hands option k = brought (taken_in schema hands option) (most_gone schema capacity) 0 (k ∷ [])
 
--- the slot of a record that goes, its own rings by set, the slots of its members in hand
+-- the slot of a record that goes, its own rings by set, the slots of its members, read from the held cells
 abbrev pub cells_of_gone : Lists → Hands → DbKey → List CellName
 cells_of_gone schema hands d = slot_name d ∷ own_rings schema d ++ map slot_name (members_in_hand schema hands d)

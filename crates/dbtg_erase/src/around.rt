@@ -16,7 +16,7 @@ use dbtg_unit::{Held, owner_of, ring_name, set_count};
 use std::alloc::{AllocError, Global};
 use std::cmp::Ordering;
 
-// Adds the ring of an owner, where there is one.
+// Adds the ring of an owner, if there is one.
 fn push_ring(set: SetNo, owner: Option<Owner>, names: &mut Vec<CellName>) -> Result<(), AllocError>
     ensures { OnOk result (names.new.items ≡ names.old.items ++ ring_names set owner) }
 {
@@ -74,7 +74,7 @@ fn outer_of_all(
     Ok(names)
 }
 
-// How two names stand to each other in the order of cells.
+// How two names compare in the order of cells.
 fn order_of(name: &CellName, other: &CellName) -> Ordering
     ensures { is_lt result ≡ name_below name.now other.now }
 {

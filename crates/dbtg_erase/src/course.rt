@@ -1,4 +1,4 @@
-//! How far a DELETE has come with its cells, as it is kept from one need to the next, so that none is looked at anew.
+//! How far a DELETE has come with its cells, as it is kept from one need to the next, so that no cell is looked at again.
 ghost use Rattle.std.specs.Prelude.{◌≡◌, ℕ, ◌∷◌, ◌+◌, ◌<◌, None, Some, length, map, IfOk, OnOk};
 ghost use Rattle.std.specs.List.{flat_map};
 ghost use Rattle.dbtg_schema.specs.Lists.{Lists};
@@ -22,8 +22,8 @@ use dbtg_schema::Schema;
 use dbtg_unit::{Erase, Held, type_count};
 use std::alloc::{AllocError, Global};
 
-/// How far a DELETE has come: the records that go, as far as they are met; how many of them have all their cells in hand and have
-/// brought those that go with them; the cells of the members of the next one; and once all are met, the cells around them.
+/// How far a DELETE has come: the records that go, as far as they are known; for how many of them all cells are held and those that
+/// go with them are added; the cells of the members of the next one; and, once all are known, the cells around them.
 #[derive(Drop)]
 pub struct Course {
     pub(crate) gone: Keys,
@@ -44,7 +44,7 @@ fn slots_of(alloc: Global, keys: &[DbKey]) -> Result<Vec<CellName>, AllocError>
     Ok(names)
 }
 
-// The slots of a record's members, whose own cells are in hand; none is passed yet.
+// The slots of a record's members, once its own cells are held; none is passed yet.
 fn slots_of_members(
     alloc: Global,
     schema: &Schema,
@@ -59,7 +59,7 @@ fn slots_of_members(
     Ok(Names::new(slots_of(alloc, members.as_slice())?))
 }
 
-// Of a record's own slot and rings, the first that is not in hand.
+// The first of a record's own slot and rings that is not held.
 fn first_own(schema: &Schema, held: &Held, key: &DbKey) -> Option<CellName>
     ensures { result ≡ first_missing held.now (slot_name key.now ∷ own_rings schema.now key.now) }
 {
@@ -69,7 +69,7 @@ fn first_own(schema: &Schema, held: &Held, key: &DbKey) -> Option<CellName>
     }
 }
 
-// Of the cells of the next record, the first that is not in hand.
+// The first of the cells of the next record that is not held.
 #[tactic(auto, using(crate::proofs::CourseSteps::own_first, crate::proofs::CourseSteps::members_first))]
 fn next_of_record(
     alloc: Global,
@@ -95,7 +95,7 @@ fn next_of_record(
 }
 
 impl Course {
-    /// The course of a DELETE of this record, before its first cell beside the record's own slot.
+    /// The progress of a DELETE of this record, before its first cell beside the record's own slot.
     pub(crate) fn begin(alloc: Global, key: &DbKey) -> Result<Self, AllocError>
         ensures { IfOk result (λ course. (schema : Lists) (capacity : ℕ) (hands : Hands) (option : Erase) → IsCourse schema capacity hands option key.now course) }
     {
@@ -109,7 +109,7 @@ impl Course {
         })
     }
 
-    // The next record has all its cells in hand: it brings those that go with it.
+    // All cells of the next record are held: adds the records that go with it.
     fn pass(
         &mut self,
         alloc: Global,
@@ -131,7 +131,7 @@ impl Course {
         Ok(())
     }
 
-    // Of the cells of the records that go, one record after another, the first that is not in hand.
+    // The first of the cells of the records that go, one record after another, that is not held.
     fn next_of_records(
         &mut self,
         alloc: Global,
@@ -163,7 +163,7 @@ impl Course {
         first_of_all(alloc, schema, held, &self.gone.as_slice()[self.done..])
     }
 
-    /// The next cell of the DELETE that is not in hand: of the records that go, one after another, and then around them.
+    /// The next cell of the DELETE that is not held: of the records that go, one after another, and then around them.
     pub(crate) fn next(
         &mut self,
         alloc: Global,

@@ -1,18 +1,20 @@
-//! The edits by which a DELETE changes the cells in hand.
+//! The edits by which a DELETE changes the cells that it holds.
 ghost use Rattle.std.specs.Prelude.{◌≡◌, [], ◌∷◌, ◌++◌, filter, map, IfOk, OnOk};
 ghost use Rattle.std.specs.List.{flat_map};
 ghost use Rattle.dbtg_schema.specs.Lookups.{some_and};
-ghost use Rattle.dbtg_unit.specs.declared.edit.Edit.TheVariants.{ChangeOwner, Vacate};
-ghost use Rattle.dbtg_unit.specs.Hands.EditsOf.{closing_edits, erasing_edits, leave_number, leaving_edits, left_behind, losing_edits, lost_sets, slot_edit, staying_owner};
+ghost use Rattle.dbtg_unit.specs.declared.edit.Edit.TheVariants.{ChangeOwner};
+ghost use Rattle.dbtg_unit.specs.Hands.EditsOf.{edits_of_erased, leaving_edits, losing_edits, lost_sets, slot_edit, staying_owner};
+ghost use Rattle.dbtg_unit.specs.Hands.Erasing.{own_rings};
 ghost use Rattle.dbtg_unit.specs.Database.Statements.Effect.{is_gone};
 ghost use Rattle.dbtg_unit.specs.Hands.InHand.{owner_in};
-ghost use Rattle.dbtg_erase.specs.Inside.ErasePlan.{close_ring, lose_owner};
-ghost use Rattle.dbtg_erase.specs.WorkList.{members_in_hand};
+ghost use Rattle.dbtg_erase.specs.Inside.ErasePlan.{going_edits, lose_owner};
 
 use crate::keys::Keys;
 use dbtg_cells::{CellName, DbKey, Owner};
 use dbtg_schema::{Row, Schema, SetNo};
-use dbtg_unit::{CellEdit, Edit, Held, entry_at, owner_of, owners_of, push_taking_out, set_count};
+use dbtg_unit::{
+    CellEdit, Edit, Erased, Held, entry_at, owner_of, owners_of, push_taking_out, set_count,
+};
 use std::alloc::{AllocError, Global};
 
 // Adds an edit of the slot of a key.
@@ -33,7 +35,7 @@ fn is_gone(gone: &Keys, owner: &Owner) -> bool
     }
 }
 
-// An owner, where it does not go.
+// An owner, if it does not go.
 fn staying(gone: &Keys, owner: Option<Owner>) -> Option<Owner>
     ensures { result ≡ staying_owner gone.now owner }
 {
@@ -57,20 +59,6 @@ fn is_lost(gone: &Keys, owner: Option<Owner>) -> bool
         Some(owner) => is_gone(gone, &owner),
         None => false,
     }
-}
-
-#[tactic(auto, using(crate::proofs::EditLists::edits_append))]
-fn leave_numbers(gone: &[DbKey], edits: &mut Row<CellEdit>) -> Result<(), AllocError>
-    ensures { OnOk result (edits.new ≡ edits.old ++ map leave_number gone.now) }
-{
-    for key in gone {
-        let edit = CellEdit {
-            name: CellName::Extent(key.rtype),
-            edit: Edit::LeaveNumber { number: key.number },
-        };
-        edits.push(edit)?;
-    }
-    Ok(())
 }
 
 // Takes a record out of the lists of the owners that stay.
@@ -106,54 +94,30 @@ fn leave_all_lists(
     Ok(())
 }
 
-// Closes the occurrence that a record owns in a set.
-fn close_list(key: &DbKey, set: SetNo, edits: &mut Row<CellEdit>) -> Result<(), AllocError>
-    ensures { OnOk result (edits.new ≡ edits.old ++ close_ring key.now set ∷ []) }
-{
-    let edit = CellEdit {
-        name: CellName::Ring(set, Some((key.rtype, key.number))),
-        edit: Edit::CloseRing,
-    };
-    edits.push(edit)?;
-    Ok(())
-}
-
-// Closes the occurrences that a record owns.
-#[tactic(auto, using(crate::proofs::EditLists::edits_append))]
-fn close_lists(schema: &Schema, key: &DbKey, edits: &mut Row<CellEdit>) -> Result<(), AllocError>
-    ensures { OnOk result (edits.new ≡ edits.old ++ closing_edits schema.now key.now) }
+// The rings that a record owns.
+#[tactic(auto, using(crate::proofs::EditLists::names_append))]
+fn push_rings(schema: &Schema, key: &DbKey, rings: &mut Row<CellName>) -> Result<(), AllocError>
+    ensures { OnOk result (rings.new ≡ rings.old ++ own_rings schema.now key.now) }
 {
     for set in schema.owned_sets(key.rtype) {
-        close_list(key, *set, edits)?;
+        rings.push(CellName::Ring(*set, Some((key.rtype, key.number))))?;
     }
     Ok(())
 }
 
-#[tactic(auto, using(crate::proofs::EditLists::edits_append))]
-fn close_all_lists(
-    schema: &Schema,
-    gone: &[DbKey],
-    edits: &mut Row<CellEdit>,
-) -> Result<(), AllocError>
-    ensures { OnOk result (edits.new ≡ edits.old ++ flat_map (closing_edits schema.now) gone.now) }
+// Those of all that go.
+#[tactic(auto, using(crate::proofs::EditLists::names_append))]
+fn rings_of_all(alloc: Global, schema: &Schema, gone: &[DbKey]) -> Result<Row<CellName>, AllocError>
+    ensures { IfOk result (λ rings. rings ≡ flat_map (own_rings schema.now) gone.now) }
 {
+    let mut rings = Row::of(Vec::new(alloc));
     for key in gone {
-        close_lists(schema, key, edits)?;
+        push_rings(schema, key, &mut rings)?;
     }
-    Ok(())
+    Ok(rings)
 }
 
-#[tactic(auto, using(crate::proofs::EditLists::edits_append))]
-fn vacate_slots(gone: &[DbKey], edits: &mut Row<CellEdit>) -> Result<(), AllocError>
-    ensures { OnOk result (edits.new ≡ edits.old ++ map (λ d. slot_edit d Vacate) gone.now) }
-{
-    for key in gone {
-        push_slot_edit(key, Edit::Vacate, edits)?;
-    }
-    Ok(())
-}
-
-// A member that stays has no owner in a set where its own goes.
+// A member that stays gets no owner in a set if its owner there goes.
 fn lose_owner(
     held: &Held,
     gone: &Keys,
@@ -169,7 +133,7 @@ fn lose_owner(
     Ok(())
 }
 
-// It has none in each set where its own goes.
+// It gets no owner in each set in which its owner goes.
 fn lose_owners(
     schema: &Schema,
     held: &Held,
@@ -217,23 +181,37 @@ fn lose_all(
     Ok(())
 }
 
-/// The edits of the records that go, and of the members that stay, by the cells in hand.
-#[tactic(auto, using(crate::proofs::EditLists::edits_append))]
-pub(crate) fn erasing_edits(
+/// What is taken out with the records that go.
+pub(crate) fn erased(
+    alloc: Global,
+    schema: &Schema,
+    held: &Held,
+    gone: &Keys,
+) -> Result<Erased, AllocError>
+    ensures { IfOk result (λ erased. edits_of_erased erased ≡ going_edits schema.now (owner_in held.now) gone.now) }
+{
+    let mut places = Row::of(Vec::new(alloc));
+    leave_all_lists(schema, held, gone, &mut places)?;
+    let rings = rings_of_all(alloc, schema, gone.as_slice())?;
+    let gone = gone.copy(alloc)?;
+    Ok(Erased {
+        gone,
+        places,
+        rings,
+    })
+}
+
+/// The edits of the members that stay.
+pub(crate) fn losing_edits(
     alloc: Global,
     schema: &Schema,
     held: &Held,
     gone: &Keys,
     left: &Keys,
 ) -> Result<Row<CellEdit>, AllocError>
-    requires { left.now ≡ left_behind (members_in_hand schema.now held.now) gone.now }
-    ensures { IfOk result (λ edits. edits ≡ erasing_edits schema.now (owner_in held.now) (members_in_hand schema.now held.now) gone.now) }
+    ensures { IfOk result (λ edits. edits ≡ flat_map (losing_edits schema.now (owner_in held.now) gone.now) left.now) }
 {
-    let mut edits = Row::of(Vec::with_capacity(alloc, gone.as_slice().len())?);
-    leave_numbers(gone.as_slice(), &mut edits)?;
-    leave_all_lists(schema, held, gone, &mut edits)?;
-    close_all_lists(schema, gone.as_slice(), &mut edits)?;
-    vacate_slots(gone.as_slice(), &mut edits)?;
+    let mut edits = Row::of(Vec::new(alloc));
     lose_all(schema, held, gone, left.as_slice(), &mut edits)?;
     Ok(edits)
 }

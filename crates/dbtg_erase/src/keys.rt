@@ -4,6 +4,7 @@ ghost use Rattle.dbtg_cells.specs.Keys.{is_member};
 ghost use Rattle.dbtg_unit.specs.Hands.Erasing.{with_those};
 
 use dbtg_cells::DbKey;
+use dbtg_schema::Row;
 use indexmap::IndexSet;
 use std::alloc::{AllocError, Global};
 use std::marker::Model;
@@ -32,7 +33,7 @@ impl Keys {
         }
     }
 
-    /// Adds a key behind the others, if it is not there yet.
+    /// Appends a key, if it is not there yet.
     pub fn push(&mut self, key: DbKey) -> Result<(), AllocError>
         ensures { OnOk result (self.new ≡ with_those self.old (key ∷ [])) }
     {
@@ -54,6 +55,15 @@ impl Keys {
         ensures { result ≡ is_member key self.now }
     {
         self.keys.contains(&key)
+    }
+
+    /// The keys in a list of their own.
+    pub fn copy(&self, alloc: Global) -> Result<Row<DbKey>, AllocError>
+        ensures { IfOk result (λ keys. keys ≡ self.now) }
+    {
+        let mut keys = Vec::new(alloc);
+        keys.extend_from_slice(self.keys.as_slice())?;
+        Ok(Row::of(keys))
     }
 
     pub fn as_slice(&self) -> &[DbKey]

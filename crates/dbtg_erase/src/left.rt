@@ -1,19 +1,20 @@
 //! The members of what goes that stay.
-ghost use Rattle.std.specs.Prelude.{◌≡◌, ◌++◌, filter, not, IfOk, OnOk};
+ghost use Rattle.std.specs.Prelude.{◌≡◌, ◌++◌, filter, not, IfOk, IsTrue, OnOk};
 ghost use Rattle.std.specs.List.{flat_map};
+ghost use Rattle.dbtg_cells.specs.declared.key.DbKey.{DbKey};
 ghost use Rattle.dbtg_cells.specs.Keys.{is_member};
 ghost use Rattle.dbtg_unit.specs.Hands.EditsOf.{left_behind};
 ghost use Rattle.dbtg_unit.specs.Hands.Erasing.{with_those};
-ghost use Rattle.dbtg_erase.specs.WorkList.{list_in, members_in_hand};
+ghost use Rattle.dbtg_erase.specs.WorkList.{gone_in, list_in, members_in_hand};
 
 use crate::keys::Keys;
-use crate::work_list::list;
+use crate::work_list::{list, most_gone};
 use dbtg_cells::DbKey;
 use dbtg_schema::{Schema, SetNo};
-use dbtg_unit::Held;
+use dbtg_unit::{Erase, Held};
 use std::alloc::{AllocError, Global};
 
-// Of a list, those that do not go.
+// The keys of a list that do not go.
 fn leave_list(members: &[DbKey], gone: &Keys, left: &mut Keys) -> Result<(), AllocError>
     ensures { OnOk result (left.new ≡ with_those left.old (filter (λ x. not (is_member x gone.now)) members.now)) }
 {
@@ -72,17 +73,37 @@ fn members_of_all(
     Ok(members)
 }
 
-/// The members of the lists of the records that go, each once, that stay.
-pub(crate) fn left(
-    alloc: Global,
-    schema: &Schema,
-    held: &Held,
-    gone: &Keys,
-) -> Result<Keys, AllocError>
+// The members of the lists of the records that go, each once, that stay.
+fn left_of_all(alloc: Global, schema: &Schema, held: &Held, gone: &Keys) -> Result<Keys, AllocError>
     ensures { IfOk result (λ left. left ≡ left_behind (members_in_hand schema.now held.now) gone.now) }
 {
     let members = members_of_all(alloc, schema, held, gone.as_slice())?;
     let mut left = Keys::new(alloc);
     leave_list(members.as_slice(), gone, &mut left)?;
     Ok(left)
+}
+
+// Does each member go with its owner?
+fn takes_all(option: Erase) -> bool
+    ensures { IsTrue result → option ≡ Erase.All }
+{
+    matches!(option, Erase::All)
+}
+
+/// The members of the lists of the records that go, each once, that stay. Where each member goes with its owner none is asked for.
+pub(crate) fn left(
+    alloc: Global,
+    schema: &Schema,
+    capacity: u16,
+    held: &Held,
+    option: Erase,
+    gone: &Keys,
+) -> Result<Keys, AllocError>
+    requires { (k : DbKey) × gone.now ≡ gone_in schema.now capacity held.now option k }
+    ensures { IfOk result (λ left. left ≡ left_behind (members_in_hand schema.now held.now) gone.now) }
+{
+    if takes_all(option) && gone.as_slice().len() <= most_gone(schema, capacity) as usize {
+        return Ok(Keys::new(alloc));
+    }
+    left_of_all(alloc, schema, held, gone)
 }

@@ -1,4 +1,4 @@
-//! Names of cells in turn, and how many of them are in hand.
+//! Names of cells in turn, and how many of them are held.
 ghost use Rattle.std.specs.Prelude.{◌≡◌, ◌∷◌, ◌++◌, [], None, slice_get, take, OnOk};
 ghost use Rattle.dbtg_unit.specs.Hands.Local.{holds};
 ghost use Rattle.dbtg_erase.specs.Course.{ArePassed};
@@ -8,7 +8,7 @@ use dbtg_cells::CellName;
 use dbtg_unit::Held;
 use std::alloc::AllocError;
 
-/// Names in turn, of which the first `passed` are in hand.
+/// Names in turn, of which the first `passed` are held.
 #[derive(Drop)]
 pub(crate) struct Names {
     pub(crate) names: Vec<CellName>,
@@ -24,7 +24,7 @@ pub(crate) fn is_held(held: &Held, name: &CellName) -> bool
     }
 }
 
-/// The cell of this name, if it is not in hand.
+/// The cell with this name, if it is not held.
 pub(crate) fn missing(held: &Held, name: CellName) -> Option<CellName>
     ensures { result ≡ first_missing held.now (name ∷ []) }
 {
@@ -35,7 +35,7 @@ pub(crate) fn missing(held: &Held, name: CellName) -> Option<CellName>
     }
 }
 
-/// Adds a name behind the others.
+/// Appends a name.
 pub(crate) fn add<T: Copy>(names: &mut Vec<T>, name: &T) -> Result<(), AllocError>
     ensures { OnOk result (names.new.items ≡ names.old.items ++ name.now ∷ []) }
 {
@@ -43,7 +43,7 @@ pub(crate) fn add<T: Copy>(names: &mut Vec<T>, name: &T) -> Result<(), AllocErro
     Ok(())
 }
 
-// The place of the first that is not in hand, where those before `passed` are.
+// The place of the first that is not held, if those before `passed` are.
 fn place_of_missing(held: &Held, names: &[CellName], passed: usize) -> usize
     requires { first_missing held.now (take passed names.now) ≡ None }
     ensures passed { first_missing held.now (take result names.now) ≡ None }
@@ -66,7 +66,7 @@ impl Names {
         Self { names, passed: 0 }
     }
 
-    /// The first that is not in hand; those before it are passed.
+    /// The first that is not held; those before it are passed.
     pub fn next(&mut self, held: &Held) -> Option<CellName>
         requires { ArePassed held.now self.old }
         ensures next { result ≡ first_missing held.now self.old.names.items }

@@ -28,7 +28,7 @@ use dbtg_unit::{
 };
 use std::alloc::{AllocError, Global};
 
-// Does the plain form stop at this set: is its ring not in hand, or has it a member?
+// Does the plain form stop at this set: is its ring not held, or does it have a member?
 fn stops_at(schema: &Schema, held: &Held, key: &DbKey, set: SetNo) -> bool
     ensures { result ≡ stops_at schema.now held.now key.now set }
 {
@@ -63,7 +63,7 @@ fn stop(schema: &Schema, held: &Held, option: Erase, key: &DbKey) -> Option<SetN
     }
 }
 
-// The course that is kept, taken out, or a new one where none is.
+// The progress that is kept, taken out, or a new one if none is.
 fn course_of(alloc: Global, key: &DbKey, course: &mut Option<Course>) -> Result<Course, AllocError>
     ensures course { IfOk result (λ going. (schema : Lists) (capacity : ℕ) (hands : Hands) (option : Erase) → IsKeptFor schema capacity hands option key.now course.old → IsCourse schema capacity hands option key.now going) }
     ensures out { course.new ≡ None }
@@ -74,7 +74,7 @@ fn course_of(alloc: Global, key: &DbKey, course: &mut Option<Course>) -> Result<
     }
 }
 
-// The next cell on the course that is kept, which begins here where there is none. Where memory is refused it is lost.
+// The next cell on the progress that is kept, which begins here if there is none. If memory is refused it is lost.
 fn next_on_course(
     alloc: Global,
     schema: &Schema,
@@ -167,10 +167,10 @@ fn need_of(name: Option<CellName>) -> Need
     }
 }
 
-/// What a DELETE needs next, on every database of which these cells may be in hand: its areas, ascending; then its cells in
-/// the order of taking, each record that goes in turn, first in, first out, and each in an area in hand. `course` keeps
-/// how far it has come, from `None` before the first need: it has to be of this DELETE, with all that was in hand before still in
-/// hand. Memory is refused only once it has its areas, and the course is then lost, and found anew at the next need.
+/// What a DELETE needs next, on every database to which these cells may belong: its areas, ascending; then its cells in
+/// the order of taking, each record that goes in turn, first in, first out, and each in an area that is held. `course` keeps
+/// how far it has come, from `None` before the first need: it has to belong to this DELETE, with all that was held before still
+/// held. Memory is refused only once it has its areas; the progress is then lost, and computed again at the next need.
 pub fn next_need(
     alloc: Global,
     schema: &Schema,
@@ -200,7 +200,7 @@ pub fn next_need(
     }
 }
 
-/// The same of a DELETE that no check without cells refuses and that has all its areas in hand.
+/// The same for a DELETE that no check without cells refuses and that holds all its areas.
 pub fn need_with_areas(
     alloc: Global,
     schema: &Schema,

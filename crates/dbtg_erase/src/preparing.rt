@@ -1,9 +1,11 @@
 //! What a DELETE that needs nothing more prepares.
 ghost use Rattle.std.specs.Prelude.{◌≡◌, ◌+◌, length, map, nat_lt, IfOk};
+ghost use Rattle.std.specs.List.{flat_map};
 ghost use Rattle.dbtg_schema.specs.Lookups.{first_cause};
+ghost use Rattle.dbtg_cells.specs.declared.key.DbKey.{DbKey};
 ghost use Rattle.dbtg_unit.specs.Database.Statements.Checks.{delete_checks};
 ghost use Rattle.dbtg_unit.specs.Database.Statements.Conditions.{has_members};
-ghost use Rattle.dbtg_unit.specs.Hands.EditsOf.{erasing_edits};
+ghost use Rattle.dbtg_unit.specs.Hands.EditsOf.{left_behind, losing_edits};
 ghost use Rattle.dbtg_unit.specs.Hands.InHand.{in_hand, owner_in, version_in};
 ghost use Rattle.dbtg_unit.specs.Hands.Locality.{IsMadeOnEach, made_by};
 ghost use Rattle.dbtg_unit.specs.Hands.Making.{CanFinish, HaveNextVersions, MayPrepare};
@@ -11,7 +13,7 @@ ghost use Rattle.dbtg_unit.specs.declared.statement.Statement.TheVariants.{Delet
 ghost use Rattle.dbtg_erase.specs.Inside.ErasePlan.{erasing_plan, raised_versions, whole_plan};
 ghost use Rattle.dbtg_erase.specs.WorkList.{gone_in, list_in, members_in_hand};
 
-use crate::edits::erasing_edits;
+use crate::edits::{erased, losing_edits};
 use crate::keys::Keys;
 use crate::left::left;
 use crate::work_list::gone;
@@ -23,7 +25,7 @@ use dbtg_unit::{
 };
 use std::alloc::{AllocError, Global};
 
-// Has a record a member in its list of this set?
+// Does a record have a member in its list of this set?
 pub(crate) fn has_any(held: &Held, key: &DbKey, set: SetNo) -> bool
     ensures { result ≡ nat_lt 0 (length (list_in held.now key.now set)) }
 {
@@ -33,7 +35,7 @@ pub(crate) fn has_any(held: &Held, key: &DbKey, set: SetNo) -> bool
     }
 }
 
-// Has a record a member in some list in hand?
+// Does a record have a member in some list that is held?
 #[tactic(auto, using(dbtg_unit::proofs::Public::numbers_next, dbtg_unit::proofs::Public::numbers_end))]
 fn has_members(schema: &Schema, held: &Held, key: &DbKey) -> bool
     ensures { result ≡ has_members schema.now (in_hand held.now) key.now }
@@ -88,20 +90,23 @@ fn next_versions(
     Ok(versions)
 }
 
-// How cells change where these records go, and the versions of the records that are left behind.
-fn changes(
+// How cells and versions change of the members that stay where these records go.
+fn losses(
     alloc: Global,
     schema: &Schema,
+    capacity: u16,
     held: &Held,
+    option: Erase,
     gone: &Keys,
 ) -> Result<(Row<CellEdit>, Row<(DbKey, u64)>), AllocError>
-    requires { HaveNextVersions held.now.cells }
-    ensures cells { IfOk result (λ made. made.0 ≡ erasing_edits schema.now (owner_in held.now) (members_in_hand schema.now held.now) gone.now) }
+    requires gone { (k : DbKey) × gone.now ≡ gone_in schema.now capacity held.now option k }
+    requires next { HaveNextVersions held.now.cells }
+    ensures cells { IfOk result (λ made. made.0 ≡ flat_map (losing_edits schema.now (owner_in held.now) gone.now) (left_behind (members_in_hand schema.now held.now) gone.now)) }
     ensures versions { IfOk result (λ made. made.1 ≡ raised_versions schema.now held.now gone.now) }
 {
-    let left = left(alloc, schema, held, gone)?;
+    let left = left(alloc, schema, capacity, held, option, gone)?;
     let versions = next_versions(alloc, held, left.as_slice())?;
-    let cells = erasing_edits(alloc, schema, held, gone, &left)?;
+    let cells = losing_edits(alloc, schema, held, gone, &left)?;
     Ok((cells, versions))
 }
 
@@ -118,16 +123,18 @@ fn erasing(
     ensures { IfOk result (λ plan. plan ≡ erasing_plan schema.now held.now (gone_in schema.now capacity held.now option key.now) key.now) }
 {
     let gone = gone(alloc, schema, capacity, held, option, key)?;
-    let (cells, versions) = changes(alloc, schema, held, &gone)?;
+    let (cells, versions) = losses(alloc, schema, capacity, held, option, &gone)?;
+    let erased = erased(alloc, schema, held, &gone)?;
     let answer = Answer {
         status: Status::Done,
         key: None,
         items: None,
     };
-    Ok(Prepared::new(answer, cells, versions, UnitEdit::LoseCurrent { key: *key }))
+    let unit = UnitEdit::LoseCurrent { key: *key };
+    Ok(Prepared::erasing(answer, erased, cells, versions, unit))
 }
 
-// What is prepared, as it is read off the cells in hand.
+// What is prepared, as read from the cells that are held.
 fn planned(
     alloc: Global,
     schema: &Schema,
@@ -151,8 +158,8 @@ fn planned(
     erasing(alloc, schema, capacity, held, option, &key)
 }
 
-/// What a DELETE of the current of run-unit does that needs nothing more: its records go, with their places in lists and
-/// their own lists, and each member that stays loses the owners that go. The cells in hand stay as they are until it is done.
+/// What a DELETE of the current of run-unit that needs nothing more does: its records go, with their places in lists and
+/// their own lists, and each member that stays loses the owners that go. The cells that are held stay as they are until it is done.
 #[tactic(auto, using(crate::proofs::CanFinish::delete_can_finish))]
 pub fn prepare(
     alloc: Global,

@@ -1,4 +1,4 @@
-//! Of the cells of the records that go, the first that is not in hand.
+//! The first cell of the records that go that is not held.
 ghost use Rattle.std.specs.Prelude.{◌≡◌, [], ◌∷◌, filter, map, IfOk};
 ghost use Rattle.std.specs.List.{flat_map};
 ghost use Rattle.dbtg_schema.specs.Structure.{owns};
@@ -15,7 +15,7 @@ use dbtg_schema::{Schema, SetNo};
 use dbtg_unit::{Held, set_count};
 use std::alloc::{AllocError, Global};
 
-// The ring that a record owns in a set, if it owns one and that is not in hand.
+// The ring that a record owns in a set, if it owns one and that is not held.
 fn missing_ring(schema: &Schema, held: &Held, key: &DbKey, set: SetNo) -> Option<CellName>
     ensures { result ≡ first_missing held.now (map (ring_of key.now) (filter (λ s. owns schema.now s key.now.rtype) (set ∷ []))) }
 {
@@ -26,7 +26,7 @@ fn missing_ring(schema: &Schema, held: &Held, key: &DbKey, set: SetNo) -> Option
     }
 }
 
-/// The first ring that a record owns and that is not in hand.
+/// The first ring that a record owns and that is not held.
 pub(crate) fn first_ring(schema: &Schema, held: &Held, key: &DbKey) -> Option<CellName>
     ensures { result ≡ first_missing held.now (own_rings schema.now key.now) }
 {
@@ -40,7 +40,7 @@ pub(crate) fn first_ring(schema: &Schema, held: &Held, key: &DbKey) -> Option<Ce
     None
 }
 
-// The first slot of some keys that is not in hand.
+// The first slot of some keys that is not held.
 fn first_slot(held: &Held, keys: &[DbKey]) -> Option<CellName>
     ensures { result ≡ first_missing held.now (map slot_name keys.now) }
 {
@@ -52,7 +52,7 @@ fn first_slot(held: &Held, keys: &[DbKey]) -> Option<CellName>
     None
 }
 
-// Of the members of a record's list of a set, the first slot that is not in hand.
+// The first slot of the members of a record's list of a set that is not held.
 fn first_of_list(
     alloc: Global,
     schema: &Schema,
@@ -70,7 +70,7 @@ fn first_of_list(
     }
 }
 
-// Of the members of all lists of a record, the first slot that is not in hand.
+// The first slot of the members of all lists of a record that is not held.
 fn first_member(
     alloc: Global,
     schema: &Schema,
@@ -89,7 +89,7 @@ fn first_member(
     Ok(None)
 }
 
-// Of the cells of a record that goes, the first that is not in hand.
+// The first of the cells of a record that goes that is not held.
 #[tactic(auto, using(crate::proofs::FirstNames::find_or))]
 fn first_of_gone(
     alloc: Global,
@@ -108,7 +108,7 @@ fn first_of_gone(
     first_member(alloc, schema, held, key)
 }
 
-/// Of the cells of these records, one after another, the first that is not in hand.
+/// The first of the cells of these records, one after another, that is not held.
 #[tactic(auto, using(crate::proofs::FirstNames::find_or))]
 pub(crate) fn first_of_all(
     alloc: Global,

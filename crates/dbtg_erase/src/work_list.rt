@@ -1,4 +1,4 @@
-//! What a DELETE takes: a work list, first in, first out, over the cells in hand.
+//! What a DELETE takes: a work list, first in, first out, over the cells that are held.
 ghost use Rattle.std.specs.Prelude.{◌≡◌, ◌*◌, ◌^◌, ◌<◌, length, not, ◌&&◌, ◌==◌, IfOk, OnOk};
 ghost use Rattle.dbtg_cells.specs.declared.key.Owner.TheVariants.{Rec};
 ghost use Rattle.dbtg_cells.specs.Keys.{owner_eq};
@@ -6,7 +6,7 @@ ghost use Rattle.dbtg_schema.specs.Lookups.{some_and};
 ghost use Rattle.dbtg_schema.specs.Structure.{is_mandatory, member_clause};
 ghost use Rattle.dbtg_unit.specs.Database.Statements.Doomed.{takes_member};
 ghost use Rattle.dbtg_unit.specs.Hands.Erasing.{with_those};
-ghost use Rattle.dbtg_erase.specs.WorkList.{elsewhere_in, gone_in, list_in, taken_in, taken_of_set};
+ghost use Rattle.dbtg_erase.specs.WorkList.{elsewhere_in, gone_in, list_in, most_gone, taken_in, taken_of_set};
 
 use crate::keys::Keys;
 use dbtg_cells::{DbKey, Owner, same_owner};
@@ -14,7 +14,7 @@ use dbtg_schema::{Schema, SetNo};
 use dbtg_unit::{Erase, Held, occurrence, owner_of, set_count, type_count};
 use std::alloc::{AllocError, Global};
 
-/// The members of a record's list of a set in hand.
+/// The members of a record's list of a set that is held.
 pub(crate) fn list(
     alloc: Global,
     held: &Held,
@@ -85,7 +85,7 @@ fn is_taken(
     }
 }
 
-// Brings the members of the record's list of this set that the option takes with it.
+// Adds the members of the record's list of this set that the option takes with it.
 fn bring_of_set(
     alloc: Global,
     schema: &Schema,
@@ -106,7 +106,7 @@ fn bring_of_set(
     Ok(())
 }
 
-/// Brings all members that the option takes with the record, set by set.
+/// Adds all members that the option takes with the record, set by set.
 pub(crate) fn bring(
     alloc: Global,
     schema: &Schema,
@@ -123,7 +123,14 @@ pub(crate) fn bring(
     Ok(())
 }
 
-/// The records that go with one, in the order in which they are met. No more go than there are numbers.
+/// No more records go than there are numbers.
+pub(crate) fn most_gone(schema: &Schema, capacity: u16) -> u32
+    ensures { result ≡ most_gone schema.now capacity }
+{
+    type_count(schema) as u32 * capacity as u32
+}
+
+/// The records that go with one, in the order in which they are met.
 pub(crate) fn gone(
     alloc: Global,
     schema: &Schema,
@@ -136,7 +143,7 @@ pub(crate) fn gone(
 {
     let mut gone = Keys::new(alloc);
     gone.push(*key)?;
-    let most = type_count(schema) as u32 * capacity as u32;
+    let most = most_gone(schema, capacity);
     for place in 0..most {
         match gone.get(place as usize) {
             Some(next) => bring(alloc, schema, held, option, &next, &mut gone)?,

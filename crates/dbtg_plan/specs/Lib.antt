@@ -1,3 +1,3 @@
+pub mod AtOnce
 pub mod Locality
-pub mod Looking
 pub mod Inside

@@ -1,4 +1,4 @@
--- What a statement has in hand determines what it does.
+-- What a statement holds determines what it does.
 use Rattle.std.specs.Prelude.{◌≡◌, ℕ, true, false}
 use Rattle.dbtg_schema.specs.Lists.{Lists}
 use Rattle.dbtg_schema.specs.Sound.{IsSound}
@@ -15,7 +15,7 @@ use Rattle.dbtg_unit.specs.Hands.Local.{Agrees}
 use Rattle.dbtg_unit.specs.Hands.Locality.{DoTheSame}
 use Rattle.dbtg_unit.specs.Hands.Needs.{need}
 
--- what a statement that fits has in hand, once it is ready, determines its answer, its unit and the cells in hand
+-- what a statement that fits holds, once it is ready, determines its answer, its unit and the held cells
 abbrev pub EachIsDetermined : Type 0
 EachIsDetermined =
     (schema : Lists) (capacity : ℕ) (db eb : Database) (hands : Hands) (unit : Unit) (statement : Statement)

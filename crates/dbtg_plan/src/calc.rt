@@ -1,5 +1,5 @@
-//! The CALC items of a record: whether another record has them, and which number a new one gets. Nothing here takes memory
-//! but the copies.
+//! The CALC items of a record: whether another record has them, and which number a new record gets. Nothing here takes memory
+//! except the copies.
 ghost use Rattle.std.specs.Prelude.{◌≡◌, option_map, IfOk};
 ghost use Rattle.std.specs.List.{slice_index_or};
 ghost use Rattle.dbtg_unit.specs.Database.State.Base.{calc_items, picked};
@@ -18,7 +18,7 @@ fn number_of(key: Option<DbKey>) -> Option<u32>
     key.map(|key| key.number)
 }
 
-// Does a record in hand of this type have the items with these numbers, other than the one that is left out?
+// Does a record of this type that is held have the items with these numbers, other than the one that is left out?
 fn has_calc(
     held: &Held,
     rtype: RecordNo,
@@ -34,7 +34,7 @@ fn has_calc(
     }
 }
 
-/// Does a record in hand have the CALC items of these, where their duplicates are not allowed, other than the one that is left
+/// Does a record that is held have the CALC items of these, if their duplicates are not allowed, other than the one that is left
 /// out?
 pub(crate) fn calc_taken(
     schema: &Schema,
@@ -70,7 +70,7 @@ pub(crate) fn fresh_key(extent: &Extent, rtype: RecordNo) -> Option<DbKey>
     }
 }
 
-/// A copy of an item; 0 where there is none.
+/// A copy of an item; 0 if there is none.
 pub(crate) fn copy_item(alloc: Global, items: &[Value], item: ItemNo) -> Result<Value, AllocError>
     ensures { IfOk result (λ value. value ≡ slice_index_or items.now item (Value.Num 0)) }
 {

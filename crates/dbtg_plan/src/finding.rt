@@ -1,4 +1,4 @@
-//! FIND: what is found, read off the cells in hand. Nothing here takes memory.
+//! FIND: what is found, read from the cells that are held. Nothing here takes memory.
 ghost use Rattle.std.specs.Prelude.{◌≡◌, ◌∷◌, [], true, take, None};
 ghost use Rattle.dbtg_unit.specs.Database.State.Base.{Database};
 ghost use Rattle.dbtg_unit.specs.Database.State.Belongs.{IsUnitOf, IsWithin};
@@ -27,7 +27,7 @@ use dbtg_unit::{
 };
 use std::alloc::Global;
 
-// The key that is found, or the cause why none is.
+// The key that is found, or the cause if none is.
 fn find_key(
     schema: &Schema,
     capacity: u16,
@@ -58,7 +58,7 @@ fn find_key(
     }
 }
 
-// The first cell that is not in hand, of those by which it is found.
+// The first cell that is not held, among those by which the record is found.
 fn missing_to_find(schema: &Schema, unit: &Unit, form: &Form, held: &Held) -> Option<CellName>
     requires { form_fits schema.now form.now ≡ true }
     ensures { result ≡ first_missing held.now (cells_to_find schema.now unit.now form.now) }
@@ -80,7 +80,7 @@ fn missing_to_find(schema: &Schema, unit: &Unit, form: &Form, held: &Held) -> Op
     }
 }
 
-// The first cell that is not in hand, of those by which it is found and then the slot of what is found.
+// The first cell that is not held, among those by which the record is found and then the slot of what is found.
 fn next_cell(
     schema: &Schema,
     capacity: u16,
@@ -101,7 +101,7 @@ fn next_cell(
     }
 }
 
-/// The first cell of a FIND that is not in hand.
+/// The first cell of a FIND that is not held.
 pub(crate) fn next_cell_of_find(
     schema: &Schema,
     capacity: u16,
@@ -117,7 +117,7 @@ pub(crate) fn next_cell_of_find(
     next_cell(schema, capacity, unit, form, held)
 }
 
-// The owners of a record in hand, by set.
+// The owners of a record that is held, by set.
 fn owners_of(held: &Held, key: &DbKey) -> Owners
     ensures { result ≡ take 16 (owners_in held.now key.now) }
 {
@@ -149,7 +149,7 @@ fn plan_of_found(
     }
 }
 
-/// What a FIND does, once it needs nothing more.
+/// What a FIND does once it needs nothing more.
 pub(crate) fn prepare_find(
     alloc: Global,
     schema: &Schema,
@@ -167,7 +167,7 @@ pub(crate) fn prepare_find(
     plan_of_found(alloc, held, suppress, found)
 }
 
-// What is found is seen: what the plan of it would make.
+// Makes what is found current, as the plan of the FIND would.
 fn see_found(
     schema: &Schema,
     unit: &mut Unit,

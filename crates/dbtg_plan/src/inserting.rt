@@ -1,5 +1,5 @@
 //! INSERT: what it needs next, and what it does once it needs nothing more.
-ghost use Rattle.std.specs.Prelude.{◌≡◌, ℕ, [], ◌∷◌, Some, IfOk};
+ghost use Rattle.std.specs.Prelude.{◌≡◌, ℕ, [], ◌∷◌, None, Some, IfOk, OnErr};
 ghost use Rattle.dbtg_schema.specs.Lookups.{first_cause};
 ghost use Rattle.dbtg_unit.specs.Database.Statements.Checks.{insert_checks};
 ghost use Rattle.dbtg_unit.specs.declared.statement.Statement.TheVariants.{Insert};
@@ -7,24 +7,29 @@ ghost use Rattle.dbtg_unit.specs.Database.State.Base.{Database, key_item};
 ghost use Rattle.dbtg_unit.specs.Database.Statements.Checks.{refused_at_once};
 ghost use Rattle.dbtg_unit.specs.Hands.EditsOf.{slot_edit};
 ghost use Rattle.dbtg_unit.specs.Hands.InHand.{items_in, in_hand};
-ghost use Rattle.dbtg_unit.specs.Hands.Making.{CanFinish, HaveNextVersions, MayPrepare, ShowsTheSame};
+ghost use Rattle.dbtg_unit.specs.Hands.Local.{Agrees};
+ghost use Rattle.dbtg_unit.specs.Hands.Locality.{IsMadeOnEach, made_by, seen};
+ghost use Rattle.dbtg_unit.specs.Hands.Making.{CanFinish, CanMake, HaveNextVersions, MayPrepare, ShowsTheSame};
 ghost use Rattle.dbtg_unit.specs.Hands.Needs.{cells_of, first_missing};
 ghost use Rattle.dbtg_unit.specs.Hands.PlanOf.{inserting};
 ghost use Rattle.dbtg_unit.specs.Database.Statements.Conditions.{joined_place};
 ghost use Rattle.dbtg_unit.specs.Hands.PlanOf.{joining_edit};
+ghost use Rattle.dbtg_plan.specs.Inside.Joining.{inserting_with};
 
 use crate::joining::{current_owner, joined_place, joining_edit, make_room, place_refusal};
-use crate::members::{slot_edit, sort_key_in};
+use crate::members::{change_slot, slot_edit, sort_key_in};
 use crate::missing::{missing_ring, missing_slot};
+use crate::outcomes;
+use crate::outcomes::done_answer;
 use dbtg_cells::{CellName, DbKey, Value};
 use dbtg_schema::{Row, Schema, SetNo};
 use dbtg_unit::{
-    Answer, Cause, CellEdit, Edit, Held, Place, Prepared, Status, Unit, UnitEdit, next_version,
-    own_refusal, owner_of, refused,
+    Answer, Cause, CellEdit, Edit, Held, Place, Prepared, Status, Unit, UnitEdit, edit_held,
+    next_version, own_refusal, owner_of, refused,
 };
 use std::alloc::{AllocError, Global};
 
-/// The first cell that an INSERT needs and that is not in hand.
+/// The first cell that an INSERT needs and that is not held.
 pub(crate) fn next_cell_of_insert(
     schema: &Schema,
     unit: &Unit,
@@ -114,7 +119,7 @@ fn inserted(
     ))
 }
 
-/// What an INSERT does that needs nothing more: the place in the current occurrence, the owner, the version.
+/// What an INSERT that needs nothing more does: the place in the current occurrence, the owner, the version.
 pub(crate) fn prepare_insert(
     alloc: Global,
     schema: &Schema,
@@ -128,7 +133,7 @@ pub(crate) fn prepare_insert(
     ensures shows { ShowsTheSame held.old held.new }
     ensures prepared { IfOk result (λ plan. CanFinish schema.now capacity unit.now held.new (Insert set) plan) }
 {
-    // Used by the contract alone.
+    // Unused here; the contract mentions it.
     let _ = capacity;
     let Some(key) = unit.currency.run_unit else {
         return Ok(refused(alloc, Cause::NoCurrentOfRunUnit));
@@ -140,4 +145,62 @@ pub(crate) fn prepare_insert(
     let plan = inserted(alloc, schema, unit, set, held, &key, sort_key)?;
     make_room(schema, unit, set, held, &key)?;
     Ok(plan)
+}
+
+// MADE AT ONCE
+
+// Inserts a record for which there is room, with this sort key and its next version. It takes no memory.
+fn insert_record(
+    schema: &Schema,
+    unit: &mut Unit,
+    set: SetNo,
+    held: &mut Held,
+    key: &DbKey,
+    sort_key: Option<Value>,
+    version: u64,
+) -> Answer
+    requires { CanMake (inserting_with schema.now unit.old set key.now sort_key version).cells held.old.cells }
+    ensures { seen result unit.new held.new ≡ made_by schema.now unit.old held.old (inserting_with schema.now unit.old set key.now sort_key version) }
+{
+    let place = Place {
+        owner: joined_place(schema, unit, set).owner,
+        at: Some(*key),
+    };
+    let owner = Some(joined_place(schema, unit, set).owner);
+    edit_held(held, joining_edit(schema, unit, set, key, sort_key));
+    change_slot(held, key, Edit::ChangeOwner { set, owner });
+    unit.renote(*key, version);
+    held.set_guess(set, Some(place.owner));
+    unit.move_to(set, place);
+    done_answer()
+}
+
+/// Makes an INSERT that needs nothing more, without a plan.
+pub(crate) fn make_insert(
+    alloc: Global,
+    schema: &Schema,
+    capacity: u16,
+    unit: &mut Unit,
+    set: SetNo,
+    held: &mut Held,
+) -> Result<Answer, AllocError>
+    requires may { MayPrepare schema.now capacity unit.old held.old (Insert set) }
+    requires agrees { (db : Database) × Agrees schema.now capacity db held.old unit.old }
+    requires passes { refused_at_once schema.now capacity unit.old (Insert set) ≡ None }
+    ensures made { IfOk result (λ answer. IsMadeOnEach schema.now capacity unit.old held.old (Insert set) (seen answer unit.new held.new)) }
+    ensures unit { OnErr result (unit.new ≡ unit.old) }
+    ensures shows { OnErr result (ShowsTheSame held.old held.new) }
+{
+    // Used by the contract alone.
+    let _ = capacity;
+    let Some(key) = unit.currency.run_unit else {
+        return Ok(outcomes::refusal(Cause::NoCurrentOfRunUnit));
+    };
+    let sort_key = sort_key_in(alloc, schema, set, held, &key)?;
+    if let Some(cause) = refusal(schema, unit, set, held, &key, &sort_key) {
+        return Ok(outcomes::refusal(cause));
+    }
+    let version = next_version(held, &key);
+    make_room(schema, unit, set, held, &key)?;
+    Ok(insert_record(schema, unit, set, held, &key, sort_key, version))
 }

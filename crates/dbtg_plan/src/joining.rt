@@ -20,7 +20,7 @@ use dbtg_schema::{Duplicates, Order, Schema, SetNo};
 use dbtg_unit::{Cause, CellEdit, Edit, Held, Place, Unit, occurrence, reserve_member, ring_name};
 use std::alloc::AllocError;
 
-/// The current of a set; SYSTEM where there is none.
+/// The current of a set; SYSTEM if there is none.
 pub(crate) fn joined_place(schema: &Schema, unit: &Unit, set: SetNo) -> Place
     ensures { result ≡ joined_place schema.now unit.now set }
 {
@@ -45,7 +45,7 @@ pub(crate) fn is_position_lost(at: Option<DbKey>, ring: &Ring) -> bool
     }
 }
 
-// Is the position lost, where the order goes by it?
+// Is the position lost, and does the order depend on it?
 fn loses_position(order: Order, at: Option<DbKey>, ring: &Ring) -> bool
     ensures { result ≡ (uses_position order && is_lost at (keys_in ring.now.occurrence)) }
 {
@@ -56,7 +56,7 @@ fn loses_position(order: Order, at: Option<DbKey>, ring: &Ring) -> bool
     }
 }
 
-// Is the sort key taken, where the order refuses equal ones?
+// Is the sort key taken, and does the order refuse equal ones?
 fn takes_twice(order: Order, sort_key: &Option<Value>, ring: &Ring) -> bool
     ensures { result ≡ (refuses_equal order && list_any (λ e. option_value_eq e.1 sort_key.now) (members_in ring.now.occurrence)) }
 {

@@ -1,4 +1,4 @@
-//! GET, KEEP and FREE: what is done with the current of run-unit alone.
+//! GET, KEEP and FREE: statements on the current of run-unit alone.
 ghost use Rattle.std.specs.Prelude.{◌≡◌, IfOk};
 ghost use Rattle.dbtg_unit.specs.Hands.InHand.{in_hand};
 ghost use Rattle.dbtg_unit.specs.Inside.PlanOf.{plan_of};

@@ -7,7 +7,7 @@ mod inserting;
 mod joining;
 mod keeping;
 mod laws;
-mod looking;
+mod making;
 mod members;
 mod missing;
 mod modifying;
@@ -20,6 +20,7 @@ mod stale;
 mod storing;
 
 pub use laws::each_statement_is_determined;
-pub use looking::{look, looks_alone};
+pub use making::{is_made_at_once, make_at_once};
 pub use need::{need_with_areas, next_need};
 pub use preparing::prepare;
+pub use stale::true_guesses;

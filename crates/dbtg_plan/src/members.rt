@@ -1,13 +1,14 @@
 //! A record in hand as a member of sets: its sort key; and edits of its slot.
-ghost use Rattle.std.specs.Prelude.{◌≡◌, IfOk};
+ghost use Rattle.std.specs.Prelude.{◌≡◌, [], ◌∷◌, IfOk};
 ghost use Rattle.dbtg_unit.specs.Database.State.Base.{key_item};
 ghost use Rattle.dbtg_unit.specs.Hands.EditsOf.{slot_edit};
 ghost use Rattle.dbtg_unit.specs.Hands.InHand.{items_in};
+ghost use Rattle.dbtg_unit.specs.Hands.Making.{AreMade, CanMake};
 
 use crate::calc::copy_item;
 use dbtg_cells::{CellName, DbKey, Value};
 use dbtg_schema::{RecordNo, Schema, SetNo};
-use dbtg_unit::{CellEdit, Edit, Held, stored};
+use dbtg_unit::{CellEdit, Edit, Held, edit_held, stored};
 use std::alloc::{AllocError, Global};
 
 /// An edit of the slot of a key.
@@ -18,6 +19,17 @@ pub(crate) fn slot_edit(key: &DbKey, edit: Edit) -> CellEdit
         name: CellName::Slot(key.rtype, key.number),
         edit,
     }
+}
+
+/// Makes an edit of the slot of a key, and raises the version there.
+pub(crate) fn change_slot(held: &mut Held, key: &DbKey, edit: Edit)
+    requires { CanMake (slot_edit key.now edit ∷ slot_edit key.now Edit.RaiseVersion ∷ []) held.old.cells }
+    ensures made { AreMade (slot_edit key.now edit ∷ slot_edit key.now Edit.RaiseVersion ∷ []) held.old.cells held.new.cells }
+    ensures areas { held.new.areas ≡ held.old.areas }
+    ensures guesses { held.new.guesses ≡ held.old.guesses }
+{
+    edit_held(held, slot_edit(key, edit));
+    edit_held(held, slot_edit(key, Edit::RaiseVersion));
 }
 
 /// A copy of the sort key in a set of a record with these items; none where the set is not sorted.
@@ -39,7 +51,7 @@ pub(crate) fn copy_sort_key(
     }
 }
 
-/// A copy of the sort key in a set of a record in hand.
+/// A copy of the sort key in a set of a record that is held.
 pub(crate) fn sort_key_in(
     alloc: Global,
     schema: &Schema,

@@ -1,4 +1,4 @@
-//! The cells that are not in hand, in the order of taking. Nothing here takes memory.
+//! The cells that are not held, in the order of taking. Nothing here takes memory.
 ghost use Rattle.std.specs.Prelude.{◌≡◌, [], ◌∷◌};
 ghost use Rattle.dbtg_unit.specs.Hands.Needs.{first_missing, is_missing, ring_names, slot_names};
 
@@ -6,7 +6,7 @@ use dbtg_cells::{CellName, DbKey, Owner};
 use dbtg_schema::SetNo;
 use dbtg_unit::Held;
 
-/// Is the cell of this name not in hand?
+/// Is the cell with this name not held?
 #[tactic(auto, using(crate::proofs::Needs::FoundByName::missing_by_name))]
 pub(crate) fn is_missing(held: &Held, name: &CellName) -> bool
     ensures { result ≡ is_missing held.now name.now }
@@ -15,7 +15,7 @@ pub(crate) fn is_missing(held: &Held, name: &CellName) -> bool
     !cell.is_some()
 }
 
-/// This cell, if it is not in hand.
+/// This cell, if it is not held.
 pub(crate) fn missing(held: &Held, name: CellName) -> Option<CellName>
     ensures { result ≡ first_missing held.now (name ∷ []) }
 {
@@ -26,14 +26,14 @@ pub(crate) fn missing(held: &Held, name: CellName) -> Option<CellName>
     }
 }
 
-/// The slot of a key, if there is one and it is not in hand.
+/// The slot of a key, if there is one and it is not held.
 pub(crate) fn missing_slot(held: &Held, key: Option<DbKey>) -> Option<CellName>
     ensures { result ≡ first_missing held.now (slot_names key) }
 {
     key.and_then(|key| missing(held, CellName::Slot(key.rtype, key.number)))
 }
 
-/// The ring of an owner, if there is one and it is not in hand.
+/// The ring of an owner, if there is one and it is not held.
 pub(crate) fn missing_ring(held: &Held, set: SetNo, owner: Option<Owner>) -> Option<CellName>
     ensures { result ≡ first_missing held.now (ring_names set owner) }
 {

@@ -1,34 +1,38 @@
 //! MODIFY: what it needs next, and what it does once it needs nothing more.
-ghost use Rattle.std.specs.Prelude.{◌≡◌, ◌&&◌, ◌∷◌, ◌++◌, ℕ, [], Some, None, map, option_and_then, slice_set, IfOk, if◌then◌else◌};
+ghost use Rattle.std.specs.Prelude.{◌≡◌, ◌&&◌, ◌∷◌, ◌++◌, ℕ, [], Some, None, map, option_and_then, slice_set, IfOk, OnErr, if◌then◌else◌};
 ghost use Rattle.std.specs.List.{flat_map, list_any};
 ghost use Rattle.std.specs.Option.{option_to_list};
 ghost use Rattle.dbtg_schema.specs.Lookups.{at, first_cause};
 ghost use Rattle.dbtg_schema.specs.Structure.{rekeyed_sets, set_numbers};
 ghost use Rattle.dbtg_unit.specs.declared.statement.Statement.TheVariants.{Modify};
 ghost use Rattle.dbtg_unit.specs.Database.State.Base.{Database, key_item};
-ghost use Rattle.dbtg_unit.specs.Database.Statements.Checks.{modify_checks};
+ghost use Rattle.dbtg_unit.specs.Database.Statements.Checks.{modify_checks, refused_at_once};
 ghost use Rattle.dbtg_unit.specs.Database.Statements.Conditions.{calc_taken, changed_items, names_calc, refuses_equal};
 ghost use Rattle.dbtg_unit.specs.Hands.PlanOf.{calc_edits, modify_edits, modifying, replacing_edits, slot_edit};
 ghost use Rattle.dbtg_unit.specs.Inside.PlanOf.{plan_of};
 ghost use Rattle.dbtg_unit.specs.Hands.InHand.{in_hand, items_in};
-ghost use Rattle.dbtg_unit.specs.Hands.Making.{HaveNextVersions};
+ghost use Rattle.dbtg_unit.specs.Hands.Local.{Agrees};
+ghost use Rattle.dbtg_unit.specs.Hands.Locality.{IsMadeOnEach, made_by, seen};
+ghost use Rattle.dbtg_unit.specs.Hands.Making.{CanMake, HaveNextVersions, MayPrepare};
 ghost use Rattle.dbtg_unit.specs.Hands.Needs.{cells_of, first_missing, ring_names};
 ghost use Rattle.dbtg_unit.specs.Database.State.Units.{place_in};
 ghost use Rattle.dbtg_plan.specs.Inside.Modifying.{is_refused, is_rekeyed};
 
 use crate::calc::{calc_taken, copy_calc};
-use crate::members::{copy_sort_key, slot_edit};
+use crate::members::{change_slot, copy_sort_key, slot_edit};
 use crate::missing::{missing, missing_ring, missing_slot};
+use crate::outcomes;
+use crate::outcomes::done_answer;
 use dbtg_cells::{CellName, DbKey, Owner, Value, copy_items};
 use dbtg_schema::{Duplicates, Order, RecordNo, Row, Schema, SetNo};
 use dbtg_unit::{
-    Answer, Cause, CellEdit, Change, Edit, Held, Prepared, Status, Unit, UnitEdit, is_rekeyed_in,
-    names_calc, next_version, occurrence, own_refusal, owner_of, refused, ring_name, set_count,
-    stored,
+    Answer, Cause, CellEdit, Change, Edit, Held, Prepared, Status, Unit, UnitEdit, edit_cells,
+    is_rekeyed_in, names_calc, next_version, occurrence, own_refusal, owner_of, refused, ring_name,
+    set_count, stored,
 };
 use std::alloc::{AllocError, Global};
 
-// The ring of the guessed owner, where the set is sorted by an item that is named and the ring is not in hand.
+// The ring of the guessed owner, if the set is sorted by an item that is named and the ring is not held.
 fn missing_ring_of(
     schema: &Schema,
     set: SetNo,
@@ -77,7 +81,7 @@ fn missing_extent(
     }
 }
 
-/// The first cell that a MODIFY needs and that is not in hand.
+/// The first cell that a MODIFY needs and that is not held.
 pub(crate) fn next_cell_of_modify(
     schema: &Schema,
     unit: &Unit,
@@ -121,7 +125,7 @@ fn copy_changed(
     Ok(Row::of(copies))
 }
 
-// The items of a record in hand after the changes.
+// The items of a record that is held after the changes.
 fn changed(
     alloc: Global,
     held: &Held,
@@ -157,7 +161,7 @@ fn position_in(schema: &Schema, unit: &Unit, set: SetNo) -> Option<DbKey>
     }
 }
 
-// Does another member of an owner's list in hand have the sort key that the record has with these items?
+// Does another member of an owner's list that is held have the sort key that the record has with these items?
 fn has_key_beside(
     alloc: Global,
     schema: &Schema,
@@ -176,7 +180,7 @@ fn has_key_beside(
     Ok(ring.has_sort_key(&sort_key, Some(*key)))
 }
 
-// Is the new sort key taken, where the set is sorted by an item that is named and refuses equal keys?
+// Is the new sort key taken, in a set that is sorted by an item that is named and refuses equal keys?
 fn is_key_taken(
     alloc: Global,
     schema: &Schema,
@@ -218,7 +222,7 @@ fn is_any_key_taken(
     Ok(false)
 }
 
-// Are the new CALC values taken, where one is named?
+// Are the new CALC values taken, if one is named?
 fn takes_calc(
     schema: &Schema,
     held: &Held,
@@ -279,7 +283,7 @@ fn calc_edit(
     }))
 }
 
-// The record placed anew in a set, where its key item there is named and it is connected.
+// The record is placed again in a set, if its key item there is named and it is connected.
 fn replacing_edit(
     alloc: Global,
     schema: &Schema,
@@ -350,6 +354,25 @@ fn push_slot(edits: &mut Vec<CellEdit>, key: &DbKey, items: Row<Value>) -> Resul
     Ok(())
 }
 
+// The edits of all cells but its slot.
+fn edits_beside_slot(
+    alloc: Global,
+    schema: &Schema,
+    unit: &Unit,
+    changes: &[Change],
+    held: &Held,
+    key: &DbKey,
+    items: &[Value],
+) -> Result<Vec<CellEdit>, AllocError>
+    ensures { IfOk result (λ edits. edits.items ≡ calc_edits schema.now changes.now key.now items.now ++ flat_map (replacing_edits schema.now (in_hand held.now) unit.now key.now items.now) (rekeyed_sets schema.now key.now.rtype (map (λ c. c.item) changes.now))) }
+{
+    let mut edits = Vec::new(alloc);
+    let calc = calc_edit(alloc, schema, changes, key, items)?;
+    push_some(&mut edits, calc)?;
+    push_replacing(&mut edits, alloc, schema, unit, changes, held, key, items)?;
+    Ok(edits)
+}
+
 fn edits_of(
     alloc: Global,
     schema: &Schema,
@@ -361,19 +384,7 @@ fn edits_of(
 ) -> Result<Row<CellEdit>, AllocError>
     ensures { IfOk result (λ edits. edits ≡ modify_edits schema.now (in_hand held.now) unit.now changes.now key.now items) }
 {
-    let mut edits = Vec::new(alloc);
-    let calc = calc_edit(alloc, schema, changes, key, items.as_slice())?;
-    push_some(&mut edits, calc)?;
-    push_replacing(
-        &mut edits,
-        alloc,
-        schema,
-        unit,
-        changes,
-        held,
-        key,
-        items.as_slice(),
-    )?;
+    let mut edits = edits_beside_slot(alloc, schema, unit, changes, held, key, items.as_slice())?;
     push_slot(&mut edits, key, items)?;
     Ok(Row::of(edits))
 }
@@ -402,7 +413,7 @@ fn modified(
     Ok(Prepared::new(answer, edits, Row::of(versions), UnitEdit::Same))
 }
 
-/// MODIFY that needs nothing more: the CALC values where one is named, the places in sets that are sorted by an item that is
+/// What a MODIFY that needs nothing more does: the CALC values if one is named, the places in sets that are sorted by an item that is
 /// named, the items, the version.
 pub(crate) fn modify(
     alloc: Global,
@@ -424,5 +435,61 @@ pub(crate) fn modify(
     match refusal(alloc, schema, unit, changes, held, &key, items.as_slice())? {
         Some(cause) => Ok(refused(alloc, cause)),
         None => modified(alloc, schema, unit, changes, held, &key, items),
+    }
+}
+
+// MADE AT ONCE
+
+// Gives a record new items, where no check refuses: all memory is taken before the first change.
+fn modify_record(
+    alloc: Global,
+    schema: &Schema,
+    unit: &mut Unit,
+    changes: &[Change],
+    held: &mut Held,
+    key: &DbKey,
+    items: Row<Value>,
+) -> Result<Answer, AllocError>
+    requires can { CanMake (modify_edits schema.now (in_hand held.old) unit.old changes.now key.now items) held.old.cells }
+    requires versions { HaveNextVersions held.old.cells }
+    requires changed { items ≡ changed_items changes.now (items_in held.old key.now) }
+    ensures made { IfOk result (λ answer. seen answer unit.new held.new ≡ made_by schema.now unit.old held.old (modifying schema.now (in_hand held.old) unit.old changes.now key.now)) }
+    ensures unit { OnErr result (unit.new ≡ unit.old) }
+    ensures held { OnErr result (held.new ≡ held.old) }
+{
+    let edits = edits_beside_slot(alloc, schema, unit, changes, held, key, items.as_slice())?;
+    let version = next_version(held, key);
+    edit_cells(held, Row::of(edits));
+    change_slot(held, key, Edit::ChangeItems { items });
+    unit.renote(*key, version);
+    Ok(done_answer())
+}
+
+/// Makes a MODIFY that needs nothing more, without a plan.
+pub(crate) fn make_modify(
+    alloc: Global,
+    schema: &Schema,
+    capacity: u16,
+    unit: &mut Unit,
+    rtype: RecordNo,
+    changes: &[Change],
+    held: &mut Held,
+) -> Result<Answer, AllocError>
+    requires may { MayPrepare schema.now capacity unit.old held.old (Modify rtype changes.now) }
+    requires agrees { (db : Database) × Agrees schema.now capacity db held.old unit.old }
+    requires passes { refused_at_once schema.now capacity unit.old (Modify rtype changes.now) ≡ None }
+    ensures made { IfOk result (λ answer. IsMadeOnEach schema.now capacity unit.old held.old (Modify rtype changes.now) (seen answer unit.new held.new)) }
+    ensures unit { OnErr result (unit.new ≡ unit.old) }
+    ensures held { OnErr result (held.new ≡ held.old) }
+{
+    // Used by the contract alone.
+    let _ = (rtype, capacity);
+    let Some(key) = unit.currency.run_unit else {
+        return Ok(outcomes::refusal(Cause::NoCurrentOfRunUnit));
+    };
+    let items = changed(alloc, held, &key, changes)?;
+    match refusal(alloc, schema, unit, changes, held, &key, items.as_slice())? {
+        Some(cause) => Ok(outcomes::refusal(cause)),
+        None => modify_record(alloc, schema, unit, changes, held, &key, items),
     }
 }

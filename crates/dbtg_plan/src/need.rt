@@ -1,4 +1,4 @@
-//! What a statement needs next: its areas in order, then its cells in order, then other guesses where the record in hand shows
+//! What a statement needs next: its areas in order, then its cells in order, then other guesses if the record that is held shows
 //! them to be wrong. Nothing here takes memory.
 ghost use Rattle.std.specs.Prelude.{◌≡◌, ◌==◌, not, true, false, None};
 ghost use Rattle.std.specs.List.{find, list_any};
@@ -23,7 +23,7 @@ use dbtg_cells::CellName;
 use dbtg_schema::Schema;
 use dbtg_unit::{Held, Need, Statement, Unit, next_area, refused_at_once};
 
-// The first of a statement's cells that is not in hand.
+// The first of a statement's cells that is not held.
 fn next_cell(
     schema: &Schema,
     capacity: u16,
@@ -59,8 +59,8 @@ fn next_cell(
     }
 }
 
-/// What a statement other than DELETE needs next, on every database of which these cells may be in hand. It lies above what was
-/// taken in turn, and a cell in an area in hand.
+/// What a statement other than DELETE needs next, on every database to which these cells may belong. It lies above what was
+/// taken in turn, and a cell in a held area.
 pub fn next_need(
     schema: &Schema,
     capacity: u16,
@@ -85,8 +85,8 @@ pub fn next_need(
     }
 }
 
-/// What a statement other than DELETE needs next, where no check without cells refuses it and all its areas are in hand: on every
-/// database of which these cells may be in hand.
+/// What a statement other than DELETE needs next, if no check without cells refuses it and all its areas are held: on every
+/// database to which these cells may belong.
 pub fn need_with_areas(
     schema: &Schema,
     capacity: u16,

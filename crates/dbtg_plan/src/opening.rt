@@ -1,4 +1,4 @@
-//! OPEN and CLOSE: what is done with the usage cell of an area.
+//! OPEN and CLOSE: statements on the usage cell of an area.
 ghost use Rattle.std.specs.Prelude.{◌≡◌, IfOk, None};
 ghost use Rattle.std.specs.List.{list_any};
 ghost use Rattle.dbtg_unit.specs.Database.Statements.Checks.{refused_at_once};
@@ -83,7 +83,7 @@ pub(crate) fn close(
 ) -> Result<Prepared, AllocError>
     ensures { IfOk result (λ plan. plan ≡ plan_of schema.now (in_hand held.now) unit.now (Statement.CloseArea area)) }
 {
-    // Used by the contract alone.
+    // Unused here; the contract mentions it.
     let _ = schema;
     let _ = held;
     let edit = Edit::LeaveUser { unit: unit.number };

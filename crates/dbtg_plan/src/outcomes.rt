@@ -1,6 +1,6 @@
-//! What is prepared, or answered at once, where the unit alone changes.
+//! What is prepared, or answered at once, if only the unit changes.
 ghost use Rattle.std.specs.Prelude.{◌≡◌};
-ghost use Rattle.dbtg_unit.specs.Hands.PlanOf.{done_plan};
+ghost use Rattle.dbtg_unit.specs.Hands.PlanOf.{done_answer, done_plan};
 ghost use Rattle.dbtg_unit.specs.Hands.Prepared.{refusal};
 
 use dbtg_cells::{DbKey, Value};
@@ -28,6 +28,17 @@ pub(crate) fn done(
         Row::of(Vec::new(alloc)),
         change,
     )
+}
+
+/// The answer of a statement that is done, with neither a key nor items.
+pub(crate) fn done_answer() -> Answer
+    ensures { result ≡ done_answer }
+{
+    Answer {
+        status: Status::Done,
+        key: None,
+        items: None,
+    }
 }
 
 /// The answer of a statement that is refused for a cause.

@@ -2,26 +2,31 @@
 ghost use Rattle.std.specs.Prelude.{◌≡◌, ℕ, [], ◌∷◌, ◌++◌, None, is_some, IfOk};
 ghost use Rattle.dbtg_schema.specs.Lists.{Lists};
 ghost use Rattle.dbtg_schema.specs.Lookups.{first_cause};
-ghost use Rattle.dbtg_unit.specs.Database.Statements.Checks.{remove_checks};
+ghost use Rattle.dbtg_unit.specs.Database.Statements.Checks.{refused_at_once, remove_checks};
 ghost use Rattle.dbtg_unit.specs.declared.statement.Statement.TheVariants.{Remove};
 ghost use Rattle.dbtg_unit.specs.Database.State.Base.{Database};
 ghost use Rattle.dbtg_unit.specs.Hands.EditsOf.{ring_edits, slot_edit};
 ghost use Rattle.dbtg_unit.specs.Hands.InHand.{owner_in, in_hand};
-ghost use Rattle.dbtg_unit.specs.Hands.Making.{HaveNextVersions};
+ghost use Rattle.dbtg_unit.specs.Hands.Local.{Agrees};
+ghost use Rattle.dbtg_unit.specs.Hands.Locality.{IsMadeOnEach, made_by, seen};
+ghost use Rattle.dbtg_unit.specs.Hands.Making.{AreMade, CanMake, HaveNextVersions, MayPrepare};
 ghost use Rattle.dbtg_unit.specs.Hands.Needs.{cells_of, first_missing};
+ghost use Rattle.dbtg_unit.specs.Hands.PlanOf.{removing};
 ghost use Rattle.dbtg_unit.specs.Inside.PlanOf.{plan_of};
 
-use crate::members::slot_edit;
+use crate::members::{change_slot, slot_edit};
 use crate::missing::{missing_ring, missing_slot};
+use crate::outcomes;
+use crate::outcomes::done_answer;
 use dbtg_cells::{CellName, DbKey, Owner};
 use dbtg_schema::{Row, Schema, SetNo};
 use dbtg_unit::{
-    Answer, Cause, CellEdit, Edit, Held, Prepared, Status, Unit, UnitEdit, next_version,
-    own_refusal, owner_of, push_taking_out, refused,
+    Answer, Cause, CellEdit, Edit, Held, Prepared, Status, Unit, UnitEdit, edit_held, next_version,
+    own_refusal, owner_of, push_taking_out, refused, ring_name,
 };
 use std::alloc::{AllocError, Global};
 
-/// The first cell that a REMOVE needs and that is not in hand.
+/// The first cell that a REMOVE needs and that is not held.
 pub(crate) fn next_cell_of_remove(unit: &Unit, set: SetNo, held: &Held) -> Option<CellName>
     ensures { (schema : Lists) (capacity : ℕ) (db : Database) → result ≡ first_missing held.now (cells_of schema capacity db unit.now held.now.guesses (Remove set)) }
 {
@@ -62,7 +67,7 @@ fn edits_of(
     Ok(edits)
 }
 
-/// REMOVE that needs nothing more: out of the list of its owner, no owner there, the version.
+/// What a REMOVE that needs nothing more does: out of the list of its owner, no owner there, the version.
 pub(crate) fn remove(
     alloc: Global,
     schema: &Schema,
@@ -73,7 +78,7 @@ pub(crate) fn remove(
     requires { HaveNextVersions held.now.cells }
     ensures { IfOk result (λ plan. plan ≡ plan_of schema.now (in_hand held.now) unit.now (Remove set)) }
 {
-    // Used by the contract alone.
+    // Unused here; the contract mentions it.
     let _ = schema;
     let Some(key) = unit.currency.run_unit else {
         return Ok(refused(alloc, Cause::NoCurrentOfRunUnit));
@@ -90,4 +95,62 @@ pub(crate) fn remove(
         items: None,
     };
     Ok(Prepared::new(answer, edits, Row::of(versions), UnitEdit::Leave { set }))
+}
+
+// MADE AT ONCE
+
+fn take_out(held: &mut Held, set: SetNo, owner: Option<Owner>, key: &DbKey)
+    requires { CanMake (ring_edits set owner (Edit.TakeOut key.now ∷ [])) held.old.cells }
+    ensures made { AreMade (ring_edits set owner (Edit.TakeOut key.now ∷ [])) held.old.cells held.new.cells }
+    ensures areas { held.new.areas ≡ held.old.areas }
+    ensures guesses { held.new.guesses ≡ held.old.guesses }
+{
+    if let Some(owner) = owner {
+        edit_held(
+            held,
+            CellEdit {
+                name: ring_name(set, &owner),
+                edit: Edit::TakeOut { key: *key },
+            },
+        );
+    }
+}
+
+// Removes a record that no check refuses. It takes no memory.
+fn remove_record(unit: &mut Unit, set: SetNo, held: &mut Held, key: &DbKey) -> Answer
+    requires can { CanMake (removing (in_hand held.old) set key.now).cells held.old.cells }
+    requires versions { HaveNextVersions held.old.cells }
+    ensures { (schema : Lists) → seen result unit.new held.new ≡ made_by schema unit.old held.old (removing (in_hand held.old) set key.now) }
+{
+    let version = next_version(held, key);
+    take_out(held, set, owner_of(held, set, key), key);
+    change_slot(held, key, Edit::ChangeOwner { set, owner: None });
+    unit.renote(*key, version);
+    held.set_guess(set, None);
+    done_answer()
+}
+
+/// Makes a REMOVE that needs nothing more, without a plan.
+pub(crate) fn make_remove(
+    schema: &Schema,
+    capacity: u16,
+    unit: &mut Unit,
+    set: SetNo,
+    held: &mut Held,
+) -> Answer
+    requires may { MayPrepare schema.now capacity unit.old held.old (Remove set) }
+    requires agrees { (db : Database) × Agrees schema.now capacity db held.old unit.old }
+    requires passes { refused_at_once schema.now capacity unit.old (Remove set) ≡ None }
+    ensures { IsMadeOnEach schema.now capacity unit.old held.old (Remove set) (seen result unit.new held.new) }
+{
+    // Used by the contract alone.
+    let _ = schema;
+    let _ = capacity;
+    let Some(key) = unit.currency.run_unit else {
+        return outcomes::refusal(Cause::NoCurrentOfRunUnit);
+    };
+    match refusal(unit, set, held, &key) {
+        Some(cause) => outcomes::refusal(cause),
+        None => remove_record(unit, set, held, &key),
+    }
 }

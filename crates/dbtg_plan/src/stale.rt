@@ -1,13 +1,21 @@
-//! Guesses of owners that the record in hand shows to be wrong. Nothing here takes memory.
-ghost use Rattle.std.specs.Prelude.{◌≡◌, ◌==◌, ◌<◌, is_some, length, map};
+//! Guesses of owners that the record that is held shows to be wrong. Nothing here takes memory.
+ghost use Rattle.std.specs.Prelude.{◌≡◌, ℕ, ◌==◌, ◌<◌, Some, length, map, true};
 ghost use Rattle.std.specs.List.{list_any};
 ghost use Rattle.dbtg_schema.specs.Structure.{rekeyed_sets};
-ghost use Rattle.dbtg_unit.specs.Hands.Needs.{guessed_sets, is_wrong_guess};
-ghost use Rattle.dbtg_plan.specs.Inside.Stale.{need_of_guesses, need_of_owners, wrong_owner_in, wrong_owners_in};
+ghost use Rattle.dbtg_unit.specs.declared.held.Need.TheVariants.{Stale};
+ghost use Rattle.dbtg_unit.specs.Database.State.Base.{Database};
+ghost use Rattle.dbtg_unit.specs.Database.Statements.Fits.{fits};
+ghost use Rattle.dbtg_unit.specs.Hands.Guesses.{with_owners};
+ghost use Rattle.dbtg_unit.specs.Hands.Local.{Agrees};
+ghost use Rattle.dbtg_unit.specs.Hands.Needs.{guessed_sets, is_wrong_guess, need, stale_owners};
+ghost use Rattle.dbtg_plan.specs.Inside.Stale.{has_wrong_owner_in, need_of_guesses, wrong_owner_in, wrong_owners_in};
 
 use dbtg_cells::{DbKey, Owner, same_owner};
 use dbtg_schema::{RecordNo, Schema, SetNo};
-use dbtg_unit::{Change, Held, Need, Owners, Statement, Unit, is_rekeyed_in, owner_of, set_count};
+use dbtg_unit::{
+    Change, Held, Need, Owners, Statement, Unit, is_rekeyed_in, owner_of, set_count,
+    with_true_owners,
+};
 
 // Is this one of the sets in which a MODIFY moves the record?
 fn is_moved_in(schema: &Schema, set: SetNo, rtype: RecordNo, changes: &[Change]) -> bool
@@ -22,7 +30,7 @@ fn is_guessed(schema: &Schema, unit: &Unit, statement: &Statement, set: SetNo) -
     requires { set < length schema.now.sets }
     ensures { result ≡ list_any (λ s. s == set) (guessed_sets schema.now unit.now statement.now) }
 {
-    // Used by the contract alone.
+    // Unused here; the contract mentions it.
     let _ = unit;
     match statement {
         Statement::Remove(named) => named.index() == set.index(),
@@ -85,23 +93,41 @@ fn wrong_owners(
     owners
 }
 
-fn has_owner(owners: &[Option<Owner>]) -> bool
-    ensures { result ≡ list_any is_some owners.now }
+#[tactic(auto, using(dbtg_unit::proofs::Public::numbers_next, dbtg_unit::proofs::Public::numbers_end))]
+fn has_wrong_owner(
+    schema: &Schema,
+    unit: &Unit,
+    statement: &Statement,
+    held: &Held,
+    key: &DbKey,
+) -> bool
+    ensures { result ≡ has_wrong_owner_in schema.now unit.now held.now statement.now key.now }
 {
-    owners.iter().any(|owner| owner.is_some())
+    for s in 0..set_count(schema) {
+        if wrong_owner(schema, unit, statement, held, key, SetNo::new(s)).is_some() {
+            return true;
+        }
+    }
+    false
 }
 
-fn need_of_owners(owners: Owners) -> Need
-    ensures { result ≡ need_of_owners owners }
+fn need_of_key(
+    schema: &Schema,
+    unit: &Unit,
+    statement: &Statement,
+    held: &Held,
+    key: &DbKey,
+) -> Need
+    ensures { result ≡ need_of_guesses schema.now unit.now held.now statement.now (Some key.now) }
 {
-    if has_owner(owners.as_slice()) {
-        Need::Stale(owners)
+    if has_wrong_owner(schema, unit, statement, held, key) {
+        Need::Stale
     } else {
         Need::Ready
     }
 }
 
-/// What is needed of the guesses, once all areas and cells are in hand.
+/// What a statement needs for its guesses, once all areas and cells are held.
 pub(crate) fn need_of_guesses(
     schema: &Schema,
     unit: &Unit,
@@ -110,8 +136,25 @@ pub(crate) fn need_of_guesses(
 ) -> Need
     ensures { result ≡ need_of_guesses schema.now unit.now held.now statement.now unit.now.currency.run_unit }
 {
-    match unit.currency.run_unit {
-        Some(key) => need_of_owners(wrong_owners(schema, unit, statement, held, &key)),
+    match &unit.currency.run_unit {
+        Some(key) => need_of_key(schema, unit, statement, held, key),
         None => Need::Ready,
+    }
+}
+
+/// The guesses with which a statement goes on that needs others: the true owner in each set where its guess is wrong, on every database
+/// of which these cells may be in hand.
+pub fn true_guesses(schema: &Schema, unit: &Unit, statement: &Statement, held: &Held) -> Owners
+    requires fits { fits schema.now statement.now ≡ true }
+    requires count { length held.now.guesses ≡ length schema.now.sets }
+    ensures { (capacity : ℕ) (db : Database) → Agrees schema.now capacity db held.now unit.now → need schema.now capacity db unit.now held.now statement.now ≡ Stale → result ≡ with_owners held.now.guesses (stale_owners schema.now capacity db unit.now held.now.guesses statement.now) }
+{
+    match &unit.currency.run_unit {
+        Some(key) => {
+            let owners = wrong_owners(schema, unit, statement, held, key);
+            with_true_owners(held.guesses(), owners)
+        }
+        // Nothing is guessed, and no guess is wrong.
+        None => Owners::of(held.guesses()),
     }
 }

@@ -1,31 +1,33 @@
 //! STORE: what it needs next, and what it does once it needs nothing more.
-ghost use Rattle.std.specs.Prelude.{◌≡◌, ℕ, ◌==◌, ◌++◌, [], ◌∷◌, false, is_none, if◌then◌else◌, filter, IfOk, OnOk};
+ghost use Rattle.std.specs.Prelude.{◌≡◌, ℕ, ◌==◌, ◌++◌, [], ◌∷◌, false, None, is_none, if◌then◌else◌, IfOk, OnErr, OnOk};
 ghost use Rattle.std.specs.List.{flat_map, list_any};
 ghost use Rattle.dbtg_cells.specs.declared.key.DbKey.{DbKey};
 ghost use Rattle.dbtg_schema.specs.Lookups.{first_cause};
-ghost use Rattle.dbtg_schema.specs.Structure.{automatic_sets, owns, set_numbers};
+ghost use Rattle.dbtg_schema.specs.Structure.{automatic_sets, owns};
 ghost use Rattle.dbtg_unit.specs.Database.Statements.Checks.{place_checks, store_checks, refused_at_once};
 ghost use Rattle.dbtg_unit.specs.declared.statement.Statement.TheVariants.{Store};
 ghost use Rattle.dbtg_unit.specs.Database.State.Base.{Database, key_item};
+ghost use Rattle.dbtg_unit.specs.Hands.Hands.{Hands};
 ghost use Rattle.dbtg_unit.specs.Hands.InHand.{numbers_in, in_hand};
 ghost use Rattle.dbtg_unit.specs.Hands.Local.{Agrees};
-ghost use Rattle.dbtg_unit.specs.Hands.Making.{CanFinish, MayPrepare, ShowsTheSame};
+ghost use Rattle.dbtg_unit.specs.Hands.Locality.{IsMadeOnEach, made_by, seen};
+ghost use Rattle.dbtg_unit.specs.Hands.Making.{AreMade, CanFinish, CanMake, MayPrepare, ShowsTheSame};
 ghost use Rattle.dbtg_unit.specs.Hands.Needs.{cells_of, current_owner, first_missing, ring_names, store_rings, store_rings_of};
 ghost use Rattle.dbtg_unit.specs.Hands.PlanOf.{first_owners, joining_edits, slot_edit, store_edits, storing};
 ghost use Rattle.dbtg_unit.specs.Inside.PlanOf.{plan_of};
-ghost use Rattle.dbtg_unit.specs.Inside.Prepared.{unless_refusal};
 ghost use Rattle.dbtg_plan.specs.Inside.Calc.{fresh_key};
-ghost use Rattle.dbtg_plan.specs.Inside.Store.{HasRoom, missing_of_store, opening_edit};
+ghost use Rattle.dbtg_plan.specs.Inside.Store.{HasRoom, entering_edit, missing_of_store, opening_edit, opening_edits, plan_of_judged};
 
 use crate::calc::{calc_taken, copy_calc, fresh_key};
 use crate::joining::{current_owner, joining_edit, make_room, place_refusal};
 use crate::members::{copy_sort_key, slot_edit};
 use crate::missing::{missing, missing_ring, missing_slot};
+use crate::outcomes;
 use dbtg_cells::{CellName, DbKey, Owner, Value, copy_items};
 use dbtg_schema::{RecordNo, Row, Schema, SetNo};
 use dbtg_unit::{
     Answer, Cause, CellEdit, Edit, Held, Owners, Prepared, Status, Suppress, Unit, UnitEdit,
-    is_automatic_in, numbers, refused, set_count,
+    edit_cells, edit_held, is_automatic_in, numbers, refused, set_count,
 };
 use std::alloc::{AllocError, Global};
 
@@ -136,7 +138,7 @@ fn missing_cell(
     }
 }
 
-/// The first cell that a STORE needs and that is not in hand.
+/// The first cell that a STORE needs and that is not held.
 pub(crate) fn next_cell_of_store(
     schema: &Schema,
     unit: &Unit,
@@ -203,6 +205,26 @@ fn refusal(
     refusal_in_sets(alloc, schema, unit, held, rtype, items)
 }
 
+// The key that the record gets, or why it is not stored.
+fn judged(
+    alloc: Global,
+    schema: &Schema,
+    unit: &Unit,
+    held: &Held,
+    rtype: RecordNo,
+    items: &[Value],
+) -> Result<Result<DbKey, Cause>, AllocError>
+    ensures { IfOk result (λ judged. (suppress : Suppress) → plan_of schema.now (in_hand held.now) unit.now (Store rtype items.now suppress) ≡ plan_of_judged schema.now unit.now items.now suppress judged) }
+{
+    let Some(key) = new_key(held, rtype) else {
+        return Ok(Err(Cause::NoRoom));
+    };
+    match refusal(alloc, schema, unit, held, rtype, items)? {
+        Some(cause) => Ok(Err(cause)),
+        None => Ok(Ok(key)),
+    }
+}
+
 // ITS EDITS
 
 fn push_join(
@@ -240,6 +262,24 @@ fn push_joins(
     Ok(())
 }
 
+// The edit by which a new record's number is used.
+fn entering(
+    alloc: Global,
+    schema: &Schema,
+    key: &DbKey,
+    items: &[Value],
+) -> Result<CellEdit, AllocError>
+    ensures { IfOk result (λ edit. edit ≡ entering_edit schema.now key.now items.now) }
+{
+    Ok(CellEdit {
+        name: CellName::Extent(key.rtype),
+        edit: Edit::EnterNumber {
+            number: key.number,
+            calc: copy_calc(alloc, schema, key.rtype, items)?,
+        },
+    })
+}
+
 // The edit by which a new record opens its occurrence of a set that its type owns.
 fn opening_edit(key: &DbKey, set: SetNo) -> CellEdit
     ensures { result ≡ opening_edit key.now set }
@@ -253,7 +293,7 @@ fn opening_edit(key: &DbKey, set: SetNo) -> CellEdit
 }
 
 fn push_openings(schema: &Schema, key: &DbKey, edits: &mut Vec<CellEdit>) -> Result<(), AllocError>
-    ensures { OnOk result (edits.new.items ≡ edits.old.items ++ flat_map (λ s. opening_edit key.now s ∷ []) (filter (λ s. owns schema.now s key.now.rtype) (set_numbers schema.now))) }
+    ensures { OnOk result (edits.new.items ≡ edits.old.items ++ opening_edits schema.now key.now) }
 {
     for set in schema.owned_sets(key.rtype) {
         edits.push(opening_edit(key, *set))?;
@@ -302,16 +342,9 @@ fn edits_of(
     requires { owners.now ≡ first_owners schema.now unit.now key.now.rtype }
     ensures { IfOk result (λ edits. edits ≡ store_edits schema.now unit.now key.now items.now) }
 {
-    let calc = copy_calc(alloc, schema, key.rtype, items.as_slice())?;
     // Most records have a number, a set joined, one opened, and a slot.
     let mut edits = Vec::with_capacity(alloc, 4)?;
-    edits.push(CellEdit {
-        name: CellName::Extent(key.rtype),
-        edit: Edit::EnterNumber {
-            number: key.number,
-            calc,
-        },
-    })?;
+    edits.push(entering(alloc, schema, key, items.as_slice())?)?;
     push_joins(alloc, schema, unit, key, items.as_slice(), &mut edits)?;
     push_openings(schema, key, &mut edits)?;
     edits.push(filling(alloc, key, items, owners)?)?;
@@ -355,30 +388,7 @@ fn make_places(schema: &Schema, unit: &Unit, held: &mut Held, key: &DbKey) -> Re
     Ok(())
 }
 
-// THE WHOLE
-
-fn plan_of_key(
-    alloc: Global,
-    schema: &Schema,
-    unit: &Unit,
-    rtype: RecordNo,
-    items: &Row<Value>,
-    suppress: Suppress,
-    held: &mut Held,
-    key: &DbKey,
-) -> Result<Prepared, AllocError>
-    requires { (in_hand held.old).is_full rtype ≡ false }
-    ensures same { ShowsTheSame held.old held.new }
-    ensures plan { IfOk result (λ plan. plan ≡ unless_refusal (first_cause (store_checks schema.now (in_hand held.old) unit.now rtype items.now)) (storing schema.now unit.now items.now suppress key.now)) }
-    ensures rooms { IfOk result (λ plan. (k : DbKey) (s : ℕ) → plan.answer.key ≡ Some k → HasRoom schema.now unit.now held.new k s) }
-{
-    if let Some(cause) = refusal(alloc, schema, unit, held, rtype, items.as_slice())? {
-        return Ok(refused(alloc, cause));
-    }
-    let plan = stored(alloc, schema, unit, key, items, suppress)?;
-    make_places(schema, unit, held, key)?;
-    Ok(plan)
-}
+// PREPARED
 
 fn plan_store(
     alloc: Global,
@@ -393,13 +403,17 @@ fn plan_store(
     ensures plan { IfOk result (λ plan. plan ≡ plan_of schema.now (in_hand held.old) unit.now (Store rtype items.now suppress)) }
     ensures rooms { IfOk result (λ plan. (k : DbKey) (s : ℕ) → plan.answer.key ≡ Some k → HasRoom schema.now unit.now held.new k s) }
 {
-    match new_key(held, rtype) {
-        Some(key) => plan_of_key(alloc, schema, unit, rtype, items, suppress, held, &key),
-        None => Ok(refused(alloc, Cause::NoRoom)),
+    match judged(alloc, schema, unit, held, rtype, items.as_slice())? {
+        Ok(key) => {
+            let plan = stored(alloc, schema, unit, &key, items, suppress)?;
+            make_places(schema, unit, held, &key)?;
+            Ok(plan)
+        }
+        Err(cause) => Ok(refused(alloc, cause)),
     }
 }
 
-/// What a STORE does that needs nothing more: the number, the places in the sets, the occurrences, the record.
+/// What a STORE that needs nothing more does: the number, the places in the sets, the occurrences, the record.
 pub(crate) fn prepare_store(
     alloc: Global,
     schema: &Schema,
@@ -415,7 +429,98 @@ pub(crate) fn prepare_store(
     ensures shows { ShowsTheSame held.old held.new }
     ensures prepared { IfOk result (λ plan. CanFinish schema.now capacity unit.now held.new (Store rtype items.now suppress) plan) }
 {
-    // Used by the contract alone.
+    // Unused here; the contract mentions it.
     let _ = capacity;
     plan_store(alloc, schema, unit, rtype, items, suppress, held)
+}
+
+// MADE AT ONCE
+
+fn open_occurrences(schema: &Schema, key: &DbKey, held: &mut Held)
+    requires { CanMake (opening_edits schema.now key.now) held.old.cells }
+    ensures made { AreMade (opening_edits schema.now key.now) held.old.cells held.new.cells }
+    ensures areas { held.new.areas ≡ held.old.areas }
+    ensures guesses { held.new.guesses ≡ held.old.guesses }
+{
+    for set in schema.owned_sets(key.rtype) {
+        edit_held(held, opening_edit(key, *set));
+    }
+}
+
+// Makes the edits of a STORE, of which those that take memory came to be before.
+fn change_cells(
+    schema: &Schema,
+    key: &DbKey,
+    held: &mut Held,
+    entering: CellEdit,
+    joins: Row<CellEdit>,
+    filling: CellEdit,
+)
+    requires { CanMake (entering ∷ (joins ++ (opening_edits schema.now key.now ++ filling ∷ []))) held.old.cells }
+    ensures made { AreMade (entering ∷ (joins ++ (opening_edits schema.now key.now ++ filling ∷ []))) held.old.cells held.new.cells }
+    ensures areas { held.new.areas ≡ held.old.areas }
+    ensures guesses { held.new.guesses ≡ held.old.guesses }
+{
+    edit_held(held, entering);
+    edit_cells(held, joins);
+    open_occurrences(schema, key, held);
+    edit_held(held, filling);
+}
+
+// Stores a record that no check refuses, and makes it current: all memory is taken before the first change.
+fn store(
+    alloc: Global,
+    schema: &Schema,
+    unit: &mut Unit,
+    items: &Row<Value>,
+    suppress: &Suppress,
+    held: &mut Held,
+    key: &DbKey,
+) -> Result<Answer, AllocError>
+    requires { (hands : Hands) → ShowsTheSame held.old hands → ((s : ℕ) → HasRoom schema.now unit.old hands key.now s) → CanMake (store_edits schema.now unit.old key.now items.now) hands.cells }
+    ensures made { IfOk result (λ answer. seen answer unit.new held.new ≡ made_by schema.now unit.old held.old (storing schema.now unit.old items.now suppress.now key.now)) }
+    ensures unit { OnErr result (unit.new ≡ unit.old) }
+    ensures shows { OnErr result (ShowsTheSame held.old held.new) }
+{
+    let entering = entering(alloc, schema, key, items.as_slice())?;
+    let mut joins = Vec::new(alloc);
+    push_joins(alloc, schema, unit, key, items.as_slice(), &mut joins)?;
+    let owners = first_owners(schema, unit, key.rtype);
+    let filling = filling(alloc, key, items, &owners)?;
+    make_places(schema, unit, held, key)?;
+    change_cells(schema, key, held, entering, Row::of(joins), filling);
+    unit.see(schema, *key, owners.as_slice(), suppress);
+    held.set_guesses(owners);
+    Ok(Answer {
+        status: Status::Done,
+        key: Some(*key),
+        items: None,
+    })
+}
+
+/// Makes a STORE that needs nothing more, without a plan.
+pub(crate) fn make_store(
+    alloc: Global,
+    schema: &Schema,
+    capacity: u16,
+    unit: &mut Unit,
+    rtype: RecordNo,
+    items: &Row<Value>,
+    suppress: &Suppress,
+    held: &mut Held,
+) -> Result<Answer, AllocError>
+    requires may { MayPrepare schema.now capacity unit.old held.old (Store rtype items.now suppress.now) }
+    requires agrees { (db : Database) × Agrees schema.now capacity db held.old unit.old }
+    requires passes { refused_at_once schema.now capacity unit.old (Store rtype items.now suppress.now) ≡ None }
+    ensures made { IfOk result (λ answer. IsMadeOnEach schema.now capacity unit.old held.old (Store rtype items.now suppress.now) (seen answer unit.new held.new)) }
+    ensures unit { OnErr result (unit.new ≡ unit.old) }
+    ensures shows { OnErr result (ShowsTheSame held.old held.new) }
+{
+    // Used by the contract alone.
+    let _ = capacity;
+    let judged = judged(alloc, schema, unit, held, rtype, items.as_slice())?;
+    match judged {
+        Ok(key) => store(alloc, schema, unit, items, suppress, held, &key),
+        Err(cause) => Ok(outcomes::refusal(cause)),
+    }
 }

@@ -1,4 +1,4 @@
--- What a ticket makes of a unit.
+-- What a ticket does to a unit.
 use Rattle.std.specs.Prelude.{◌≡◌, ◌<◌, List, [], ◌∷◌, ◌++◌, length, Some}
 use Rattle.dbtg_unit.specs.declared.statement.Statement.{Statement}
 use Rattle.dbtg_unit.specs.declared.unit.Answer.{Answer}

@@ -9,14 +9,14 @@ use Rattle.dbtg_run.specs.declared.outcome.Outcome.{Outcome}
 use Rattle.dbtg_run.specs.declared.outcome.Outcome.TheVariants.{Done, Busy, Spent, NoMemory}
 use Rattle.dbtg_run.specs.declared.view.About.{About}
 
--- where the statement was made, this holds of its answer
+-- if the statement was made, this holds for its answer
 abbrev pub IfDone : Outcome → (Answer → Type 0) → Type 0
 IfDone (Done a) P = P a
 IfDone Busy P = ⊤
 IfDone Spent P = ⊤
 IfDone NoMemory P = ⊤
 
--- where the statement was not made, this holds
+-- if the statement was not made, this holds
 abbrev pub IfNotDone : Outcome → Type 0 → Type 0
 IfNotDone (Done a) P = ⊤
 IfNotDone Busy P = P

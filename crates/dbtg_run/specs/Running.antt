@@ -17,7 +17,7 @@ pub record IsRecorded (u : UnitView) : Type 0 where
   pub entries : entries_of u.unit.number log ≡ u.journal
 
 -- the unit made the first statements of the script, one after the other: its journal has one entry more for each, of this unit
--- and this statement. Where it made none, it is as it was
+-- and this statement. If it made none, it is as it was
 pub record Ran (script : List Statement) (before after : UnitView) : Type 0 where
   pub made : List Entry
   pub left : List Statement
@@ -34,7 +34,7 @@ pub record Ran (script : List Statement) (before after : UnitView) : Type 0 wher
 abbrev pub IsWhole : List Statement → UnitView → UnitView → Type 0
 IsWhole script before after = (length after.journal ≡ length before.journal + length script) ⊎ (MOST_STATEMENTS ≤ length after.journal)
 
--- so holds of each script, of the unit to which it was given, and of that unit afterwards; all three stand at one place
+-- the same for each script, the unit to which it was given, and that unit afterwards; all three are at one place
 pub record AtEach (P : List Statement → UnitView → UnitView → Type 0) (scripts : List (List Statement)) (before after : List UnitView) : Type 0 where
   pub count : length after ≡ length before
   pub each : (k : ℕ) (s : List Statement) (u v : UnitView) → k < length before → P (get_or scripts k s) (get_or before k u) (get_or after k v)

@@ -38,7 +38,7 @@ impl Database {
         self.execute_at(alloc, unit, statement, tries, &NoGate)
     }
 
-    /// As `execute`. The gate is passed directly after the ticket, and after the last latch is left.
+    /// Like `execute`. The gate is passed directly after the ticket, and after the last latch is left.
     pub fn execute_at<G: Gate>(
         &self,
         alloc: Global,
@@ -61,7 +61,7 @@ impl Database {
         unit.work.execute(alloc, self, statement, &mut tries, gate)
     }
 
-    // One round of `insist`: a statement of the unit, with 64 tries. Also gives what became of the tries.
+    // One round of `insist`: a statement of the unit, with 64 tries. Also gives the tries, as they were used.
     fn round<G: Gate>(
         &self,
         alloc: Global,
@@ -105,7 +105,7 @@ impl Database {
         self.insist_at(rt, alloc, unit, statement, &NoGate)
     }
 
-    /// As `insist`. The gate is passed as by `execute_at`.
+    /// Like `insist`. The gate is passed as by `execute_at`.
     pub fn insist_at<R: Wait, G: Gate>(
         &self,
         rt: &R,

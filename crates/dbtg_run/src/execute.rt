@@ -1,4 +1,4 @@
-//! A statement of a unit at work: what it needs is taken, the ticket is drawn, and all goes back.
+//! A statement of a unit at work: what it needs is taken, the ticket is drawn, and everything is given back.
 ghost use Rattle.std.specs.Prelude.{◌≡◌, ◌≢◌, ◌↔◌, ◌<◌, ◌≤◌, ◌∷◌, [], true, length, vec_len, vec_capacity, IfOk, IfNone, IfSome, IsSome, OnErr};
 ghost use Rattle.dbtg_unit.specs.Database.Statements.Fits.{fits};
 ghost use Rattle.dbtg_unit.specs.Hands.Making.{CanFinish, IsReady};
@@ -33,7 +33,7 @@ fn with_answer(alloc: Global, prepared: Prepared) -> Result<(Prepared, Answer), 
 }
 
 impl Work {
-    // Prepares the statement on what is in hand.
+    // Prepares the statement on what is held.
     fn prepare_in_hand(
         &mut self,
         alloc: Global,
@@ -61,7 +61,7 @@ impl Work {
         )
     }
 
-    // Makes the statement on what is in hand, and enters the copy of it that came along.
+    // Makes the statement on what is held, and enters the given copy of it.
     fn make_in_hand<G: Gate>(
         &mut self,
         alloc: Global,
@@ -95,7 +95,7 @@ impl Work {
         }
     }
 
-    // Takes what the statement needs and makes it. None where the tries are used up.
+    // Takes what the statement needs and makes it. None if the tries are used up.
     fn attempt<G: Gate>(
         &mut self,
         alloc: Global,

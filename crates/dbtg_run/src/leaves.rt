@@ -1,4 +1,4 @@
-//! What a unit at work has taken goes back: each cell to its slot, then each area.
+//! Giving back what a unit at work has taken: each cell to its slot, then each area.
 ghost use Rattle.std.specs.Prelude.{◌≡◌, ℕ, ◌+◌, ◌<◌, List, [], ◌∷◌, ◌++◌, cond, length};
 ghost use Rattle.dbtg_cells.specs.declared.cell.Cell.{Cell};
 ghost use Rattle.dbtg_cells.specs.declared.name.CellName.{CellName};
@@ -9,7 +9,7 @@ use crate::plays::{LeaveArea, PutCell};
 use crate::work::Work;
 use dbtg_cells::cell_number;
 
-// The bit by which a unit has an area: one of the low eight where it shares it, one of the next eight where it has it alone.
+// The bit by which a unit has an area: one of the low eight if it shares it, one of the next eight if it has it alone.
 fn latch_bit(exclusive: bool, place: u32) -> u32
     requires { place < 8 }
     ensures { result ≡ cond exclusive (8 + place) place }
@@ -18,7 +18,7 @@ fn latch_bit(exclusive: bool, place: u32) -> u32
 }
 
 impl Work {
-    // Puts the cell back that was taken last.
+    // Puts back the cell that was taken last.
     fn put_cell(&mut self, db: &Database)
         requires belongs { Belongs db.now self.old }
         requires work { IsAtWork self.old }

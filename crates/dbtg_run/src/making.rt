@@ -19,7 +19,7 @@ use dbtg_unit::{Held, Owners};
 use std::alloc::{AllocError, Global};
 use std::snapshot::Snapshot;
 
-// What a unit is told of its database: the same once more.
+// A copy of what a unit knows of its database.
 fn told(about: &About, schema: &Schema) -> About
     requires { about.now.schema.value ≡ schema.now }
     ensures { result ≡ about.now }
@@ -31,7 +31,7 @@ fn told(about: &About, schema: &Schema) -> About
     }
 }
 
-// The slots in which these cells are at home.
+// The slots with these cells at home.
 fn slots_of(alloc: Global, cells: Vec<Cell>) -> Result<Vec<Option<Cell>>, AllocError>
     ensures { IfOk result (λ slots. slots.items ≡ map Some cells.items) }
 {
@@ -59,7 +59,7 @@ fn lay(alloc: Global, schema: &Schema, about: &About) -> Result<(Board, Chair), 
     Ok((board, seat))
 }
 
-// The unit of this number before its first statement, at a seat of its own.
+// The unit with this number before its first statement, with a seat of its own.
 fn newcomer(
     alloc: Global,
     schema: &Schema,
@@ -86,7 +86,7 @@ fn newcomer(
     RunUnit::of(alloc, work)
 }
 
-// The units before their first statements, each at a seat that is cut off from the first. The last unit has the first seat: a seat
+// The units before their first statements, each with a seat that is cut off from the first. The last unit has the first seat: a seat
 // is for one thread, so the database keeps none.
 fn seat_units(
     alloc: Global,
@@ -130,7 +130,7 @@ fn seat_units(
     }
 }
 
-// The table with all cells at home, and the units there.
+// The table with all cells at home, and its units.
 fn furnish(
     alloc: Global,
     schema: &Schema,
@@ -148,9 +148,9 @@ fn furnish(
 }
 
 impl Database {
-    /// A database of this schema before its first statement, and its run-units in the order of their numbers, which are from 1
-    /// on. There are from 1 to 8 units. The capacity is the greatest number that a record of a type can have, and may be any.
-    /// The error means that memory was refused; then nothing is left of what was made.
+    /// A database of this schema before its first statement, and its run-units in the order of their numbers, starting with 1.
+    /// There are 1 to 8 units. The capacity is the greatest number that a record of a type can have, and may be any.
+    /// The error means that memory was refused; everything that was made is then dropped.
     pub fn make(
         alloc: Global,
         schema: Schema,

@@ -1,9 +1,9 @@
-//! What a statement on threads comes to, and the points at which a gate is passed.
+//! The result of a statement on threads, and the points at which a gate is passed.
 ghost use Rattle.std.specs.Prelude.{◌≡◌, ◌≢◌, MatchBool};
 
 use dbtg_unit::Answer;
 
-/// What a statement comes to.
+/// The result of a statement.
 #[derive(Drop)]
 pub enum Outcome {
     /// The statement is made, with this answer.

@@ -20,7 +20,7 @@ ghost use Rattle.dbtg_unit.specs.declared.statement.Statement.{Statement};
 ghost use Rattle.dbtg_unit.specs.declared.unit.Answer.{Answer};
 ghost use Rattle.dbtg_unit.specs.declared.unit.Status.TheVariants.{Done};
 ghost use Rattle.dbtg_unit.specs.declared.unit.Unit.{Unit};
-ghost use Rattle.dbtg_run.specs.Inside.LatchRule.{LooksAtArea, TakesArea, LeavesArea, TakesCell, PutsCell, Draws, Learns, others_of, one_of, gathered, spent};
+ghost use Rattle.dbtg_run.specs.Inside.LatchRule.{LooksAtArea, TakesArea, LeavesArea, TakesCell, PutsCell, Draws, Learns, others_of, one_of, gathered, vacated};
 
 use crate::view::SeatKnowledge;
 use atomic_table::{Join, Play, Split};
@@ -48,7 +48,7 @@ impl Play<Option<Cell>, SeatKnowledge> for TakeAlone {
     ghost then = { TakesArea true };
 }
 
-/// The area that was taken last is left, with no cell in hand.
+/// The area that was taken last is left, while no cell is held.
 pub struct LeaveArea;
 
 impl Play<Option<Cell>, SeatKnowledge> for LeaveArea {
@@ -69,7 +69,7 @@ impl Play<Option<Cell>, SeatKnowledge> for PutCell {
     ghost then = { PutsCell };
 }
 
-/// What a statement comes to. The call that draws the ticket picks it.
+/// The result of a statement. The call that draws the ticket determines it.
 pub trait Picked {
     ghost statement: { Statement };
 
@@ -90,7 +90,7 @@ impl Picked for Brand {
     ghost held = { [] };
 }
 
-/// A ticket is drawn for a statement that has all that it needs. From then on its cells are held with their new values.
+/// A ticket is drawn for a statement that has everything that it needs. From then on its cells are held with their new values.
 pub struct Draw<O> {
     picked: PhantomData<O>,
 }
@@ -121,5 +121,5 @@ pub struct Gather;
 impl Join<SeatKnowledge> for Gather {
     ghost both = { gathered };
 
-    ghost spent = { spent };
+    ghost spent = { vacated };
 }

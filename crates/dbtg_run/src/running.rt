@@ -1,4 +1,4 @@
-//! A unit makes a script, on whatever thread it is.
+//! A unit makes a script, on any thread.
 ghost use Rattle.std.specs.Prelude.{◌≡◌, ◌⊎◌, ◌<◌, ◌≤◌, true, length, All, IfOk, OnErr};
 ghost use Rattle.dbtg_unit.specs.Database.Statements.Fits.{fits};
 ghost use Rattle.dbtg_run.specs.Running.{IsWhole, Ran};

@@ -1,4 +1,4 @@
-//! What a database comes to when its units are done.
+//! The final state of a database, when its units are done.
 use crate::database::Database;
 use crate::unit::RunUnit;
 use dbtg_schema::{Row, Schema};
@@ -15,13 +15,13 @@ pub struct Settled {
 }
 
 impl Settled {
-    /// Lets go of it, and of its memory. Other crates end one by this, so that they need not prove what it is to drop its parts.
+    /// Drops it. Other crates call this, so that they need not prove that its parts can be dropped.
     pub fn discard(self) {
         drop(self)
     }
 }
 
-/// Why a database isn't settled.
+/// Why a database is not settled.
 #[derive(Clone, Copy, Debug, PartialEq, Eq)]
 pub enum Fault {
     /// Fewer units came than it was made with.
@@ -30,7 +30,7 @@ pub enum Fault {
     NoMemory,
 }
 
-/// A database that isn't settled, and the units that came, as they were handed in.
+/// A database that is not settled, and the units that came, as they were handed in.
 #[derive(Drop)]
 pub struct Unsettled {
     pub fault: Fault,
@@ -39,8 +39,8 @@ pub struct Unsettled {
 }
 
 impl Unsettled {
-    /// Lets go of the database and its units, and of their memory. Other crates end them by this, so that they need not prove what it
-    /// is to drop their parts.
+    /// Drops the database and its units. Other crates call this, so that they need not prove that their parts can
+    /// be dropped.
     pub fn discard(self) {
         drop(self)
     }

@@ -4,14 +4,14 @@ ghost use Rattle.dbtg_cells.specs.declared.cell.Cell.{Cell};
 ghost use Rattle.dbtg_cells.specs.declared.name.CellName.{CellName};
 ghost use Rattle.dbtg_cells.specs.CellNumbers.{cell_number};
 ghost use Rattle.dbtg_unit.specs.declared.held.Need.{Need};
-ghost use Rattle.dbtg_unit.specs.declared.held.Need.TheVariants.{Take};
+ghost use Rattle.dbtg_unit.specs.declared.held.Need.TheVariants.{Stale, Take};
 ghost use Rattle.dbtg_unit.specs.Database.State.Base.{Database as Db};
 ghost use Rattle.dbtg_unit.specs.Hands.EditsOf.{is_delete};
 ghost use Rattle.dbtg_unit.specs.Database.Statements.Fits.{fits};
-ghost use Rattle.dbtg_unit.specs.Hands.Guesses.{with_owners};
 ghost use Rattle.dbtg_unit.specs.Hands.Local.{Agrees};
 ghost use Rattle.dbtg_unit.specs.Hands.Making.{IsReady};
 ghost use Rattle.dbtg_unit.specs.Hands.Needs.{need};
+ghost use Rattle.dbtg_step.specs.Machine.Network.{noted_owners};
 ghost use Rattle.dbtg_step.specs.Inside.Courses.{HasMore};
 ghost use Rattle.dbtg_step.specs.Inside.Events.{HaveRings};
 ghost use Rattle.dbtg_run.specs.Inside.Posed.{HoldsSo, turns_left};
@@ -26,8 +26,8 @@ use crate::tries::Tries;
 use crate::work::Work;
 use dbtg_cells::{CellName, cell_number};
 use dbtg_schema::AreaNo;
-use dbtg_step::{Course, next_need};
-use dbtg_unit::{Need, Owners, Statement, with_true_owners};
+use dbtg_step::{Course, next_need, true_guesses};
+use dbtg_unit::{Need, Owners, Statement};
 use std::alloc::{AllocError, Global};
 
 fn is_delete(statement: &Statement) -> bool
@@ -42,7 +42,7 @@ fn is_ready(wanted: &Need) -> bool
     matches!(wanted, Need::Ready)
 }
 
-// Forgets what is settled of the needs.
+// Forgets what is settled about the needs.
 fn forget(course: &mut Option<Course>)
     ensures { course.new ≡ None }
 {
@@ -50,7 +50,7 @@ fn forget(course: &mut Option<Course>)
 }
 
 impl Work {
-    // Takes an area beside others that share it. False where another unit has it alone, or changed its word meanwhile.
+    // Takes an area beside others that share it. False if another unit has it alone, or changed its word meanwhile.
     fn take_shared(&mut self, db: &Database, area: AreaNo) -> Result<bool, AllocError>
         requires belongs { Belongs db.now self.old }
         requires work { IsAtWork self.old }
@@ -80,7 +80,7 @@ impl Work {
         Ok(true)
     }
 
-    // Takes an area for itself. False where another unit has it.
+    // Takes an area alone. False if another unit has it.
     fn take_alone(&mut self, db: &Database, area: AreaNo) -> Result<bool, AllocError>
         requires belongs { Belongs db.now self.old }
         requires work { IsAtWork self.old }
@@ -108,7 +108,7 @@ impl Work {
         Ok(true)
     }
 
-    // Takes an area. False where another unit is in the way.
+    // Takes an area. False if another unit is in the way.
     fn take_area(
         &mut self,
         db: &Database,
@@ -132,7 +132,7 @@ impl Work {
         }
     }
 
-    // Takes the cell of this number. False where another unit has it.
+    // Takes the cell with this number. False if another unit has it.
     fn take_cell(
         &mut self,
         db: &Database,
@@ -152,7 +152,7 @@ impl Work {
         ensures err { OnErr result (self.new.held ≡ self.old.held) }
         ensures alone { self.old.about.units ≡ 1 → IfOk result (λ b. b ≡ true) }
     {
-        // Only the contract names the statement.
+        // Unused here; the contract mentions it.
         let _ = statement;
         let word = 1 + db.schema.areas().len() + number;
         let board = &db.board.shared;
@@ -175,20 +175,36 @@ impl Work {
     }
 
     // Other guesses.
-    fn guess(&mut self, owners: Owners)
-        requires count { length owners ≡ length self.old.about.schema.value.sets }
-        requires rings { HaveRings self.old.about.schema.value self.old.about.capacity (with_owners self.old.held.guesses owners) }
+    fn guess(&mut self, guesses: Owners)
+        requires count { length guesses ≡ length self.old.about.schema.value.sets }
+        requires rings { HaveRings self.old.about.schema.value self.old.about.capacity guesses }
         requires work { IsAtWork self.old }
         ensures same { IsSameUnit self.old self.new }
         ensures work { IsAtWork self.new }
         ensures exclusive { self.new.exclusive ≡ self.old.exclusive }
-        ensures held { self.new.held ≡ record self.old.held { guesses = with_owners self.old.held.guesses owners } }
+        ensures held { self.new.held ≡ record self.old.held { guesses = guesses } }
     {
-        let guesses = with_true_owners(self.held.guesses(), owners);
         self.held.set_guesses(guesses);
     }
 
-    // Meets a need. False where the look at it was in vain.
+    // Turns back: the cells go home, and the true owners are noted.
+    fn turn_back(&mut self, db: &Database, statement: &Statement)
+        requires belongs { Belongs db.now self.old }
+        requires work { IsAtWork self.old }
+        requires fits { fits self.old.about.schema.value statement.now ≡ true }
+        requires stale { (d : Db) → Agrees self.old.about.schema.value self.old.about.capacity d self.old.held self.old.unit → Stale ≡ need self.old.about.schema.value self.old.about.capacity d self.old.unit self.old.held statement.now }
+        ensures same { IsSameUnit self.old self.new }
+        ensures work { IsAtWork self.new }
+        ensures exclusive { self.new.exclusive ≡ self.old.exclusive }
+        ensures turned { IsVain Stale self.old.held self.new.held }
+        ensures noted { (d : Db) → Agrees self.old.about.schema.value self.old.about.capacity d self.old.held self.old.unit → self.new.held.guesses ≡ noted_owners self.old.about.schema.value self.old.about.capacity d self.old.unit statement.now self.old.held.guesses }
+    {
+        let guesses = true_guesses(&db.schema, &self.unit, statement, &self.held);
+        self.put_cells(db);
+        self.guess(guesses);
+    }
+
+    // Meets a need. False if the look at it was in vain.
     fn meet(
         &mut self,
         db: &Database,
@@ -206,6 +222,7 @@ impl Work {
         ensures work { IsAtWork self.new }
         ensures so { IfOk result (λ _. HoldsSo exclusive self.new.exclusive self.new.held) }
         ensures vain { IfOk result (λ b. b ≡ false → IsVain wanted self.old.held self.new.held) }
+        ensures noted { (d : Db) → wanted ≡ Stale → Agrees self.old.about.schema.value self.old.about.capacity d self.old.held self.old.unit → self.new.held.guesses ≡ noted_owners self.old.about.schema.value self.old.about.capacity d self.old.unit statement.now self.old.held.guesses }
         ensures more { IfOk result (λ b. b ≡ true → HasMore self.old.held self.new.held) }
         ensures nearer { IfOk result (λ b. b ≡ true → (tries : ℕ) → turns_left self.new.about tries self.new.held < turns_left self.old.about tries self.old.held) }
         ensures alone { self.old.about.units ≡ 1 → IfOk result (λ b. KnowsBetter statement.now self.old self.new b) }
@@ -217,15 +234,14 @@ impl Work {
                 Some(number) => self.take_cell(db, statement, name, number),
                 None => unreachable!(),
             },
-            Need::Stale(owners) => {
-                self.put_cells(db);
-                self.guess(owners);
+            Need::Stale => {
+                self.turn_back(db, statement);
                 Ok(false)
             }
         }
     }
 
-    // Takes all that the statement needs, and keeps what is settled of its needs. False where the tries are used up.
+    // Takes everything that the statement needs, and keeps what is settled about its needs. False if the tries are used up.
     fn gather_along(
         &mut self,
         alloc: Global,
@@ -275,7 +291,7 @@ impl Work {
         }
     }
 
-    // Takes all that the statement needs. False where the tries are used up.
+    // Takes everything that the statement needs. False if the tries are used up.
     pub(crate) fn gather(
         &mut self,
         alloc: Global,

@@ -89,7 +89,7 @@ fn run_all<R: Threads + Wait + Sync, G: Gate + Sync>(
 }
 
 /// Each unit makes the statements of the script at its place among the scripts, on a thread of its own, and insists on each; then
-/// the database is settled. Scripts for which there is no unit are not made. The gate is passed as by `execute_at`, by all threads.
+/// the database is settled. Scripts without a unit are not made. The gate is passed as by `execute_at`, by all threads.
 /// If a unit is missing, nothing is made. If memory is refused to a unit, that unit stops before the statement and the others finish
 /// their scripts; the database and all units come back as they then are. The same happens if `settle` finds no memory.
 pub fn run_units<R: Threads + Wait + Sync, G: Gate + Sync>(

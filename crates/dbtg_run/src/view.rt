@@ -23,9 +23,9 @@ pub struct SeatUnit {
     pub held: [(CellName, Cell); 0],
 }
 
-/// What a seat knows: the units that sit there.
+/// The knowledge of a seat: the units that sit there.
 pub struct SeatKnowledge {
-    /// False in what a join leaves.
+    /// False in what is left after a join.
     pub live: bool,
     pub about: About,
     pub members: [SeatUnit; 0],

@@ -1,4 +1,4 @@
-//! A unit at work: what it is, its entries, what it has in hand, and its seat at the table.
+//! A unit at work: what it is, its entries, what it holds, and its seat at the table.
 ghost use Rattle.std.specs.Prelude.{◌≡◌};
 ghost use Rattle.dbtg_run.specs.Inside.Posed.{posed, AreInside};
 
@@ -6,7 +6,7 @@ use crate::rule::Chair;
 use crate::view::About;
 use dbtg_unit::{Entry, Held, Unit};
 
-/// A unit that makes statements. Its seat knows just what the other fields say, and the slots of the cells in its hands
+/// A unit that makes statements. Its seat knows exactly what the other fields say, and the slots of the cells that it holds
 /// are empty.
 #[derive(Drop)]
 pub struct Work {

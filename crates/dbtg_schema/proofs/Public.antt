@@ -16,11 +16,11 @@ pub use Rattle.dbtg_schema.proofs.Forms.OneWay.{words_of}
 pub use Rattle.dbtg_schema.proofs.Forms.OneWay.{is_told}
 -- so each of these words comes before the other
 pub use Rattle.dbtg_schema.proofs.Forms.Chosen.{Ranked, ranked}
--- that is so behind each start, too
+-- that is so after each start, too
 pub use Rattle.dbtg_schema.proofs.Forms.Chosen.{ranked_rest}
 -- the starts are then in order
 pub use Rattle.dbtg_schema.proofs.Forms.Chosen.{InOrder, in_order}
--- a start that a word fits is the one that is found for it, or comes behind it
+-- a start that a word fits is the one that is found for it, or comes after it
 pub use Rattle.dbtg_schema.proofs.Forms.Chosen.{chosen}
 -- a form that derives the empty list of words may end
 pub use Rattle.dbtg_schema.proofs.Forms.Wanted.{ended as may_stop}
@@ -32,7 +32,7 @@ pub use Rattle.dbtg_schema.proofs.Forms.Wanted.{no_way_on}
 pub use Rattle.dbtg_schema.proofs.Forms.Derived.{derives_nothing}
 -- a start that is found for a word is among the starts, and the word fits it
 pub use Rattle.dbtg_schema.proofs.Forms.Derived.{start_found}
--- a word that fits a start, with what is derived by its rest behind it, is derived by the form
+-- a word that fits a start, with what is derived by its rest after it, is derived by the form
 pub use Rattle.dbtg_schema.proofs.Forms.Derived.{starts_derive}
 -- a list without a first is empty
 pub use Rattle.dbtg_schema.proofs.Forms.Firsts.{none_at_all}
@@ -42,7 +42,7 @@ pub use Rattle.dbtg_schema.proofs.Forms.OneReading.{not_true}
 
 -- a name compares alike with itself
 pub use Rattle.dbtg_schema.proofs.Sound.Distinct.{bytes_same}
--- names that differ still do with one behind them that is not among them
+-- names that differ still do with one after them that is not among them
 pub use Rattle.dbtg_schema.proofs.Sound.Distinct.{distinct_behind}
 -- a name is in two lists joined just where it is in one of them
 pub use Rattle.dbtg_schema.proofs.Sound.Distinct.{name_among_append}
@@ -74,5 +74,5 @@ pub use Rattle.dbtg_schema.proofs.Options.{some_is}
 
 -- the first place in a list with one more at its end
 pub use Rattle.dbtg_schema.proofs.Known.Positions.{position_more}
--- what is found among entries with one more behind them
+-- what is found among entries with one more after them
 pub use Rattle.dbtg_schema.proofs.Known.NameIndexes.{lookup_more}

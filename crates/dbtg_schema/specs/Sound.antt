@@ -1,4 +1,4 @@
--- How the parts of a schema that is read fit together, beyond the limits and ranges that its type keeps.
+-- How the parts of a schema that was read fit together, beyond the limits and ranges that its type guarantees.
 use Rattle.std.specs.Prelude.{◌≡◌, true, false, ◌==◌, ◌++◌, map, is_some, IfSome}
 use Rattle.std.specs.List.{list_any, All}
 use Rattle.std.specs.Str.{bytes_eq}
@@ -12,7 +12,7 @@ pub record IsSoundType (r : RecordType) : Type 0 where
   pub item_names : distinct bytes_eq (map (λ i. i.name) r.items) ≡ true
   pub calc_once : IfSome r.calc (λ c. distinct same_number c.items ≡ true)
 
--- an owner that is no member, members that differ, and keys exactly in a sorted set, all of one picture
+-- an owner that is not a member, members that differ, and keys exactly in a sorted set, all with the same picture
 pub record IsSoundSet (schema : Lists) (set : SetType) : Type 0 where
   pub members_once : distinct same_number (map (λ m. m.rtype) set.members) ≡ true
   pub owner_is_no_member : IfSome set.owner (λ o. list_any (λ m. m.rtype == o) set.members ≡ false)

@@ -1,4 +1,4 @@
--- What each schema that is read keeps to: the limits, and how its parts fit together.
+-- What each schema that was read satisfies: the limits, and how its parts fit together.
 use Rattle.std.specs.Prelude.{ℕ, ◌<◌, ◌≤◌, Bool, true, false, not, ◌&&◌, ◌==◌, List, [], ◌∷◌, Option, IfSome, length, option_and_then}
 use Rattle.std.specs.List.{list_any, All}
 use Rattle.dbtg_schema.specs.declared.limits.TheConstants.{MOST_AREAS, MOST_CALC_ITEMS, MOST_DIGITS, MOST_ITEMS, MOST_MEMBERS, MOST_RECORD_TYPES, MOST_SETS, MOST_TEXT_BYTES}
@@ -13,12 +13,12 @@ use Rattle.dbtg_schema.specs.declared.shape.SetType.{SetType}
 use Rattle.dbtg_schema.specs.declared.shape.Order.{Order}
 use Rattle.dbtg_schema.specs.declared.shape.Order.TheVariants.{Sorted}
 
--- no element is the same as a later one
+-- no element equals a later one
 abbrev pub distinct : {X : Type 0} → (X → X → Bool) → List X → Bool
 distinct same [] = true
 distinct same (x ∷ xs) = not (list_any (same x) xs) && distinct same xs
 
--- two numbers are one
+-- two numbers are equal
 abbrev pub same_number : ℕ → ℕ → Bool
 same_number m n = m == n
 

@@ -1,4 +1,4 @@
-//! The grammar of a schema text as an automaton: in each state the words that are wanted.
+//! The grammar of a schema text as an automaton: each state has the words that may come next.
 
 ghost use Rattle.dbtg_schema.specs.Texts.Forms.{may_end, start_with, starts};
 ghost use Rattle.dbtg_schema.specs.Texts.SchemaGrammar.{fits};
@@ -103,7 +103,7 @@ impl Keyword {
     }
 }
 
-/// What a word that is wanted has to be.
+/// What a word must be to fit the grammar.
 #[derive(Clone, Copy)]
 pub enum Kind {
     Key(Keyword),
@@ -111,7 +111,7 @@ pub enum Kind {
     Picture,
 }
 
-/// A word that is wanted, its role, and the state behind it.
+/// A word that the grammar wants, its role, and the state after it.
 #[derive(Clone, Copy)]
 pub struct Start {
     pub kind: Kind,
@@ -177,7 +177,7 @@ pub enum State {
     MemberPeriod,
 }
 
-/// A row of the table: the kind of the word, its role, and the state behind it.
+/// A row of the table: the kind of the word, its role, and the state after it.
 macro_rules! start {
     ($kind:ident $(($word:expr))?, $role:ident, $next:ident) => {
         Start {
@@ -189,7 +189,7 @@ macro_rules! start {
 }
 
 impl State {
-    /// The words that are wanted here.
+    /// The words that may come next.
     pub fn wants(self) -> &'static [Start]
         ensures { view_starts result.now ≡ starts (rest_of self) }
     {
@@ -325,7 +325,7 @@ impl Kind {
     }
 }
 
-/// The way in which this word begins what is wanted.
+/// Which of the wanted words this word is, if it is one.
 pub fn follow(state: State, word: Word) -> Option<Start>
     ensures { option_map view_start result ≡ start_with fits (view word.entry) (starts (rest_of state)) }
 {

@@ -42,7 +42,7 @@ pub fn areas(alloc: Global, words: &[Labelled]) -> Result<Vec<Area>, AllocError>
     Ok(out)
 }
 
-/// The item whose words these are.
+/// The item that these words describe.
 fn item(alloc: Global, entry: &[Labelled]) -> Result<Item, AllocError>
     ensures { IfOk result (λ i. i ≡ item_from (views entry.now)) }
 {
@@ -51,7 +51,7 @@ fn item(alloc: Global, entry: &[Labelled]) -> Result<Item, AllocError>
     Ok(Item { name, picture })
 }
 
-/// The items of the record type whose words these are.
+/// The items of the record type that these words describe.
 fn items(alloc: Global, entry: &[Labelled]) -> Result<Vec<Item>, AllocError>
     ensures { IfOk result (λ v. v.items ≡ items_from (views entry.now)) }
 {
@@ -93,7 +93,7 @@ fn calc(alloc: Global, items: &[Item], entry: &[Labelled]) -> Result<Option<Calc
     }))
 }
 
-/// The record type whose words these are.
+/// The record type that these words describe.
 fn record_type(alloc: Global, areas: &[Area], entry: &[Labelled]) -> Result<RecordType, AllocError>
     requires areas_fit { length areas.now ≤ MOST_AREAS }
     requires items_fit { count_of role.ItemEntry (views entry.now) ≤ MOST_ITEMS }
@@ -156,7 +156,7 @@ fn class(entry: &[Labelled]) -> Class
     }
 }
 
-/// The record types of a schema, whose words in front of the sets these are.
+/// The record types of a schema, from the words before its sets.
 pub fn types(
     alloc: Global,
     areas: &[Area],
@@ -176,7 +176,7 @@ pub fn types(
     Ok(out)
 }
 
-/// The items of the record type of this number.
+/// The items of the record type with this number.
 fn items_at(types: &[RecordType], rtype: RecordNo) -> &[Item]
     requires { All (λ r. length r.items ≤ MOST_ITEMS) types.now }
     ensures items { result.now ≡ items_at types.now rtype }
@@ -200,7 +200,7 @@ fn key(types: &[RecordType], rtype: RecordNo, entry: &[Labelled]) -> Option<Item
     }
 }
 
-/// The member clause whose words these are.
+/// The member clause that these words describe.
 fn member(types: &[RecordType], entry: &[Labelled]) -> Member
     requires types_fit { length types.now ≤ MOST_RECORD_TYPES }
     requires items_fit { All (λ r. length r.items ≤ MOST_ITEMS) types.now }
@@ -243,7 +243,7 @@ fn owner(types: &[RecordType], entry: &[Labelled]) -> Option<RecordNo>
     }
 }
 
-/// The set whose words these are.
+/// The set that these words describe.
 fn set(alloc: Global, types: &[RecordType], entry: &[Labelled]) -> Result<SetType, AllocError>
     requires types_fit { length types.now ≤ MOST_RECORD_TYPES }
     requires items_fit { All (λ r. length r.items ≤ MOST_ITEMS) types.now }

@@ -22,7 +22,7 @@ use crate::queries::{Labelled, any, count, first_named, has_role, is_named, open
 use crate::role::Role;
 use crate::scanner::Word;
 
-/// The first CALC item that the record type hasn't, or that stands there twice.
+/// The first CALC item that is unknown or repeated.
 fn calc_fault(entry: &[Labelled]) -> Option<Fault>
     ensures { result ≡ first (calc_faults (named role.ItemName (views entry.now)) [] (filter (is role.CalcItem) (views entry.now))) }
 {
@@ -47,7 +47,7 @@ fn calc_fault(entry: &[Labelled]) -> Option<Fault>
     None
 }
 
-/// What is wrong at the end of a record type, whose words these are.
+/// The first fault at the end of the record type that these words describe.
 fn record_end(entry: &[Labelled]) -> Option<Fault>
     ensures { result ≡ first (record_end (views entry.now)) }
 {
@@ -152,7 +152,7 @@ fn line_of(words: &[Labelled]) -> u64
     }
 }
 
-/// Has an area, a record type or a set this name?
+/// Does an area, a record type or a set have this name already?
 fn is_taken(words: &[Labelled], text: &[u8]) -> bool
     ensures { result ≡ (among text.now (named role.AreaName (views words.now)) || among text.now (named role.RecordName (views words.now)) || among text.now (named role.SetName (views words.now))) }
 {
@@ -210,7 +210,7 @@ fn said(words: &[Labelled], word: &Labelled) -> Option<Fault>
     }
 }
 
-/// The first fault at a word that the grammar wants, behind these words.
+/// The first fault at a word that the grammar wants, given the words before it.
 #[tactic(auto, using(crate::proofs::Forms::Firsts::first_steps))]
 pub fn at_word(words: &[Labelled], word: &Labelled) -> Option<Fault>
     ensures { result ≡ first (at_word (views words.now) (view_labelled word.now)) }
@@ -316,7 +316,7 @@ pub fn at_other(words: &[Labelled], state: State, word: Word) -> Fault
     }
 }
 
-/// The first set behind VIA that is not there.
+/// The first set after VIA that does not exist.
 fn unknown_via(words: &[Labelled]) -> Option<Fault>
     ensures { result ≡ first (unknown_vias (views words.now) (views words.now)) }
 {

@@ -1,4 +1,4 @@
-//! The sets in which STORE connects a record. They are worked out once for each record type, when a schema is made.
+//! The sets in which STORE connects a record. They are computed once for each record type, when a schema is made.
 
 ghost use Rattle.std.specs.Prelude.{◌≡◌, IfOk};
 ghost use Rattle.dbtg_schema.specs.Inside.Connecting.{connects_in, AreConnecting, AreConnectingOfEach};
@@ -36,7 +36,7 @@ impl SetMarks {
     }
 }
 
-/// Does the member clause of this type, if the set has one, have STORE connect?
+/// Is this type a member of the set for which STORE connects the record?
 pub fn connects_in(schema: &Schema, set: SetNo, rtype: RecordNo) -> bool
     ensures { result ≡ connects_in schema.now set rtype }
 {

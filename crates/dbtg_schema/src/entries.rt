@@ -27,14 +27,14 @@ fn until(words: &[Labelled], role: Role) -> usize
     words.len()
 }
 
-/// The words in front of the first one with this role.
+/// The words before the first one with this role.
 pub fn front<'a, 'b>(words: &'a [Labelled<'b>], role: Role) -> &'a [Labelled<'b>]
     ensures { views result.now ≡ until role (views words.now) }
 {
     &words[..until(words, role)]
 }
 
-/// The words up to the next one with this role, the first apart.
+/// The first word and all that follow it, up to the next word with this role.
 pub fn front_entry<'a, 'b>(words: &'a [Labelled<'b>], role: Role) -> &'a [Labelled<'b>]
     ensures { views result.now ≡ front_entry role (views words.now) }
 {
@@ -44,7 +44,7 @@ pub fn front_entry<'a, 'b>(words: &'a [Labelled<'b>], role: Role) -> &'a [Labell
     }
 }
 
-/// The words of the record type of this name.
+/// The words of the record type with this name.
 pub fn record_named<'a, 'b>(words: &'a [Labelled<'b>], name: &[u8]) -> &'a [Labelled<'b>]
     ensures { views result.now ≡ record_named name.now (entries role.RecordEntry (views words.now)) }
 {
@@ -93,7 +93,7 @@ pub fn unequal(first: Option<Picture>, second: Option<Picture>) -> bool
     }
 }
 
-/// Has a member of the set a key of another picture?
+/// Does a member of the set have a key with a different picture?
 fn differs_from(words: &[Labelled], set: &[Labelled], picture: Option<Picture>) -> bool
     ensures { result ≡ list_any (λ m. unequal (key_picture (views words.now) m) (picture)) (entries role.MemberEntry (views set.now)) }
 {
@@ -108,7 +108,7 @@ fn differs_from(words: &[Labelled], set: &[Labelled], picture: Option<Picture>) 
     false
 }
 
-/// Has a key of the open set another picture than that of the open member?
+/// Does some key of this set have a different picture from this member's key?
 pub fn has_other_key(words: &[Labelled]) -> bool
     ensures { result ≡ has_other_key (views words.now) }
 {

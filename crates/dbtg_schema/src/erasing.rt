@@ -1,4 +1,4 @@
-//! The areas that a DELETE may reach. They are worked out once for each record type, when a schema is made.
+//! The areas that a DELETE may reach. They are computed once for each record type, when a schema is made.
 
 ghost use Rattle.std.specs.Prelude.{◌≡◌, ◌==◌, ◌<◌, ◌≤◌, ◌||◌, ◌&&◌, true, ℕ, IfOk, is_some, nat_lt, length, filter};
 ghost use Rattle.std.specs.List.{list_all, list_any, range_with_len};
@@ -38,7 +38,7 @@ impl AreaSet {
     }
 }
 
-/// Is this number marked? None behind the last mark is.
+/// Is this number marked? Numbers past the last mark are not.
 pub fn is_marked(marks: &[bool], number: u8) -> bool
     ensures { result ≡ marked marks.now number }
 {
@@ -55,7 +55,7 @@ fn leads_by(schema: &Schema, set: SetNo, owner: RecordNo, member: RecordNo) -> b
     schema.owns(set, owner) && schema.member_clause(set, member).is_some()
 }
 
-/// Does one of the schema's sets lead from this owner type to this member type? `sets` is how many it has.
+/// Does one of the schema's sets, of which there are `sets`, lead from this owner type to this member type?
 #[tactic(auto, unfolding(crate::specs::Inside::Erasing::leads_to))]
 fn leads(schema: &Schema, sets: u8, owner: RecordNo, member: RecordNo) -> bool
     requires { sets ≡ length schema.now.sets }
@@ -64,14 +64,14 @@ fn leads(schema: &Schema, sets: u8, owner: RecordNo, member: RecordNo) -> bool
     (0..sets).any(|s| leads_by(schema, SetNo::new(s), owner, member))
 }
 
-/// Is this the home of this set, in which the type is a member?
+/// Is this the home area of this set, and is the type a member of it?
 fn is_home_by(schema: &Schema, set: SetNo, rtype: RecordNo, area: AreaNo) -> bool
     ensures { result ≡ (is_some (member_clause schema.now set rtype) && home schema.now set == area) }
 {
     schema.member_clause(set, rtype).is_some() && schema.home(set).index() == area.index()
 }
 
-/// Is this the home of a set in which the type is a member?
+/// Is this the home area of a set of which the type is a member?
 #[tactic(auto, unfolding(crate::specs::Inside::Erasing::is_home_of))]
 fn is_home_of(schema: &Schema, sets: u8, rtype: RecordNo, area: AreaNo) -> bool
     requires { sets ≡ length schema.now.sets }
@@ -113,7 +113,7 @@ fn touched_by(schema: &Schema, sets: u8, rtype: RecordNo) -> [bool; 16]
     areas
 }
 
-/// What a DELETE goes by, a row of marks for each record type.
+/// What a DELETE depends on: a row of marks for each record type.
 #[derive(Clone, Copy)]
 struct Ways {
     /// The types to which it leads.
@@ -137,7 +137,7 @@ fn ways_of(schema: &Schema) -> Ways
     Ways { leads, touched }
 }
 
-/// Has this row of the table this mark?
+/// Does this row of the table have this mark?
 fn marked_in(table: &[[bool; 16]], row: u8, number: u8) -> bool
     ensures { result ≡ marked_in table.now row number }
 {
@@ -147,7 +147,7 @@ fn marked_in(table: &[[bool; 16]], row: u8, number: u8) -> bool
     }
 }
 
-/// Is this row marked, and has it this mark?
+/// Is this row marked, and does it have this mark?
 fn is_given_by(table: &[[bool; 16]], marks: &[bool], row: u8, number: u8) -> bool
     ensures { result ≡ (marked marks.now row && marked_in table.now row number) }
 {
@@ -162,7 +162,7 @@ fn is_given(table: &[[bool; 16]], rows: u8, marks: &[bool], number: u8) -> bool
     (0..rows).any(|row| is_given_by(table, marks, row, number))
 }
 
-/// The first type, and the types to which a marked type leads.
+/// The first type, and all types to which a marked type leads.
 fn one_step(leads: &[[bool; 16]], types: u8, marks: &[bool], start: RecordNo) -> [bool; 16]
     requires { types ≤ MOST_RECORD_TYPES }
     ensures { (y : ℕ) → y < types → marked result y ≡ (y == start || is_given leads.now types marks.now y) }
@@ -175,8 +175,8 @@ fn one_step(leads: &[[bool; 16]], types: u8, marks: &[bool], start: RecordNo) ->
     next
 }
 
-/// Marks the types that can be reached from this one by going from owner type to member type. A round that changes
-/// nothing is the last.
+/// Marks the types that can be reached from this one by going from owner type to member type, until a round marks
+/// nothing new.
 fn reachable(schema: &Schema, ways: &Ways, types: u8, start: RecordNo) -> [bool; 16]
     requires ways { AreWays schema.now ways.now.leads ways.now.touched }
     requires types { types ≡ length schema.now.types }
@@ -194,7 +194,7 @@ fn reachable(schema: &Schema, ways: &Ways, types: u8, start: RecordNo) -> [bool;
     marks
 }
 
-/// The areas that a DELETE of a record of this type may reach, by going through the types that it may take.
+/// The areas that a DELETE of a record of this type may reach, found by going through the types that it may delete.
 fn areas_reached(schema: &Schema, ways: &Ways, rtype: RecordNo) -> AreaSet
     requires { AreWays schema.now ways.now.leads ways.now.touched }
     ensures { AreErased schema.now rtype result }
@@ -220,7 +220,7 @@ pub fn areas_of_each(alloc: Global, schema: &Schema) -> Result<Row<AreaSet>, All
     Ok(each)
 }
 
-/// The same as `areas_reached`, without the ways. It stands apart, since its tables take room that is cleared at each call.
+/// The same as `areas_reached`. A function of its own, because its tables take room that is cleared at each call.
 #[inline(never)]
 fn areas_reached_now(schema: &Schema, rtype: RecordNo) -> AreaSet
     ensures { AreErased schema.now rtype result }

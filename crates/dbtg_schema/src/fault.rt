@@ -14,11 +14,11 @@ pub enum Cause {
     ByteNotAllowed,
     /// 2: more than 65,536 bytes
     TextTooLong,
-    /// 3: another word, or the end of the text, where the grammar wants something
+    /// 3: another word, or the end of the text, where the grammar wants something else
     UnexpectedWord,
-    /// 4: a word that is no name where a name is wanted
+    /// 4: a word that is not a name where a name is wanted
     NotAName,
-    /// 5: a name that an area, a record type or a set has already
+    /// 5: a name that an area, a record type or a set already has
     NameTaken,
     /// 6: an item name twice in a record type
     ItemNameTwice,
@@ -26,11 +26,11 @@ pub enum Cause {
     UnknownArea,
     /// 8: an unknown record type after OWNER or MEMBER
     UnknownRecordType,
-    /// 9: a CALC or KEY item that the record type hasn't
+    /// 9: a CALC or KEY item that the record type does not have
     UnknownItem,
     /// 10: an unknown set after VIA
     UnknownSet,
-    /// 11: a word that is no picture where one is wanted
+    /// 11: a word that is not a picture where one is wanted
     NotAPicture,
     /// 12: the owner type is the member type
     OwnerIsMember,
@@ -86,10 +86,10 @@ pub struct Fault {
 /// Why no schema was read.
 #[derive(Debug, Drop, Error)]
 pub enum SchemaFault {
-    /// The text has a fault; this is its first.
+    /// The first fault of the text.
     #[error("schema fault {} line {line}", .cause.number())]
     Refused { line: u64, cause: Cause },
-    /// A growth was refused before a fault was met.
+    /// Memory was refused before a fault was met.
     #[error("want of memory")]
     Memory,
 }

@@ -1,11 +1,11 @@
-//! From names to numbers, by a walk: while a schema is built from its text, its lists have no index yet.
+//! From names to numbers by a linear search: while a schema is built from its text, its lists have no index yet.
 
 ghost use Rattle.std.specs.Prelude.{◌≡◌, ◌≤◌, length, map};
 ghost use Rattle.dbtg_schema.specs.Structure.{place_of};
 
 use crate::shape::{Area, Item, RecordType, SetType};
 
-/// What has a name.
+/// Something with a name.
 pub trait HasName {
     ghost use Rattle.std.specs.Prelude.{ℕ, List};
 
@@ -48,7 +48,7 @@ impl HasName for Item {
     }
 }
 
-/// The number of the first of these that has this name.
+/// The number of the first of these with this name.
 pub fn find_name<T: HasName>(things: &[T], name: &[u8]) -> Option<u8>
     requires { length things.now ≤ 256 }
     ensures { result ≡ place_of name.now (map T.name_of things.now) }

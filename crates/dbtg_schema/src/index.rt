@@ -1,4 +1,4 @@
-//! From names to numbers, at once: the indexes of a schema that is read. Of equal names the first counts.
+//! From names to numbers by an index: for schemas that have been read. If names are equal, the first counts.
 
 ghost use Rattle.std.specs.Prelude.{◌≡◌, ◌≤◌, List, ℕ, Some, None, cond, length, map, option_and_then, slice_get, IfOk, OnOk};
 ghost use Rattle.std.specs.List.{All};
@@ -14,7 +14,7 @@ use crate::shape::{Area, RecordType, SetType};
 use indexmap::IndexMap;
 use std::alloc::{AllocError, Global};
 
-/// Leads from each name of a list to where it first stands.
+/// Maps each name of a list to its first place.
 #[derive(Drop)]
 pub struct NameIndex {
     numbers: IndexMap<Vec<u8>, u8>,
@@ -35,7 +35,7 @@ impl NameIndex {
         Ok(index)
     }
 
-    /// Leads from this name to this number, if it led nowhere.
+    /// Maps this name to this number, unless it has one already.
     fn enter(&mut self, alloc: Global, name: &[u8], number: u8) -> Result<(), AllocError>
         ensures { OnOk result ((q : List ℕ) → leads_to self.new q ≡ option_or (leads_to self.old q) (cond (bytes_eq q name.now) (Some number) None)) }
     {
@@ -46,7 +46,7 @@ impl NameIndex {
         Ok(())
     }
 
-    /// The number of this name.
+    /// The number with this name.
     pub fn number(&self, name: &[u8]) -> Option<u8>
         ensures { result ≡ leads_to self.now name.now }
     {
@@ -54,7 +54,7 @@ impl NameIndex {
     }
 }
 
-/// An index for the items of each record type.
+/// An index of the items of each record type.
 fn item_indexes(alloc: Global, types: &[RecordType]) -> Result<Vec<NameIndex>, AllocError>
     requires { All (λ r. length r.items ≤ MOST_ITEMS) types.now }
     ensures { IfOk result (λ v. AreItemIndexes v.items types.now) }
@@ -101,28 +101,28 @@ impl SchemaIndex {
         })
     }
 
-    /// The number of the area of this name.
+    /// The number of the area with this name.
     pub fn area(&self, name: &[u8]) -> Option<AreaNo>
         ensures { result ≡ leads_to self.now.areas name.now }
     {
         self.areas.number(name).map(AreaNo::new)
     }
 
-    /// The number of the record type of this name.
+    /// The number of the record type with this name.
     pub fn rtype(&self, name: &[u8]) -> Option<RecordNo>
         ensures { result ≡ leads_to self.now.types name.now }
     {
         self.types.number(name).map(RecordNo::new)
     }
 
-    /// The number of the set of this name.
+    /// The number of the set with this name.
     pub fn set(&self, name: &[u8]) -> Option<SetNo>
         ensures { result ≡ leads_to self.now.sets name.now }
     {
         self.sets.number(name).map(SetNo::new)
     }
 
-    /// The number of the item of this name in a record type.
+    /// The number of the item with this name in a record type.
     pub fn item(&self, rtype: RecordNo, name: &[u8]) -> Option<ItemNo>
         ensures { result ≡ option_and_then (λ index. leads_to index name.now) (slice_get self.now.items rtype) }
     {

@@ -4,7 +4,7 @@ ghost use Rattle.dbtg_schema.specs.Texts.Spelling.{among, is_capital, is_digit, 
 ghost use Rattle.std.specs.Prelude.{◌≡◌, ◌==◌, ◌-◌, ◌<◌, ℕ, length, map, slice_index};
 ghost use Rattle.std.specs.List.{list_all};
 
-/// The words that are no names.
+/// Reserved words, which cannot be names.
 const RESERVED: [&str; 63] = [
     "SCHEMA",
     "NAME",

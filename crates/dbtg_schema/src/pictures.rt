@@ -1,4 +1,4 @@
-//! Pictures, as they are spelled.
+//! The spelling of pictures.
 
 ghost use Rattle.dbtg_schema.specs.Texts.Spelling.{in_parentheses, is_digit, of_size, spelled_picture};
 ghost use Rattle.std.specs.Prelude.{◌≡◌, ◌==◌, ◌+◌, ◌<◌, ◌≤◌, ◌^◌, ℕ, length, option_map, IfSome};

@@ -1,4 +1,4 @@
-//! What the words of a schema text say, by their roles.
+//! What the words of a schema text say, found by their roles.
 
 ghost use Rattle.dbtg_schema.specs.Texts.Spelling.{among};
 ghost use Rattle.dbtg_schema.specs.Texts.Labels.{count_of, first_named, is, named, since};
@@ -49,7 +49,7 @@ pub fn count(words: &[Labelled], role: Role) -> usize
     n
 }
 
-/// Has a word with this role this text?
+/// Does a word with this role have this text?
 pub fn is_named(words: &[Labelled], role: Role, text: &[u8]) -> bool
     ensures { result ≡ among text.now (named role (views words.now)) }
 {
@@ -63,7 +63,7 @@ pub fn is_named(words: &[Labelled], role: Role, text: &[u8]) -> bool
     false
 }
 
-/// From the last word with this role on.
+/// The words from the last one with this role on.
 pub fn since<'a, 'b>(words: &'a [Labelled<'b>], role: Role) -> &'a [Labelled<'b>]
     ensures { views result.now ≡ since role (views words.now) }
 {
@@ -88,7 +88,7 @@ pub fn first_named<'a>(words: &[Labelled<'a>], role: Role) -> &'a [u8]
     b""
 }
 
-/// The record type that is still open.
+/// The record type that is still being declared.
 pub fn open_record<'a, 'b>(words: &'a [Labelled<'b>]) -> &'a [Labelled<'b>]
     ensures { views result.now ≡ open_record (views words.now) }
 {

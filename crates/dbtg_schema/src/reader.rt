@@ -42,7 +42,7 @@ fn last_line(text: &[u8]) -> u64
     line
 }
 
-/// Takes the next word: the state behind it, or the fault that the word is.
+/// Takes the next word: gives the state after it, or the fault at it.
 fn take<'a>(
     words: &mut Vec<Labelled<'a>>,
     state: State,

@@ -11,7 +11,7 @@ pub struct Word<'a> {
     pub line: u64,
 }
 
-/// What is left of a text, and the line on which that begins.
+/// The rest of a text, and the line on which it begins.
 #[derive(Clone, Copy)]
 pub struct Scanner<'a> {
     pub rest: &'a [u8],

@@ -49,9 +49,9 @@ pub struct Schema {
     index: SchemaIndex,
     /// For each record type: the sets in which STORE connects its records, and those that it owns.
     sets_of_types: Row<SetsOfType>,
-    /// For each record type: the sets in which STORE connects its records. Empty while they are worked out.
+    /// For each record type: the sets in which STORE connects its records. Empty until they are computed.
     connecting: Row<SetMarks>,
-    /// For each record type: the areas that a DELETE may reach. Empty while they are worked out.
+    /// For each record type: the areas that a DELETE may reach. Empty until they are computed.
     erased: Row<AreaSet>,
 }
 
@@ -72,7 +72,7 @@ impl Model for Schema {
     ghost invariant = { λ a. IsSchema (record { name = a.name; areas = a.areas; types = a.types; sets = a.sets }) × IsSchemaIndex a.index a.areas a.types a.sets × AreErasedOfEach a.erased (record { name = a.name; areas = a.areas; types = a.types; sets = a.sets }) × AreConnectingOfEach a.connecting (record { name = a.name; areas = a.areas; types = a.types; sets = a.sets }) × AreSetsOfEach a.sets_of_types (length a.types) a.sets };
 }
 
-/// Works out the sets in which STORE connects.
+/// Computes the sets in which STORE connects.
 fn work_out_connecting(alloc: Global, schema: &mut Schema) -> Result<(), AllocError>
     ensures { schema.new ≡ schema.old }
 {
@@ -81,7 +81,7 @@ fn work_out_connecting(alloc: Global, schema: &mut Schema) -> Result<(), AllocEr
     Ok(())
 }
 
-/// Works out the areas of the schema's deletions.
+/// Computes the areas of the schema's deletions.
 fn work_out_erased(alloc: Global, schema: &mut Schema) -> Result<(), AllocError>
     ensures { schema.new ≡ schema.old }
 {
@@ -90,7 +90,7 @@ fn work_out_erased(alloc: Global, schema: &mut Schema) -> Result<(), AllocError>
     Ok(())
 }
 
-/// Works out the sets in which STORE connects and the areas of the schema's deletions.
+/// Computes the sets in which STORE connects and the areas of the schema's deletions.
 fn work_out(alloc: Global, schema: &mut Schema) -> Result<(), AllocError>
     ensures { schema.new ≡ schema.old }
 {
@@ -98,7 +98,7 @@ fn work_out(alloc: Global, schema: &mut Schema) -> Result<(), AllocError>
     work_out_erased(alloc, schema)
 }
 
-/// The schema, with all that is worked out of it.
+/// The schema, with all that is computed from it.
 fn worked_out(alloc: Global, schema: Schema) -> Result<Schema, AllocError>
     ensures { IfOk result (λ s. s ≡ schema) }
 {
@@ -112,7 +112,7 @@ fn worked_out(alloc: Global, schema: Schema) -> Result<Schema, AllocError>
     }
 }
 
-/// What is looked up in a schema's lists: the numbers of its names, and the sets of each record type.
+/// The look-up tables of a schema's lists: the numbers of its names, and the sets of each record type.
 fn look_ups(
     alloc: Global,
     areas: &[Area],
@@ -149,7 +149,7 @@ fn copy_sets(sets: &Row<SetType>) -> Result<Row<SetType>, AllocError>
     sets.clone()
 }
 
-/// The schema of these lists, with the indexes of its names and what is worked out of it.
+/// The schema with these lists, with the indexes of its names and what is computed from it.
 fn of_lists(
     alloc: Global,
     name: Row<u8>,
@@ -179,7 +179,7 @@ fn of_lists(
     worked_out(alloc, schema)
 }
 
-/// The schema whose words these are.
+/// The schema that these words describe.
 fn from_words(alloc: Global, words: &[Labelled]) -> Result<Schema, AllocError>
     requires limits { WithinLimits (views words.now) }
     requires sound { IsSchema (schema_of (views words.now)) }
@@ -221,9 +221,9 @@ pub fn clause_for(members: &[Member], rtype: RecordNo) -> Option<Member>
 }
 
 impl Schema {
-    /// Reads the text of a schema, from left to right. The text may hold any bytes. What is refused is refused for
-    /// its first fault; `Memory` is the answer where a growth was refused before a fault was met, so never for a text
-    /// that is too long, or whose first word is at fault.
+    /// Reads the text of a schema, from left to right. The text may hold any bytes. A text with faults is refused for
+    /// its first fault; `Memory` is given if memory was refused before a fault was met, so never for a text
+    /// that is too long or whose first word is at fault.
     pub fn read(alloc: Global, text: &[u8]) -> Result<Schema, SchemaFault>
         ensures accepted { OnOk result (refusal text.now ≡ None) }
         ensures lists { IfOk result (λ s. s ≡ schema_of (labels fits schema (text_words text.now))) }
@@ -265,7 +265,7 @@ impl Schema {
         self.sets.as_slice()
     }
 
-    /// The sets in which STORE connects a record of this type, where they are worked out.
+    /// The sets in which STORE connects a record of this type, once they are computed.
     fn connecting_known(&self, rtype: RecordNo) -> Option<SetMarks>
         ensures { IfSome result (λ sets. AreConnecting self.now rtype sets) }
     {
@@ -275,7 +275,7 @@ impl Schema {
         }
     }
 
-    /// The areas that a DELETE of a record of this type may reach, where they are worked out.
+    /// The areas that a DELETE of a record of this type may reach, once they are computed.
     pub(crate) fn areas_known(&self, rtype: RecordNo) -> Option<AreaSet>
         ensures { IfSome result (λ areas. AreErased self.now rtype areas) }
     {
@@ -285,36 +285,36 @@ impl Schema {
         }
     }
 
-    /// What every schema keeps to: its limits, and that its numbers are in range.
+    /// What every schema satisfies: its limits, and that its numbers are in range.
     pub fn is_well_formed(&self)
         ensures { IsSchema self.now }
     {
-        // The invariant says it.
+        // The invariant says so.
         let _ = &self.name;
     }
 
-    /// The number of the area of this name.
+    /// The number of the area with this name.
     pub fn area(&self, name: &[u8]) -> Option<AreaNo>
         ensures { result ≡ place_of name.now (map (λ a. a.name) self.now.areas) }
     {
         self.index.area(name)
     }
 
-    /// The number of the record type of this name.
+    /// The number of the record type with this name.
     pub fn rtype(&self, name: &[u8]) -> Option<RecordNo>
         ensures { result ≡ place_of name.now (map (λ r. r.name) self.now.types) }
     {
         self.index.rtype(name)
     }
 
-    /// The number of the set of this name.
+    /// The number of the set with this name.
     pub fn set(&self, name: &[u8]) -> Option<SetNo>
         ensures { result ≡ place_of name.now (map (λ s. s.name) self.now.sets) }
     {
         self.index.set(name)
     }
 
-    /// The number of the item of this name in a record type.
+    /// The number of the item with this name in a record type.
     pub fn item(&self, rtype: RecordNo, name: &[u8]) -> Option<ItemNo>
         ensures { result ≡ place_of name.now (map (λ i. i.name) (item_list self.now rtype)) }
     {
@@ -391,7 +391,7 @@ impl Schema {
         }
     }
 
-    /// Both, where the schema has the record type.
+    /// Both, if the schema has the record type.
     fn sets_of(&self, rtype: RecordNo) -> Option<&SetsOfType>
         ensures listed { IfSome result (λ sets. AreSetsOf self.now rtype sets.now) }
         ensures past { IfNone result (AreSetsOf self.now rtype (record { automatic = []; owned = [] })) }
@@ -399,7 +399,7 @@ impl Schema {
         self.sets_of_types.get(rtype.index() as usize)
     }
 
-    /// The same schema, in memory of its own.
+    /// A copy of the schema.
     pub fn copy(&self, alloc: Global) -> Result<Schema, AllocError>
         ensures { IfOk result (λ s. s ≡ self.now) }
     {
@@ -410,19 +410,19 @@ impl Schema {
         of_lists(alloc, name, areas, types, sets)
     }
 
-    /// Lets go of the schema, and of its memory. Other crates end one by this, so that they need not prove what it is to drop its parts.
+    /// Drops the schema. Other crates call this, so that they need not prove that its parts can be dropped.
     pub fn discard(self) {
         drop(self)
     }
 
-    /// The record type of this number, if there is one.
+    /// The record type with this number, if there is one.
     pub fn record_type(&self, rtype: RecordNo) -> Option<&RecordType>
         ensures { option_map (λ r. r.now) result ≡ slice_get self.now.types rtype }
     {
         self.types.get(rtype.index() as usize)
     }
 
-    /// The set of this number, if there is one.
+    /// The set with this number, if there is one.
     pub fn set_type(&self, set: SetNo) -> Option<&SetType>
         ensures { option_map (λ s. s.now) result ≡ slice_get self.now.sets set }
     {
@@ -510,7 +510,7 @@ impl Schema {
         }
     }
 
-    /// The member clause of a record type in a set; none where it is no member type.
+    /// The member clause of a record type in a set; none if it is not a member type.
     pub fn member_clause(&self, set: SetNo, rtype: RecordNo) -> Option<Member>
         ensures { result ≡ member_clause self.now set rtype }
     {

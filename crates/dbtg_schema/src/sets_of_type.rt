@@ -1,5 +1,5 @@
-//! The sets in which a record type has a part. They are found once for each record type, when a schema is made, so that a
-//! statement goes through these alone and not through all sets of the schema.
+//! The sets of which a record type is the owner or a member. They are found once for each record type, when a schema is made, so
+//! that a statement goes through these sets alone.
 
 ghost use Rattle.std.specs.Prelude.{◌≡◌, ◌==◌, ◌≤◌, ◌++◌, ◌∷◌, [], cond, IfOk, OnOk, length};
 ghost use Rattle.std.specs.List.{find};
@@ -17,9 +17,9 @@ use std::alloc::{AllocError, Global};
 /// The sets of one record type, in the order of the schema.
 #[derive(Drop)]
 pub struct SetsOfType {
-    /// Those in which STORE connects its records.
+    /// The sets in which STORE connects its records.
     pub automatic: Row<SetNo>,
-    /// Those that it owns.
+    /// The sets that it owns.
     pub owned: Row<SetNo>,
 }
 
@@ -43,7 +43,7 @@ fn owns(set: &SetType, rtype: RecordNo) -> bool
     }
 }
 
-/// Adds the set to the list where its test has passed.
+/// Appends the set to the list if its test has passed.
 fn list_if(passed: bool, list: &mut Row<SetNo>, set: SetNo) -> Result<(), AllocError>
     ensures { OnOk result (list.new ≡ list.old ++ cond passed (set ∷ []) []) }
 {

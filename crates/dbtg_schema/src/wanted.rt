@@ -1,4 +1,4 @@
-//! What the grammar wants at the word of a schema text that does not fit.
+//! What the grammar wants in place of the word of a schema text that does not fit.
 
 ghost use Rattle.dbtg_schema.specs.Inside.Automaton.{rest_of, view_kind};
 ghost use Rattle.dbtg_schema.specs.Texts.Forms.{left_behind, starts};
@@ -26,7 +26,7 @@ fn name_in_words(role: Role) -> &'static str
     }
 }
 
-/// What can stand in one place.
+/// What can come in one place.
 fn in_words(start: Start) -> &'static str
     ensures { result.now ≡ in_words (view_kind start.kind) start.role }
 {
@@ -38,7 +38,7 @@ fn in_words(start: Start) -> &'static str
     }
 }
 
-/// The words that can stand in this state.
+/// The words that can come in this state.
 fn starts_in_words(alloc: Global, state: State) -> Result<Vec<&'static [u8]>, AllocError>
     ensures { IfOk result (λ list. map (λ thing. thing.now) list.items ≡ map (λ s. in_words s.kind s.role) (starts (rest_of state))) }
 {
@@ -49,7 +49,7 @@ fn starts_in_words(alloc: Global, state: State) -> Result<Vec<&'static [u8]>, Al
     Ok(list)
 }
 
-/// What can stand in this state.
+/// What can come in this state.
 fn things(alloc: Global, state: State) -> Result<Vec<&'static [u8]>, AllocError>
     ensures { IfOk result (λ list. map (λ thing. thing.now) list.items ≡ things (rest_of state)) }
 {
@@ -61,7 +61,7 @@ fn things(alloc: Global, state: State) -> Result<Vec<&'static [u8]>, AllocError>
     Ok(list)
 }
 
-/// The state behind the words of a text that the grammar wants.
+/// The state after the words of a text, as far as the grammar wants them.
 fn stop_in(text: &[u8]) -> State
     requires { length text.now ≤ SCHEMA_BYTES }
     ensures { rest_of result ≡ left_behind fits schema (text_words text.now) }
@@ -79,7 +79,7 @@ fn stop_in(text: &[u8]) -> State
     state
 }
 
-/// What the grammar wants at the first word that it does not want, or at the text's end: words as they are, other things in words. A
+/// What the grammar wants in place of the first word that does not fit, or at the text's end: words as they are, other things described. A
 /// text that is refused for fault 3 has its fault there.
 pub fn wanted_in_schema(alloc: Global, text: &[u8]) -> Result<Vec<&'static [u8]>, AllocError>
     ensures { IfOk result (λ list. map (λ thing. thing.now) list.items ≡ wanted_in_schema text.now) }

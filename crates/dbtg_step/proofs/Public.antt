@@ -112,6 +112,8 @@ pub use Rattle.dbtg_step.proofs.TheCore.DrawnShown.{held_are_due}
 pub use Rattle.dbtg_step.proofs.TheCore.DrawnShown.{versions_next}
 -- what stands at a number of a list is in the list
 pub use Rattle.dbtg_step.proofs.TheCore.EventsShown.{slice_get_in}
+-- after a turn back there is a guess for each set, as there was
+pub use Rattle.dbtg_step.proofs.TheCore.FollowsShown.{noted_length}
 -- some element of a reversed list passes a test just where one of the list does
 pub use Rattle.dbtg_step.proofs.TheCore.NeedsShown.{any_reverse}
 -- what is made of an element is made of the list
@@ -120,8 +122,6 @@ pub use Rattle.dbtg_step.proofs.TheCore.NeedsShown.{in_mapped}
 pub use Rattle.dbtg_step.proofs.TheCore.NeedsShown.{in_reverse}
 -- the order in which areas and cells stand in hand, and what is in the cells, is nothing to the need
 pub use Rattle.dbtg_step.proofs.TheCore.NeedsShown.{need_of_holding}
--- a need that corrects stale guesses has an entry for each set of the schema
-pub use Rattle.dbtg_step.proofs.TheCore.NeedsShown.{need_owners_fit}
 -- what follows from what an Ok has
 pub use Rattle.dbtg_step.proofs.TheCore.NeedsShown.{ok_also}
 -- cells in hand that are distinct have names of which none stands twice

@@ -13,6 +13,7 @@ pub mod ImagesRead
 pub mod NeedsOrdered
 pub mod NeedsRefused
 pub mod NeedsShown
+pub mod NewestFirst
 pub mod OpeningShown
 pub mod PlacesOfCells
 pub mod PositionsShown

@@ -1,6 +1,6 @@
 -- The laws of the machine over the network database of a schema: each event and every run keep a lawful state; the image of a
 -- lawful state is that of its history; no run is stuck; how many events a statement has; a history is never rewritten. Then of
--- scripts that fit: the machine before them is an opening state, every run is sequential, and a serial run is a run. At the end
+-- scripts that fit: the machine before them is in an opening state, every run is sequential, and a serial run is a run. Finally
 -- what statements need: in which order, and that it exists.
 use Rattle.std.specs.Prelude.{ℕ, ◌≡◌, ◌++◌, Bool, true, List, ◌∷◌, Option, Some, map, length}
 use Rattle.std.specs.List.{list_all}
@@ -45,7 +45,7 @@ module _ (schema : Lists) (capacity : ℕ) where
   abbrev pub EachEventKeepsLawful : Type 0
   EachEventKeepsLawful = (opening : SequentialState D) (s t : State D) (m : Move) → Lawful D opening s → transition D opening s m ≡ MovedTo t → Lawful D opening t
 
-  -- every list of moves, with blocked and idle ones and quits in it, leads from an opening state to a lawful state
+  -- every list of moves, including blocked and idle ones and quits, leads from an opening state to a lawful state
   abbrev pub EveryRunIsLawful : Type 0
   EveryRunIsLawful = (opening : SequentialState D) (s : State D) (moves : List Move) → IsOpening D opening s → Lawful D opening (run D opening s moves)
 
@@ -58,7 +58,7 @@ module _ (schema : Lists) (capacity : ℕ) where
   abbrev pub EveryImageIsOfItsHistory : Type 0
   EveryImageIsOfItsHistory = (opening : SequentialState D) (s : State D) → Lawful D opening s → ImageIsOfHistory opening s
 
-  -- after every list of moves, where a unit is in mid-statement some unit's next step is an event
+  -- after every list of moves, if a unit is in mid-statement some unit's next step is an event
   abbrev pub NoRunIsStuck : Type 0
   NoRunIsStuck = (opening : SequentialState D) (s : State D) (moves : List Move) → IsOpening D opening s → IsNotStuck D opening (run D opening s moves)
 
@@ -66,11 +66,11 @@ module _ (schema : Lists) (capacity : ℕ) where
   abbrev pub StatementsHaveTheirEvents : Type 0
   StatementsHaveTheirEvents = (opening : SequentialState D) (s : State D) → EventsAreCounted D opening s
 
-  -- a history is never rewritten: moves put entries behind those that are there
+  -- a history is never rewritten: moves only append entries
   abbrev pub EveryRunExtendsHistory : Type 0
   EveryRunExtendsHistory = (opening : SequentialState D) (s : State D) (moves : List Move) → (more : List (HistoryEntry D)) × ((run D opening s moves).history ≡ s.history ++ more)
 
-  -- where all statements fit, the machine before its scripts is an opening state
+  -- if all statements fit, the machine before its scripts is in an opening state
   abbrev pub MachineIsOpening : Type 0
   MachineIsOpening = (scripts : List (List Statement)) → scripts_fit schema scripts ≡ true → IsOpening D (opening_before scripts) (machine_of schema capacity scripts)
 
@@ -83,7 +83,7 @@ module _ (schema : Lists) (capacity : ℕ) where
       (map (λ state. state.unit) (machine_after schema capacity scripts moves).units)
 
   -- stepping one unit after another comes to an end, with every statement of every script made; this is the run of some moves,
-  -- and a serial run has just the history of it
+  -- and a serial run has the same history
   pub record SerialRunComesTo (scripts : List (List Statement)) : Type 0 where
     pub last : State D
     pub stepped : IsAfterScripts schema capacity scripts last
@@ -98,7 +98,7 @@ module _ (schema : Lists) (capacity : ℕ) where
   abbrev pub EverySerialRunIsARun : Type 0
   EverySerialRunIsARun = (scripts : List (List Statement)) → scripts_fit schema scripts ≡ true → SerialRunComesTo scripts
 
-  -- a cell that a statement needs isn't held, and lies in an area that is held. Where all that is held was taken in turn, an
+  -- a cell that a statement needs is not held, and lies in an area that is held. If everything that is held was taken in turn, an
   -- area that is needed is above all that are held, and no cell is held; and a cell that is needed is above all that are held,
   -- unless the statement is a DELETE
   pub record NeedsAreInOrder : Type 0 where

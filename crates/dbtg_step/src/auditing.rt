@@ -1,4 +1,4 @@
-//! The audit of a history: the statement of each entry is made anew, and its answer compared.
+//! The audit of a history: the statement of each entry is made again, and its answer compared.
 ghost use Rattle.std.specs.Prelude.{◌≡◌, ◌<◌, ◌-◌, ◌==◌, ◌&&◌, [], nat_lt, nat_le, length, slice_get, Some, IfOk, OnErr};
 ghost use Rattle.std.specs.Bool.{Decides, MatchBool};
 ghost use Rattle.dbtg_schema.specs.Sound.{IsSound};
@@ -14,7 +14,7 @@ use dbtg_schema::{Row, Schema};
 use dbtg_unit::{Answer, Entry, Image, Unit};
 use std::alloc::{AllocError, Global};
 
-// Whether the entry may stand at this place of a history: by its ticket, its unit, and whether its statement fits.
+// Whether the entry may be at this place of a history: by its ticket, its unit, and whether its statement fits.
 fn may_stand(schema: &Schema, units: u8, place: usize, entry: &Entry) -> bool
     ensures { result ≡ (entry.now.ticket == place && nat_lt 0 entry.now.unit && nat_le entry.now.unit units && fits schema.now entry.now.statement) }
 {
@@ -24,7 +24,7 @@ fn may_stand(schema: &Schema, units: u8, place: usize, entry: &Entry) -> bool
         & entry.statement.fits(schema)
 }
 
-// Whether the list may be a history, as far as it shows without a database.
+// Whether the list may be a history, as far as this can be seen without a database.
 fn may_be_history(schema: &Schema, units: u8, history: &[Entry]) -> bool
     ensures { Decides result (MayBeHistory schema.now units history.now) }
 {
@@ -81,7 +81,7 @@ fn outcome_of(database: WholeDatabase<'_>) -> Result<Option<(Image, Row<Unit>)>,
     }
 }
 
-// The audit of a history by a database on which nothing was made.
+// The audit of a history by a database on which nothing was made yet.
 fn audit_from(
     alloc: Global,
     mut database: WholeDatabase<'_>,
@@ -107,7 +107,7 @@ fn audit_from(
 /// Whether a list is a history of the sequential database with this number of units, numbered from 1: its tickets are
 /// 0, 1, 2, .. in order, each unit is one of them, the statements fit, and each answer is the sequential database's. Then that
 /// database and its units. Tickets, units and statements are judged before any memory is taken. Then the statements are made
-/// anew, one after another, on a database of its own, up to the first whose answer is not the entry's.
+/// again, one after another, on a database of its own, up to the first whose answer is not the entry's.
 pub fn audit(
     alloc: Global,
     schema: &Schema,

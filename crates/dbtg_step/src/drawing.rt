@@ -1,4 +1,4 @@
-//! The ticket: the statement is made on the cells in hand, and its entry joins the history.
+//! The ticket: the statement is carried out on the cells that are held, and its entry joins the history.
 ghost use Rattle.std.specs.Prelude.{◌≡◌, ℕ, ◌≤◌, ◌<◌, ◌+◌, ◌-◌, ◌^◌, ◌∷◌, ◌++◌, [], true, false, not, length, slice_get, None, Some, IfOk, OnOk, OnErr};
 ghost use Rattle.std.specs.Vec.{vec_capacity};
 ghost use Rattle.dbtg_unit.specs.declared.held.Need.{Need};
@@ -7,7 +7,7 @@ ghost use Rattle.dbtg_unit.specs.Database.State.Base.{Database};
 ghost use Rattle.dbtg_cells.specs.Names.{name_eq};
 ghost use Rattle.dbtg_unit.specs.Database.State.Legal.{pairwise};
 ghost use Rattle.dbtg_unit.specs.Hands.Local.{Agrees};
-ghost use Rattle.dbtg_unit.specs.Hands.Locality.{IsMadeOn, seen};
+ghost use Rattle.dbtg_unit.specs.Hands.Locality.{IsMadeOn, IsMadeOnEach, seen};
 ghost use Rattle.dbtg_unit.specs.Hands.Making.{MayPrepare, ShowsTheSame};
 ghost use Rattle.dbtg_step.specs.declared.parts.Runner.{Runner};
 ghost use Rattle.dbtg_step.specs.Inside.Stands.{StandsNeeding};
@@ -18,10 +18,30 @@ ghost use Rattle.dbtg_step.specs.Inside.Events.{IsStepped, IsWell, NeedsNext};
 use crate::parts::{Parts, Runner, StatementProgress};
 use crate::runner::{close, pass, statement_of};
 use crate::statements::prepare;
-use dbtg_plan::{look, looks_alone};
+use dbtg_plan::{is_made_at_once, make_at_once};
 use dbtg_schema::Schema;
 use dbtg_unit::{Answer, Entry, Held, Statement, Stepped, Unit, finish};
 use std::alloc::{AllocError, Global};
+
+// Apart from `make`, since a plan takes room on the stack that is cleared at the call.
+#[inline(never)]
+fn make_by_plan(
+    alloc: Global,
+    schema: &Schema,
+    capacity: u16,
+    unit: &mut Unit,
+    held: &mut Held,
+    statement: &Statement,
+) -> Result<Answer, AllocError>
+    requires may { MayPrepare schema.now capacity unit.old held.old statement.now }
+    requires agrees { (db : Database) × Agrees schema.now capacity db held.old unit.old }
+    ensures made { IfOk result (λ answer. IsMadeOnEach schema.now capacity unit.old held.old statement.now (seen answer unit.new held.new)) }
+    ensures unit { OnErr result (unit.new ≡ unit.old) }
+    ensures shows { OnErr result (ShowsTheSame held.old held.new) }
+{
+    let prepared = prepare(alloc, schema, capacity, unit, statement, held)?;
+    Ok(finish(schema, prepared, held, unit))
+}
 
 /// Makes the statement on the cells in hand. Where memory is refused, all shows the same.
 pub fn make(
@@ -39,14 +59,14 @@ pub fn make(
     ensures unit { OnErr result (unit.new ≡ unit.old) }
     ensures shows { OnErr result (ShowsTheSame held.old held.new) }
 {
-    if looks_alone(statement) {
-        return look(alloc, schema, capacity, unit, statement, held);
+    if is_made_at_once(statement) {
+        make_at_once(alloc, schema, capacity, unit, statement, held)
+    } else {
+        make_by_plan(alloc, schema, capacity, unit, held, statement)
     }
-    let prepared = prepare(alloc, schema, capacity, unit, statement, held)?;
-    Ok(finish(schema, prepared, held, unit))
 }
 
-/// Makes room for one more entry; there are fewer entries than a list can have.
+/// Makes room for another entry; there are fewer entries than a list can have.
 pub fn make_room(history: &mut Vec<Entry>) -> Result<(), AllocError>
     ensures items { history.new.items ≡ history.old.items }
     ensures room { OnOk result (length history.new.items < vec_capacity history.new) }
@@ -58,7 +78,7 @@ pub fn make_room(history: &mut Vec<Entry>) -> Result<(), AllocError>
     Ok(())
 }
 
-/// The entry of a statement joins the history, with the next ticket, which comes back.
+/// Appends the entry of a statement to the history, with the next ticket, which is returned.
 pub fn enter(history: &mut Vec<Entry>, unit: u8, statement: Statement, answer: Answer) -> u64
     requires room { length history.old.items < vec_capacity history.old }
     ensures history { history.new.items ≡ history.old.items ++ (record { ticket = length history.old.items; unit = unit; statement = statement; answer = answer }) ∷ [] }
@@ -74,7 +94,7 @@ pub fn enter(history: &mut Vec<Entry>, unit: u8, statement: Statement, answer: A
     ticket
 }
 
-/// The statement has this ticket, and the unit goes on behind it.
+/// The statement has this ticket, and the unit goes on after it.
 fn go_on(runner: &mut Runner, progress: StatementProgress, ticket: u64)
     requires { runner.old.next < length runner.old.script }
     ensures { runner.new ≡ record runner.old { next = runner.old.next + 1; progress = progress_while_held runner.old.held.areas runner.old.held.cells (Some (record { exclusive = progress.exclusive; turning_back = false; ticket = Some ticket; linked = 0 })) } }
@@ -89,7 +109,7 @@ fn go_on(runner: &mut Runner, progress: StatementProgress, ticket: u64)
     close(runner);
 }
 
-/// Draws the ticket. Where memory is refused, all shows the same.
+/// Draws the ticket. If memory is refused, nothing visible changes.
 fn draw(
     alloc: Global,
     schema: &Schema,
@@ -107,7 +127,7 @@ fn draw(
     ensures history { OnErr result (history.new.items ≡ history.old.items) }
     ensures unmade { OnErr result (IsUnmade runner.old runner.new) }
 {
-    // With all in hand the course has come to its end.
+    // Everything is held, so the progress of the needs is no longer needed.
     runner.course = None;
     make_room(history)?;
     let statement = statement_of(runner).copy(alloc)?;

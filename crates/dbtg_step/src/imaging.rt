@@ -1,4 +1,4 @@
-//! The image of a database, read off each cell where it is.
+//! The image of a database, read from each cell where it is.
 ghost use Rattle.std.specs.Prelude.{◌≡◌, ◌++◌, [], IfOk, OnOk, Some, length, map, option_and_then, option_copied, option_map, slice_get, unwrap_or};
 ghost use Rattle.std.specs.List.{flat_map, range_with_len};
 ghost use Rattle.dbtg_schema.specs.Structure.{set_numbers};
@@ -15,7 +15,7 @@ use dbtg_schema::{AreaNo, RecordNo, Row, Schema, SetNo};
 use dbtg_unit::{Held, Image};
 use std::alloc::{AllocError, Global};
 
-/// Where cells are looked up: in a core, each at home or with its holder; or in hands that have all of them.
+/// Where cells are looked up: in a core, each at home or with its holder; or in hands that hold all of them.
 #[derive(Clone, Copy)]
 pub enum CellSource<'a> {
     Parts(&'a Parts),
@@ -61,7 +61,7 @@ fn cell_in<'a>(runners: &'a [Runner], place: &'a CellLocation, name: &CellName) 
     }
 }
 
-// The cell of this name, at home or in the hands of its holder.
+// The cell with this name, at home or in the hands of its holder.
 fn find_in_parts<'a>(
     schema: &Schema,
     capacity: u16,

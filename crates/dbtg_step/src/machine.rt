@@ -12,6 +12,7 @@ ghost use Rattle.dbtg_step.specs.Machine.Network.{network};
 ghost use Rattle.dbtg_step.specs.Inside.Events.{IsWell};
 ghost use Rattle.dbtg_step.specs.Inside.Parts.{core_of};
 ghost use Rattle.dbtg_step.specs.Core.Parts.{machine};
+ghost use Rattle.dbtg_step.specs.Core.Newest.{newest_at};
 ghost use Rattle.dbtg_step.specs.Core.Positions.{position_at};
 ghost use Rattle.dbtg_step.specs.Core.Runs.{IsHandedOut};
 ghost use Rattle.dbtg_step.specs.Core.Turns.{AllBetween, HaveTurned};
@@ -26,7 +27,7 @@ use crate::runner::units_of;
 use crate::stepping::step;
 use crate::taking_turns::{Noted, take_turns};
 use crate::waiting::{Blocking, blocking_of};
-use crate::watching::{Position, position_of};
+use crate::watching::{Newest, Position, newest_of, position_of};
 use dbtg_schema::{Row, Schema};
 use dbtg_unit::{Entry, Image, Statement, Stepped, Unit};
 use std::alloc::{AllocError, Global};
@@ -76,7 +77,7 @@ fn opening_parts(
     }
 }
 
-// What these parts hand out, beside the image.
+// The results that these parts give, apart from the image.
 fn run_of(
     alloc: Global,
     parts: Parts,
@@ -133,8 +134,8 @@ impl Core {
         }
     }
 
-    /// One step of the unit with this number: the machine's step, or want of memory in the place of an event before its
-    /// ticket that is no turn back. Where it leaves a unit in mid-statement, some unit's next step is an event.
+    /// One step of the unit with this number: the machine's step, or a refusal of memory in place of an event before its
+    /// ticket that is not a turn back. If it leaves a unit in mid-statement, some unit's next step is an event.
     pub fn step(&mut self, unit: u8) -> Stepped
         ensures step { IsStep (machine self.old) unit result (machine self.new) }
         ensures never_stuck { IsNeverStuck (machine self.new) }
@@ -148,7 +149,7 @@ impl Core {
         )
     }
 
-    /// The unit with this number gives back all that it holds, unless its statement has its ticket. It takes no memory. Where
+    /// The unit with this number gives back all that it holds, unless its statement has its ticket. It takes no memory. If
     /// it leaves another in mid-statement, some unit's next step is an event.
     pub fn quit(&mut self, unit: u8) -> Stepped
         ensures quit { IsQuitStep (machine self.old) unit result (machine self.new) }
@@ -157,7 +158,7 @@ impl Core {
         quit(&self.schema, self.capacity, &mut self.parts, unit)
     }
 
-    /// The units take these turns, one after another, and the moves that they stand for are noted.
+    /// The units take these turns, one after another, and the moves that the turns stand for are noted.
     pub(crate) fn take_turns(&mut self, turns: &[u8], noted: &mut Noted) -> Result<(), AllocError>
         requires { AllBetween (network (machine self.old).schema (machine self.old).capacity) (machine self.old).state }
         ensures { OnOk result (HaveTurned (machine self.old) turns.now (machine self.new) noted.old noted.new) }
@@ -172,11 +173,11 @@ impl Core {
         )
     }
 
-    /// What every core is, also in mid-statement, for whoever proves something over one. It does nothing.
+    /// What every core satisfies, also in mid-statement, for proofs about one. It does nothing.
     pub fn is_core(&self)
         ensures { IsCore self.now }
     {
-        // The invariant says it.
+        // The invariant says so.
         let _ = &self.parts;
     }
 
@@ -211,6 +212,16 @@ impl Core {
         }
         Some(position_of(&self.parts.runners[number as usize - 1]))
     }
+
+    /// What the unit with this number took last, of the areas and of the cells that it holds in mid-statement.
+    pub fn newest(&self, number: u8) -> Option<Newest>
+        ensures { result ≡ newest_at (machine self.now) number }
+    {
+        if number == 0 || self.parts.runners.len() < number as usize {
+            return None;
+        }
+        Some(newest_of(&self.parts.runners[number as usize - 1]))
+    }
 }
 
 impl Core {
@@ -221,8 +232,8 @@ impl Core {
         &self.schema
     }
 
-    /// For what the unit with this number waits, and which others have it in hand: just where its step is blocked. It takes memory for
-    /// the list of these units alone.
+    /// What the unit with this number waits for, and which other units have it: exactly if its step is blocked. It takes memory only for
+    /// the list of these units.
     pub fn blocking(&self, alloc: Global, unit: u8) -> Result<Option<Blocking>, AllocError>
         ensures found { IfOk result (λ found. found ≡ blocking_of (machine self.now) unit) }
         ensures blocked { IfOk result (λ found. TellsOfBlocked (machine self.now) unit found) }
@@ -238,7 +249,7 @@ impl Core {
         read_image(alloc, &self.schema, self.capacity, source)
     }
 
-    /// Lets go of the core, and of its memory. Other crates end one by this, so that they need not prove what it is to drop its parts.
+    /// Drops the core. Other crates call this, so that they need not prove that its parts can be dropped.
     pub fn discard(self) {
         drop(self)
     }

@@ -12,6 +12,7 @@ ghost use Rattle.dbtg_unit.specs.Database.Statements.Fits.{fits};
 ghost use Rattle.dbtg_unit.specs.Hands.Local.{Agrees};
 ghost use Rattle.dbtg_unit.specs.Hands.Needs.{need};
 ghost use Rattle.dbtg_step.specs.Machine.NeedOrder.{HasItsAreas};
+ghost use Rattle.dbtg_step.specs.Machine.Network.{noted_owners};
 ghost use Rattle.dbtg_step.specs.Core.Courses.{IsCourseKept};
 ghost use Rattle.dbtg_step.specs.Inside.Stands.{holds_against, StandsNeeding};
 ghost use Rattle.dbtg_step.specs.Inside.Leaves.{IsTaken};
@@ -19,15 +20,15 @@ ghost use Rattle.dbtg_step.specs.Inside.Events.{ChangesCourseAlone, IsStepped, I
 
 use crate::drawing::ticket_event;
 use crate::parts::{CellLocation, Parts, Runner, StatementProgress};
-use crate::runner::turn_back;
-use crate::statements::{area_next, next_need};
+use crate::runner::{statement_of, turn_back};
+use crate::statements::{area_next, next_need, true_guesses};
 use dbtg_cells::{Cell, CellName, cell_number};
 use dbtg_schema::{AreaNo, Schema};
-use dbtg_unit::{Held, Need, Owners, Stepped, with_true_owners};
+use dbtg_unit::{Held, Need, Owners, Stepped};
 use std::alloc::{AllocError, Global};
 use std::mem;
 
-// What the unit's statement needs next. The unit keeps what is settled of its needs, so that it goes on from there.
+// What the unit's statement needs next. The unit keeps what is settled about its needs, so that it goes on from there.
 fn need_of(
     alloc: Global,
     schema: &Schema,
@@ -56,7 +57,7 @@ fn need_of(
     )
 }
 
-/// What the unit needs next. Nothing is changed but how far its statement has come.
+/// What the unit needs next. Only the progress of its statement changes.
 fn need_now(
     alloc: Global,
     schema: &Schema,
@@ -75,7 +76,7 @@ fn need_now(
     ensures need { IfOk result (λ n. NeedsNext schema.now capacity parts.new unit progress n) }
     ensures refused { OnErr result ((r : Runner) (x : Statement) → slice_get parts.new.runners.items (unit - 1) ≡ Some r → slice_get r.script r.next ≡ Some x → HasItsAreas schema.now r.unit r.held x) }
 {
-    // Used by the contract alone.
+    // Unused here; the contract mentions it.
     let _ = progress.linked;
     need_of(
         alloc,
@@ -85,7 +86,7 @@ fn need_now(
     )
 }
 
-// The area that the unit's statement needs next, if it needs one still. The unit keeps what is settled of its needs.
+// The area that the unit's statement needs next, if it still needs one. The unit keeps what is settled about its needs.
 fn area_of(schema: &Schema, capacity: u16, runner: &mut Runner) -> Option<AreaNo>
     requires left { runner.old.next < length runner.old.script }
     requires kept { (x : Statement) → slice_get runner.old.script runner.old.next ≡ Some x → IsCourseKept schema.now capacity runner.old.held runner.old.unit x runner.old.course }
@@ -104,8 +105,8 @@ fn area_of(schema: &Schema, capacity: u16, runner: &mut Runner) -> Option<AreaNo
     )
 }
 
-/// The area that the unit needs next, if it needs one still: most needs are areas, and a `Need` is large. Nothing is changed but how
-/// far its statement has come.
+/// The area that the unit needs next, if it still needs one: most needs are areas, and a `Need` is large. Only the progress of its
+/// statement changes.
 fn area_now(
     schema: &Schema,
     capacity: u16,
@@ -122,12 +123,12 @@ fn area_now(
     ensures stands { (r : Runner) → slice_get parts.new.runners.items (unit - 1) ≡ Some r → StandsNeeding r progress }
     ensures need { IfSome result (λ a. NeedsNext schema.now capacity parts.new unit progress (Need.Area a)) }
 {
-    // Used by the contract alone.
+    // Unused here; the contract mentions it.
     let _ = progress.linked;
     area_of(schema, capacity, &mut parts.runners[unit as usize - 1])
 }
 
-/// The unit holds the area in a way that conflicts.
+/// Does the unit hold the area in a conflicting way?
 pub fn holds_against(runner: &Runner, exclusive: bool, area: AreaNo) -> bool
     ensures { result ≡ holds_against exclusive area runner.now }
 {
@@ -137,7 +138,7 @@ pub fn holds_against(runner: &Runner, exclusive: bool, area: AreaNo) -> bool
     }
 }
 
-// Some unit of these holds the area in a way that conflicts.
+// Does one of these units hold the area in a conflicting way?
 fn any_holds_against(runners: &[Runner], exclusive: bool, area: AreaNo) -> bool
     ensures { result ≡ list_any (holds_against exclusive area) runners.now }
 {
@@ -146,7 +147,7 @@ fn any_holds_against(runners: &[Runner], exclusive: bool, area: AreaNo) -> bool
         .any(|runner| holds_against(runner, exclusive, area))
 }
 
-/// Some unit but this one does.
+/// Does any other unit hold the area in a conflicting way?
 pub fn other_holds_against(runners: &[Runner], unit: u8, exclusive: bool, area: AreaNo) -> bool
     requires numbered { 0 < unit }
     requires within { unit ≤ length runners.now }
@@ -157,7 +158,7 @@ pub fn other_holds_against(runners: &[Runner], unit: u8, exclusive: bool, area: 
         || any_holds_against(&runners[next..], exclusive, area)
 }
 
-/// Takes an area, unless another unit holds it in a way that conflicts.
+/// Takes an area, unless another unit holds it in a conflicting way.
 fn take_area_event(
     parts: &mut Parts,
     unit: u8,
@@ -178,7 +179,7 @@ fn take_area_event(
     }
 }
 
-// Has a cell in hand that was at home in this place; where memory for it is refused it goes home again.
+// Takes a cell that was at home in this place; if memory for it is refused it goes home again.
 fn put_in_hand(
     place: &mut CellLocation,
     held: &mut Held,
@@ -198,7 +199,7 @@ fn put_in_hand(
     }
 }
 
-// Takes the cell of this number out of the table, if it is at home.
+// Takes the cell with this number out of the table, if it is at home.
 fn take_cell(
     table: &mut Vec<CellLocation>,
     held: &mut Held,
@@ -239,7 +240,7 @@ fn take_cell_event(
     requires needs { NeedsNext schema.now capacity parts.old unit progress (Need.Take name) }
     ensures { IsStepped schema.now capacity unit result parts.old parts.new }
 {
-    // Used by the contract alone.
+    // Unused here; the contract mentions it.
     let _ = progress.linked;
     match cell_number(schema, capacity, &name) {
         Some(number) => {
@@ -250,6 +251,16 @@ fn take_cell_event(
     }
 }
 
+// The guesses with which the unit's statement goes on that turns back.
+fn noted_guesses(schema: &Schema, runner: &Runner) -> Owners
+    requires left { runner.now.next < length runner.now.script }
+    requires fits { (x : Statement) → slice_get runner.now.script runner.now.next ≡ Some x → fits schema.now x ≡ true }
+    requires count { length runner.now.held.guesses ≡ length schema.now.sets }
+    ensures { (x : Statement) (capacity : ℕ) (db : Database) → slice_get runner.now.script runner.now.next ≡ Some x → Agrees schema.now capacity db runner.now.held runner.now.unit → need schema.now capacity db runner.now.unit runner.now.held x ≡ Need.Stale → result ≡ noted_owners schema.now capacity db runner.now.unit x runner.now.held.guesses }
+{
+    true_guesses(schema, &runner.unit, statement_of(runner), &runner.held)
+}
+
 /// Turns back with the true owners as guesses.
 fn note_owners_event(
     schema: &Schema,
@@ -257,20 +268,18 @@ fn note_owners_event(
     parts: &mut Parts,
     unit: u8,
     progress: StatementProgress,
-    owners: Owners,
 ) -> Stepped
     requires numbered { 0 < unit }
     requires within { unit ≤ length parts.old.runners.items }
     requires well { IsWell schema.now capacity parts.old }
     requires stands { (r : Runner) → slice_get parts.old.runners.items (unit - 1) ≡ Some r → StandsNeeding r progress }
-    requires needs { NeedsNext schema.now capacity parts.old unit progress (Need.Stale owners) }
+    requires needs { NeedsNext schema.now capacity parts.old unit progress Need.Stale }
     ensures { IsStepped schema.now capacity unit result parts.old parts.new }
 {
-    // Used by the contract alone.
-    let _ = schema;
+    // Unused here; the contract mentions it.
     let _ = capacity;
     let runner = &mut parts.runners[unit as usize - 1];
-    let guesses = with_true_owners(runner.held.guesses(), owners);
+    let guesses = noted_guesses(schema, runner);
     runner.held.set_guesses(guesses);
     turn_back(runner, progress);
     Stepped::Moved
@@ -296,7 +305,7 @@ fn need_event(
     match need {
         Need::Area(area) => take_area_event(parts, unit, progress, area),
         Need::Take(name) => take_cell_event(schema, capacity, parts, unit, progress, name),
-        Need::Stale(owners) => note_owners_event(schema, capacity, parts, unit, progress, owners),
+        Need::Stale => note_owners_event(schema, capacity, parts, unit, progress),
         Need::Ready => ticket_event(alloc, schema, capacity, parts, unit, progress),
     }
 }
@@ -322,7 +331,7 @@ fn follows_need(
     }
 }
 
-/// A statement without a ticket follows its needs, its areas before its cells.
+/// A statement without a ticket takes what it needs, its areas before its cells.
 pub fn event_before_ticket(
     alloc: Global,
     schema: &Schema,

@@ -1,4 +1,4 @@
-//! The core before its first step: all cells at home as the opening database has them, each unit before its script.
+//! The core before its first step: all cells at home as in the opening database, each unit before its script.
 ghost use Rattle.std.specs.Prelude.{◌≡◌, ℕ, ◌≤◌, ◌++◌, ◌∷◌, [], None, map, length, replicate, IfOk, OnOk};
 ghost use Rattle.std.specs.List.{flat_map, range_with_len};
 ghost use Rattle.dbtg_schema.specs.Structure.{set_numbers};
@@ -8,12 +8,12 @@ ghost use Rattle.dbtg_cells.specs.CellNumbers.{cells_in_order, rings_of, slots_o
 ghost use Rattle.dbtg_unit.specs.Database.State.Base.{opening};
 ghost use Rattle.dbtg_unit.specs.Database.State.Cells.{cell};
 ghost use Rattle.dbtg_unit.specs.Database.State.Units.{opening_unit};
+ghost use Rattle.dbtg_unit.specs.Hands.Local.{AllAgree, names_of};
 ghost use Rattle.dbtg_step.specs.Core.Openings.{homes_of, homes_shown};
 ghost use Rattle.dbtg_step.specs.Inside.Openings.{locations_of, opening_runner, runners_from};
-ghost use Rattle.dbtg_step.specs.Inside.Whole.{HasTaken};
 
 use crate::parts::{CellLocation, Runner};
-use dbtg_cells::{Cell, CellName, Extent, Owner, Ring, Slot, Usage};
+use dbtg_cells::{Cell, CellName, Extent, Layout, Owner, Ring, Slot, Usage};
 use dbtg_schema::{AreaNo, RecordNo, Row, Schema, SetNo};
 use dbtg_unit::{Currency, Held, Kept, Owners, Statement, Unit};
 use std::alloc::{AllocError, Global};
@@ -32,7 +32,7 @@ fn opening_ring(alloc: Global, schema: &Schema, set: SetNo, owner: &Option<(Reco
     ring
 }
 
-// The cell of this name in the opening database.
+// The cell with this name in the opening database.
 fn opening_cell(
     alloc: Global,
     schema: &Schema,
@@ -149,38 +149,44 @@ pub fn cell_names(
     Ok(names)
 }
 
+// The cells of these names, as the opening database has them.
+fn cells_of(
+    alloc: Global,
+    schema: &Schema,
+    capacity: u16,
+    names: &[CellName],
+) -> Result<Vec<Cell>, AllocError>
+    ensures { IfOk result (λ cells. homes_shown cells.items ≡ homes_of schema.now capacity names.now) }
+{
+    let mut cells = Vec::with_capacity(alloc, names.len())?;
+    for name in names {
+        cells.push(opening_cell(alloc, schema, capacity, name)?)?;
+    }
+    Ok(cells)
+}
+
 /// All cells of the schema at this capacity in the order of their numbers, as the opening database has them.
 pub fn opening_cells(alloc: Global, schema: &Schema, capacity: u16) -> Result<Vec<Cell>, AllocError>
     ensures { IfOk result (λ cells. homes_shown cells.items ≡ homes_of schema.now capacity (cells_in_order schema.now capacity)) }
 {
     let names = cell_names(alloc, schema, capacity)?;
-    let mut cells = Vec::with_capacity(alloc, names.len())?;
-    for name in names {
-        cells.push(opening_cell(alloc, schema, capacity, &name)?)?;
-    }
-    Ok(cells)
+    cells_of(alloc, schema, capacity, names.as_slice())
 }
 
-/// All cells of the schema at this capacity in hand under their names, as the opening database has them, where none is yet.
-pub fn hold_opening_cells(
-    alloc: Global,
-    schema: &Schema,
-    capacity: u16,
-    held: &mut Held,
-) -> Result<(), AllocError>
-    requires { held.old.cells ≡ [] }
-    ensures { OnOk result (HasTaken schema.now capacity (cells_in_order schema.now capacity) held.old held.new) }
+/// Hands with all cells of the schema at this capacity, each at its number and as the opening database has it.
+pub fn hold_opening_cells(alloc: Global, schema: &Schema, capacity: u16) -> Result<Held, AllocError>
+    ensures areas { IfOk result (λ held. held.areas ≡ []) }
+    ensures names { IfOk result (λ held. names_of held.cells ≡ cells_in_order schema.now capacity) }
+    ensures cells { IfOk result (λ held. AllAgree schema.now capacity (opening schema.now) held.cells) }
 {
     let names = cell_names(alloc, schema, capacity)?;
-    held.reserve_cells(names.len())?;
-    for name in names {
-        let cell = opening_cell(alloc, schema, capacity, &name)?;
-        held.push_cell(name, cell)?;
-    }
-    Ok(())
+    let cells = cells_of(alloc, schema, capacity, names.as_slice())?;
+    let layout = Layout::of(schema, capacity);
+    let guesses = Owners::none(schema.sets().len());
+    Ok(Held::numbered(alloc, layout, names, cells, guesses))
 }
 
-// The table in which these cells are at home.
+// The table with these cells at home.
 fn table_of(alloc: Global, cells: Vec<Cell>) -> Result<Vec<CellLocation>, AllocError>
     ensures { IfOk result (λ table. locations_of table.items ≡ homes_shown cells.items) }
 {
@@ -191,7 +197,7 @@ fn table_of(alloc: Global, cells: Vec<Cell>) -> Result<Vec<CellLocation>, AllocE
     Ok(table)
 }
 
-/// All cells of the schema at this capacity, at home as the opening database has them.
+/// All cells of the schema at this capacity, at home as in the opening database.
 pub fn opening_table(
     alloc: Global,
     schema: &Schema,

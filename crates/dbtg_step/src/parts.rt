@@ -5,7 +5,7 @@ use dbtg_cells::Cell;
 use dbtg_schema::Row;
 use dbtg_unit::{Entry, Held, Statement, Unit};
 
-/// Where a cell is: at home, or with the unit of this number.
+/// Where a cell is: at home, or with the unit with this number.
 #[derive(Drop)]
 pub enum CellLocation {
     Home(Cell),
@@ -21,7 +21,7 @@ pub struct StatementProgress {
     pub linked: usize,
 }
 
-/// A run-unit: what it holds, its script, how many statements of it have their ticket, and, in mid-statement, its progress; `course`
+/// A run-unit: what it holds, its script, how many of its statements have their ticket, and, in mid-statement, its progress; `course`
 /// is how far its statement has come with its needs.
 #[derive(Drop)]
 pub struct Runner {

@@ -1,10 +1,10 @@
-//! The results of a run: what its moves came to, the image of its database, its history and its units.
+//! The results of a run: the result of each move, the image of its database, its history and its units.
 ghost use Rattle.std.specs.Prelude.{◌≡◌};
 
 use dbtg_schema::Row;
 use dbtg_unit::{Entry, Image, Stepped, Unit};
 
-/// What the moves of a run came to, one for one, and then the image, the statements that drew a ticket, in the order of their
+/// The result of each move of a run, and then the image, the statements that drew a ticket, in the order of their
 /// tickets, and the units by number.
 #[derive(Drop)]
 pub struct Run {
@@ -23,7 +23,7 @@ impl Run {
         history
     }
 
-    /// Lets go of it, and of its memory. Other crates end one by this, so that they need not prove what it is to drop its parts.
+    /// Drops the results. Other crates call this, so that they need not prove that their parts can be dropped.
     pub fn discard(self) {
         drop(self)
     }

@@ -1,5 +1,5 @@
-//! What the events change of a run-unit.
-ghost use Rattle.std.specs.Prelude.{◌≡◌, ℕ, ◌<◌, ◌+◌, ◌∷◌, [], ◌++◌, OnOk, OnErr, Some, None, true, false, length, map, nat_lt, slice_get, IfOk};
+//! What the events change in a run-unit.
+ghost use Rattle.std.specs.Prelude.{◌≡◌, ℕ, ◌<◌, ◌+◌, ◌∷◌, [], ◌++◌, OnOk, OnErr, Some, None, true, false, length, is_some, map, nat_lt, slice_get, IfOk};
 ghost use Rattle.dbtg_step.specs.Machine.Network.{is_delete};
 ghost use Rattle.dbtg_step.specs.Inside.Parts.{progress_while_held};
 ghost use Rattle.dbtg_step.specs.Inside.Stands.{HasStatement, IsStanding};
@@ -10,7 +10,7 @@ use dbtg_schema::Row;
 use dbtg_unit::{Statement, Unit};
 use std::alloc::{AllocError, Global};
 
-/// Where a unit stands.
+/// The phase of a unit.
 #[derive(Clone, Copy, Debug, PartialEq, Eq)]
 pub enum Phase {
     /// It has nothing to do.
@@ -18,14 +18,14 @@ pub enum Phase {
     /// It is between statements, and there is a next one.
     Between,
     /// Its statement turns back, and still has a cell.
-    TurningBack(StatementProgress),
-    /// Its statement follows its needs.
-    Needing(StatementProgress),
+    TurningBack,
+    /// Its statement takes what it needs.
+    Needing,
     /// Its statement has its ticket.
-    Ticketed(StatementProgress),
+    Ticketed,
 }
 
-/// Where the unit stands.
+/// The phase in which the unit is.
 pub fn phase_of(runner: &Runner) -> Phase
     requires { HasStatement runner.now }
     ensures { IsStanding runner.now result }
@@ -40,13 +40,24 @@ pub fn phase_of(runner: &Runner) -> Phase
         }
         Some(progress) => {
             if progress.ticket.is_some() {
-                Phase::Ticketed(progress)
+                Phase::Ticketed
             } else if progress.turning_back && 0 < runner.held.cell_count() {
-                Phase::TurningBack(progress)
+                Phase::TurningBack
             } else {
-                Phase::Needing(progress)
+                Phase::Needing
             }
         }
+    }
+}
+
+/// How far a unit in mid-statement is. It stands apart from the phase, so that each event reads of it only what it goes by.
+pub fn progress_of(runner: &Runner) -> StatementProgress
+    requires { is_some runner.now.progress ≡ true }
+    ensures { runner.now.progress ≡ Some result }
+{
+    match runner.progress {
+        Some(progress) => progress,
+        None => unreachable!(),
     }
 }
 
@@ -65,7 +76,7 @@ fn is_delete(statement: &Statement) -> bool
     matches!(statement, Statement::Delete(_))
 }
 
-/// Begins the next statement; what is kept of the statement before it is let go.
+/// Begins the next statement; what is kept of the statement before it is dropped.
 pub fn begin(runner: &mut Runner)
     requires { runner.old.next < length runner.old.script }
     ensures { (x : Statement) → slice_get runner.old.script runner.old.next ≡ Some x → runner.new ≡ record runner.old { progress = Some (record { exclusive = is_delete x; turning_back = false; ticket = None; linked = 0 }); course = None } }
@@ -105,7 +116,7 @@ pub fn pass(runner: &mut Runner)
     runner.next += 1;
 }
 
-/// With nothing left in hand the statement is over.
+/// Once nothing is held the statement is over.
 pub fn close(runner: &mut Runner)
     ensures { runner.new ≡ record runner.old { progress = progress_while_held runner.old.held.areas runner.old.held.cells runner.old.progress } }
 {
@@ -114,7 +125,7 @@ pub fn close(runner: &mut Runner)
     }
 }
 
-/// Turns back as long as a cell is in hand; what is kept of the cells that were in hand is let go.
+/// Turns back as long as a cell is held; what is kept of the cells that were held is dropped.
 pub fn turn_back(runner: &mut Runner, progress: StatementProgress)
     ensures { runner.new ≡ record runner.old { progress = Some (record progress { turning_back = nat_lt 0 (length runner.old.held.cells) }); course = None } }
 {
@@ -127,7 +138,7 @@ pub fn turn_back(runner: &mut Runner, progress: StatementProgress)
     runner.course = None;
 }
 
-// The unit alone: all else goes.
+// The unit alone: everything else is dropped.
 fn unit_of(runner: Runner) -> Unit
     ensures { result ≡ runner.unit }
 {

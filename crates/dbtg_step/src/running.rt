@@ -1,4 +1,4 @@
-//! Runs: what a list of moves comes to, and one unit after another.
+//! Runs: the results of a list of moves, and one unit after another.
 ghost use Rattle.std.specs.Prelude.{◌≡◌, ◌≤◌, ◌<◌, true, length, map, IfOk, OnErr, OnOk};
 ghost use Rattle.std.specs.List.{list_all};
 ghost use Rattle.dbtg_schema.specs.Sound.{IsSound};
@@ -19,7 +19,7 @@ use dbtg_schema::{Row, Schema};
 use dbtg_unit::{Move, Statement, Stepped};
 use std::alloc::{AllocError, Global};
 
-/// Makes one move; a step that finds no memory is an error, and changes nothing.
+/// Makes one move; a step for which memory is refused is an error, and changes nothing.
 pub fn make_move(core: &mut Core, one: Move) -> Result<Stepped, AllocError>
     ensures core { OnOk result (machine core.new ≡ after_move (machine core.old) one) }
     ensures result { IfOk result (λ stepped. stepped ≡ result_of_move (machine core.old) one) }
@@ -35,7 +35,7 @@ pub fn make_move(core: &mut Core, one: Move) -> Result<Stepped, AllocError>
     }
 }
 
-// Makes the moves in turn, and gives what they came to.
+// Makes the moves in turn, and gives their results.
 fn make_moves(alloc: Global, core: &mut Core, moves: &[Move]) -> Result<Vec<Stepped>, AllocError>
     ensures core { OnOk result (machine core.new ≡ after_moves (machine core.old) moves.now) }
     ensures results { IfOk result (λ results. results.items ≡ results_of_moves (machine core.old) moves.now) }
@@ -60,7 +60,7 @@ fn run_from(alloc: Global, mut core: Core, moves: &[Move]) -> Result<Run, AllocE
     }
 }
 
-/// Makes the moves in turn, from the opening database on, with a unit for each script. A step that finds no memory ends it.
+/// Makes the moves in turn, starting with the opening database, with a unit for each script. A step for which memory is refused ends it.
 pub fn run(
     alloc: Global,
     schema: &Schema,
@@ -114,8 +114,8 @@ fn make_scripts(
     Ok(())
 }
 
-/// Makes all statements of unit 1 whole, one after another, then those of unit 2, and so on, however long the scripts are. It has
-/// no results. A growth that is refused ends it.
+/// Makes all statements of unit 1 whole, one after another, then those of unit 2, and so on, however long the scripts are. No
+/// move has a result. If memory is refused, it ends.
 pub fn run_serial(
     alloc: Global,
     schema: &Schema,

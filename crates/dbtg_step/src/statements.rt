@@ -1,5 +1,5 @@
-//! What each statement needs next, and what it prepares: DELETE by its own crate, the others by theirs.
-ghost use Rattle.std.specs.Prelude.{◌≡◌, ℕ, ◌==◌, not, true, false, Some, None, IfNone, IfOk, MatchOption, OnErr};
+//! What each statement needs next, and what it prepares: DELETE by its own crate, all others by theirs.
+ghost use Rattle.std.specs.Prelude.{◌≡◌, ℕ, ◌==◌, not, true, false, Some, None, IfNone, IfOk, MatchOption, OnErr, length};
 ghost use Rattle.std.specs.List.{find, list_any};
 ghost use Rattle.dbtg_schema.specs.Sound.{IsSound};
 ghost use Rattle.dbtg_unit.specs.Database.State.Base.{Database};
@@ -7,17 +7,18 @@ ghost use Rattle.dbtg_unit.specs.Database.State.Belongs.{IsUnitOf, IsWithin};
 ghost use Rattle.dbtg_unit.specs.Database.Statements.Checks.{refused_at_once};
 ghost use Rattle.dbtg_unit.specs.Hands.EditsOf.{is_delete};
 ghost use Rattle.dbtg_unit.specs.Database.Statements.Fits.{fits};
+ghost use Rattle.dbtg_unit.specs.Hands.Guesses.{with_owners};
 ghost use Rattle.dbtg_unit.specs.Hands.Local.{Agrees};
 ghost use Rattle.dbtg_unit.specs.Hands.Locality.{IsMadeOnEach, made_by};
 ghost use Rattle.dbtg_unit.specs.Hands.Making.{CanFinish, MayPrepare, ShowsTheSame};
-ghost use Rattle.dbtg_unit.specs.Hands.Needs.{areas_in_order, need};
+ghost use Rattle.dbtg_unit.specs.Hands.Needs.{areas_in_order, need, stale_owners};
 ghost use Rattle.dbtg_step.specs.Core.Courses.{AreCellsKept, IsAtCells, IsCourseKept};
 ghost use Rattle.dbtg_step.specs.Inside.Courses.{IsBehindAreas};
 ghost use Rattle.dbtg_step.specs.Machine.NeedOrder.{AreCellsOf, HasItsAreas, IsAboveHands, LiesInHeldArea, WasTakenInTurn};
 
 use crate::course::Course;
 use dbtg_schema::{AreaNo, Schema};
-use dbtg_unit::{Erase, Held, Need, Prepared, Statement, Unit, next_area, refused_at_once};
+use dbtg_unit::{Erase, Held, Need, Owners, Prepared, Statement, Unit, next_area, refused_at_once};
 use std::alloc::{AllocError, Global};
 
 // The option of a DELETE.
@@ -30,7 +31,7 @@ fn delete_option(statement: &Statement) -> Option<Erase>
     }
 }
 
-// The first area that is not in hand, of a statement that no check without cells refuses.
+// The first area that is not held, for a statement that no check without cells refuses.
 fn area_left(
     schema: &Schema,
     capacity: u16,
@@ -44,7 +45,7 @@ fn area_left(
     ensures need { (a : ℕ) (db : Database) → result ≡ Some a → Need.Area a ≡ need schema.now capacity db unit.now held.now statement.now }
     ensures behind { IfNone result (IsBehindAreas course.new) }
 {
-    // Used by the contract alone.
+    // Unused here; the contract mentions it.
     let _ = capacity;
     match next_area(schema, unit, statement, held) {
         Some(area) => {
@@ -58,7 +59,7 @@ fn area_left(
     }
 }
 
-/// The first area that is not in hand, if the statement still has one to take. What is settled of checks and areas is not asked again.
+/// The first area that is not held, if the statement still has one to take. Checks and areas that are settled are not asked again.
 pub fn area_next(
     schema: &Schema,
     capacity: u16,
@@ -95,7 +96,7 @@ pub fn area_next(
     }
 }
 
-// What is needed once the areas are in hand.
+// What is needed once the areas are held.
 fn need_with_areas(
     alloc: Global,
     schema: &Schema,
@@ -122,9 +123,9 @@ fn need_with_areas(
     }
 }
 
-/// What the statement needs next: its areas, then its cells, then other guesses. `course` keeps what is settled of its needs, and from
-/// `None` before the first need it has to be of this statement, with all that was in hand before still in hand. Memory is refused to a
-/// DELETE alone, and only once it has its areas.
+/// What the statement needs next: its areas, then its cells, then other guesses. `course` keeps what is settled about its needs; starting
+/// with `None` before the first need it must belong to this statement, and all that was held before must still be held. Memory is refused
+/// only to a DELETE, and only once it has its areas.
 pub fn next_need(
     alloc: Global,
     schema: &Schema,
@@ -156,7 +157,7 @@ pub fn next_need(
     }
 }
 
-// What is needed by a statement that no check without cells refuses, but for a DELETE that has its areas.
+// What a statement needs that no check without cells refuses, except a DELETE that has its areas.
 fn need_of_passed(
     schema: &Schema,
     capacity: u16,
@@ -179,7 +180,7 @@ fn need_of_passed(
     }
 }
 
-/// What the statement needs next, asked from the beginning. It takes no memory, and so tells nothing of a DELETE that has its areas.
+/// What the statement needs next, asked from the beginning. It takes no memory, and so says nothing for a DELETE that has its areas.
 pub fn need_unless_delete(
     schema: &Schema,
     capacity: u16,
@@ -198,7 +199,16 @@ pub fn need_unless_delete(
     }
 }
 
-/// Makes every growth of the statement, and fixes its outcome.
+/// The guesses with which a statement goes on that needs others: the true owner in each set where its guess is wrong.
+pub fn true_guesses(schema: &Schema, unit: &Unit, statement: &Statement, held: &Held) -> Owners
+    requires fits { fits schema.now statement.now ≡ true }
+    requires count { length held.now.guesses ≡ length schema.now.sets }
+    ensures { (capacity : ℕ) (db : Database) → Agrees schema.now capacity db held.now unit.now → need schema.now capacity db unit.now held.now statement.now ≡ Need.Stale → result ≡ with_owners held.now.guesses (stale_owners schema.now capacity db unit.now held.now.guesses statement.now) }
+{
+    dbtg_plan::true_guesses(schema, unit, statement, held)
+}
+
+/// Makes all room that the statement needs, and fixes its effect.
 pub fn prepare(
     alloc: Global,
     schema: &Schema,

@@ -1,4 +1,4 @@
-//! The events of a unit, one a function; each is the machine's step in the state that it finds.
+//! The events of a unit, one per function; each is the machine's step in the state that it finds.
 ghost use Rattle.std.specs.Prelude.{◌≡◌, ℕ, ◌≤◌, ◌<◌, ◌-◌, length, slice_get, [], Some};
 ghost use Rattle.dbtg_schema.specs.Lists.{Lists};
 ghost use Rattle.dbtg_step.specs.declared.parts.Runner.{Runner};
@@ -7,7 +7,7 @@ ghost use Rattle.dbtg_step.specs.Inside.Events.{IsStepped, IsWell};
 
 use crate::needing::event_before_ticket;
 use crate::parts::{Parts, StatementProgress};
-use crate::runner::{Phase, begin, close, link, phase_of, turn_back};
+use crate::runner::{Phase, begin, close, link, phase_of, progress_of, turn_back};
 use crate::table::give_cell;
 use dbtg_schema::Schema;
 use dbtg_unit::Stepped;
@@ -36,7 +36,7 @@ pub fn link_event(parts: &mut Parts, unit: u8, progress: StatementProgress) -> S
     Stepped::Moved
 }
 
-/// With a ticket and all links made, the newest cell goes home.
+/// With a ticket and all links made, puts the newest cell home.
 pub fn give_cell_event(
     schema: &Schema,
     capacity: u16,
@@ -52,7 +52,7 @@ pub fn give_cell_event(
     requires cells { (r : Runner) → slice_get parts.old.runners.items (unit - 1) ≡ Some r → 0 < length r.held.cells }
     ensures { IsStepped schema.now capacity unit result parts.old parts.new }
 {
-    // Used by the contract alone.
+    // Unused here; the contract mentions it.
     let _ = progress.linked;
     let runner = &mut parts.runners[unit as usize - 1];
     give_cell(schema, capacity, &mut parts.table, &mut runner.held);
@@ -60,7 +60,7 @@ pub fn give_cell_event(
     Stepped::Moved
 }
 
-/// With a ticket and all cells at home, the newest area is left.
+/// With a ticket and all cells at home, leaves the newest area.
 pub fn leave_area_event(parts: &mut Parts, unit: u8, progress: StatementProgress) -> Stepped
     requires numbered { 0 < unit }
     requires within { unit ≤ length parts.old.runners.items }
@@ -68,7 +68,7 @@ pub fn leave_area_event(parts: &mut Parts, unit: u8, progress: StatementProgress
     requires cells { (r : Runner) → slice_get parts.old.runners.items (unit - 1) ≡ Some r → length r.held.cells ≡ 0 }
     ensures { (schema : Lists) (capacity : ℕ) → IsWell schema capacity parts.old → IsStepped schema capacity unit result parts.old parts.new }
 {
-    // Used by the contract alone.
+    // Unused here; the contract mentions it.
     let _ = progress.linked;
     let runner = &mut parts.runners[unit as usize - 1];
     let _ = runner.held.pop_area();
@@ -128,13 +128,21 @@ pub fn step(alloc: Global, schema: &Schema, capacity: u16, parts: &mut Parts, un
     if unit == 0 || parts.runners.len() < unit as usize {
         return Stepped::Idle;
     }
-    match phase_of(&parts.runners[unit as usize - 1]) {
+    let runner = &parts.runners[unit as usize - 1];
+    match phase_of(runner) {
         Phase::Over => Stepped::Idle,
         Phase::Between => begin_event(parts, unit),
-        Phase::TurningBack(progress) => turn_back_event(schema, capacity, parts, unit, progress),
-        Phase::Needing(progress) => event_before_ticket(
-            alloc, schema, capacity, parts, unit, progress,
-        ),
-        Phase::Ticketed(progress) => end_event(schema, capacity, parts, unit, progress),
+        Phase::TurningBack => {
+            let progress = progress_of(runner);
+            turn_back_event(schema, capacity, parts, unit, progress)
+        }
+        Phase::Needing => {
+            let progress = progress_of(runner);
+            event_before_ticket(alloc, schema, capacity, parts, unit, progress)
+        }
+        Phase::Ticketed => {
+            let progress = progress_of(runner);
+            end_event(schema, capacity, parts, unit, progress)
+        }
     }
 }

@@ -9,7 +9,7 @@ use dbtg_cells::{Cell, CellName, cell_number};
 use dbtg_schema::Schema;
 use dbtg_unit::Held;
 
-/// Puts a cell home, to its place in the table.
+/// Puts a cell home, in its place in the table.
 pub fn put_home(
     schema: &Schema,
     capacity: u16,

@@ -1,4 +1,4 @@
-//! Interleavings by whole statements: units take turns, and each turn is the events of one statement.
+//! Interleavings by whole statements: units take turns, and each turn consists of the events of one statement.
 ghost use Rattle.std.specs.Prelude.{◌≡◌, ℕ, ◌<◌, ◌≤◌, ◌-◌, ◌∷◌, ◌++◌, [], true, List, drop, length, IfOk, OnOk};
 ghost use Rattle.std.specs.Bool.{Decides};
 ghost use Rattle.dbtg_schema.specs.Lists.{Lists};
@@ -23,7 +23,7 @@ use dbtg_schema::{Row, Schema};
 use dbtg_unit::{Move, Statement, Stepped};
 use std::alloc::{AllocError, Global};
 
-/// What a run by turns gives: the run, which has no results, and the moves that its turns stand for; none where these are more
+/// The result of a run by turns: the run, whose moves have no results, and the moves that its turns stand for; none if there are more
 /// than were asked for.
 #[derive(Drop)]
 pub struct Turned {
@@ -40,7 +40,7 @@ impl Turned {
         moves
     }
 
-    /// Lets go of it, and of its memory. Other crates end one by this, so that they need not prove what it is to drop its parts.
+    /// Drops the run. Other crates call this, so that they need not prove that its parts can be dropped.
     pub fn discard(self) {
         drop(self)
     }
@@ -67,7 +67,7 @@ impl Noted {
         }
     }
 
-    // One move more was made.
+    // Notes one more move.
     fn note(&mut self, made: Move) -> Result<(), AllocError>
         ensures { OnOk result (NotesMore self.old self.new (made ∷ [])) }
     {
@@ -79,7 +79,7 @@ impl Noted {
         Ok(())
     }
 
-    // The moves, where no more of them were made than the limit.
+    // The moves, if no more of them were made than the limit.
     fn into_moves(self) -> Option<Row<Move>>
         ensures { (moves : List Move) → IsNoted self moves → AreGiven self.limit moves result }
     {
@@ -104,8 +104,8 @@ fn is_done(runner: &Runner, left: usize) -> bool
     runner.progress.is_none() & (statements_left(runner) <= left)
 }
 
-// One turn of a unit, step by step; nothing where there is no such unit, or its script is at its end. No other unit holds
-// anything, so that it never waits, and its steps come to an end.
+// One turn of a unit, step by step; nothing if there is no such unit, or its script is at its end. No other unit holds
+// anything, so the unit never waits, and its steps come to an end.
 fn take_turn(
     alloc: Global,
     schema: &Schema,
@@ -137,7 +137,7 @@ fn take_turn(
     Ok(())
 }
 
-/// The units take these turns, one after another. Where memory is refused it stops there.
+/// The units take these turns, one after another. If memory is refused it stops there.
 pub fn take_turns(
     alloc: Global,
     schema: &Schema,
@@ -157,7 +157,7 @@ pub fn take_turns(
     Ok(())
 }
 
-// The units of the core take these turns; the moves that they stand for, where these are no more than the limit.
+// The units of the core take these turns; the moves that the turns stand for, if these are no more than the limit.
 fn moves_of_turns(
     alloc: Global,
     core: &mut Core,
@@ -196,10 +196,10 @@ fn run_from(alloc: Global, mut core: Core, turns: &[u8], limit: usize) -> Result
     }
 }
 
-/// The units take these turns, from the opening database on, with a unit for each script: a turn is the events of a unit up to
-/// the last of its next statement, and nothing where there is no such unit or its script is at its end. The moves that the turns
-/// stand for are given where they are no more than the limit; a run with more of them goes on to its end just so. A step that
-/// finds no memory ends it.
+/// The units take these turns, starting with the opening database, with a unit for each script: a turn is the events of a unit up to
+/// the last of its next statement, and nothing if there is no such unit or its script is at its end. The moves that the turns
+/// stand for are given if they are no more than the limit; a run with more of them still goes on to its end. A step for
+/// which memory is refused ends it.
 pub fn run_turns(
     alloc: Global,
     schema: &Schema,

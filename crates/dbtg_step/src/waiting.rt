@@ -1,4 +1,4 @@
-//! For what a unit waits whose step is blocked, and which other units have that in hand.
+//! What a unit waits for when its step is blocked, and which other units have it.
 ghost use Rattle.std.specs.Prelude.{◌≡◌, ◌≤◌, ◌<◌, ◌-◌, ℕ, IfOk, MatchOption, None, Some, if◌then◌else◌, length, slice_get, true};
 ghost use Rattle.std.specs.List.{list_any};
 ghost use Rattle.dbtg_cells.specs.Names.{name_eq};
@@ -22,7 +22,7 @@ ghost use Rattle.dbtg_step.specs.Inside.Waiting.{IsAwaited, has_awaited, is_with
 
 use crate::needing::{holds_against, other_holds_against};
 use crate::parts::{CellLocation, Parts, Runner, StatementProgress};
-use crate::runner::{Phase, phase_of, statement_of};
+use crate::runner::{Phase, phase_of, progress_of, statement_of};
 use crate::statements::need_unless_delete;
 use dbtg_cells::{CellName, cell_number};
 use dbtg_schema::{AreaNo, Row, Schema};
@@ -36,7 +36,7 @@ pub enum Awaited {
     Cell(CellName),
 }
 
-/// What a unit waits for, and the numbers of the units that have it in hand, ascending.
+/// What a unit waits for, and the numbers of the units that have it, ascending.
 #[derive(Drop)]
 pub struct Blocking {
     pub awaited: Awaited,
@@ -81,7 +81,7 @@ fn where_held(is_held: bool, awaited: Awaited) -> Option<Awaited>
     if is_held { Some(awaited) } else { None }
 }
 
-// An area is waited for where another unit holds it in a way that conflicts.
+// An area is waited for if another unit holds it in a conflicting way.
 fn awaits_area(
     parts: &Parts,
     unit: u8,
@@ -98,7 +98,7 @@ fn awaits_area(
     where_held(is_held, Awaited::Area { area, exclusive })
 }
 
-// A cell is waited for where a unit has it.
+// A cell is waited for if a unit has it.
 fn awaits_cell(
     schema: &Schema,
     capacity: u16,
@@ -114,14 +114,14 @@ fn awaits_cell(
     requires needs { NeedsNext schema.now capacity parts.now unit progress (Need.Take name) }
     ensures { IsAwaited (core_of schema.now capacity parts.now) unit result }
 {
-    // Used by the contract alone.
+    // Unused here; the contract mentions it.
     let _ = progress.linked;
     let _ = unit;
     let is_held = is_with_unit(schema, capacity, parts.table.as_slice(), &name);
     where_held(is_held, awaited_cell(name))
 }
 
-// What the unit waits for, by what it needs next.
+// What the unit waits for, given what it needs next.
 fn awaited_by_need(
     schema: &Schema,
     capacity: u16,
@@ -140,15 +140,12 @@ fn awaited_by_need(
     match need {
         Need::Area(area) => awaits_area(parts, unit, progress, area),
         Need::Take(name) => awaits_cell(schema, capacity, parts, unit, progress, name),
-        Need::Stale(owners) => {
-            drop(owners);
-            None
-        }
+        Need::Stale => None,
         Need::Ready => None,
     }
 }
 
-// The same of a unit that follows its needs. A DELETE that has its areas waits for nobody.
+// The same for a unit that takes what it needs. A DELETE that has its areas waits for nobody.
 fn awaited_by_needing(
     schema: &Schema,
     capacity: u16,
@@ -168,7 +165,7 @@ fn awaited_by_needing(
     }
 }
 
-/// What the unit waits for, where its step is blocked.
+/// What the unit waits for, if its step is blocked.
 fn awaited_of(schema: &Schema, capacity: u16, parts: &Parts, unit: u8) -> Option<Awaited>
     requires well { IsWell schema.now capacity parts.now }
     ensures { IsAwaited (core_of schema.now capacity parts.now) unit result }
@@ -176,12 +173,16 @@ fn awaited_of(schema: &Schema, capacity: u16, parts: &Parts, unit: u8) -> Option
     if unit == 0 || parts.runners.len() < unit as usize {
         return None;
     }
-    match phase_of(&parts.runners[unit as usize - 1]) {
+    let runner = &parts.runners[unit as usize - 1];
+    match phase_of(runner) {
         Phase::Over => None,
         Phase::Between => None,
-        Phase::TurningBack(_) => None,
-        Phase::Needing(progress) => awaited_by_needing(schema, capacity, parts, unit, progress),
-        Phase::Ticketed(_) => None,
+        Phase::TurningBack => None,
+        Phase::Needing => {
+            let progress = progress_of(runner);
+            awaited_by_needing(schema, capacity, parts, unit, progress)
+        }
+        Phase::Ticketed => None,
     }
 }
 
@@ -203,7 +204,7 @@ fn has_awaited(runner: &Runner, awaited: &Awaited) -> bool
     }
 }
 
-// The units other than this one that have it in hand.
+// The other units that have it.
 fn holders_among(
     alloc: Global,
     runners: &[Runner],
@@ -222,7 +223,7 @@ fn holders_among(
     Ok(Row::of(holders))
 }
 
-/// What the unit waits for, where its step is blocked, with all who have it.
+/// What the unit waits for, if its step is blocked, with all units that have it.
 pub fn blocking_of(
     alloc: Global,
     schema: &Schema,

@@ -1,14 +1,17 @@
-//! Where a unit is, as one sees it from outside: what it has made, and how much it holds in mid-statement.
+//! Where a unit is, as one sees it from outside: what it has made, how much it holds in mid-statement, and what it took last of that.
 ghost use Rattle.std.specs.Prelude.{◌≡◌, ℕ};
 ghost use Rattle.dbtg_schema.specs.Lists.{Lists};
 ghost use Rattle.dbtg_step.specs.Machine.Network.{network};
 ghost use Rattle.dbtg_step.specs.Core.Parts.{unit_state_of};
+ghost use Rattle.dbtg_step.specs.Core.Newest.{newest_of};
 ghost use Rattle.dbtg_step.specs.Core.Positions.{position_of};
 
 use crate::parts::Runner;
+use dbtg_cells::CellName;
+use dbtg_schema::AreaNo;
 
 /// How far a unit is with its statement: how many areas and cells it holds, whether it turns back, whether it has its ticket, and how
-/// many of the cells are linked after it.
+/// many of the cells are linked after the ticket.
 #[derive(Clone, Copy, Debug, PartialEq, Eq)]
 pub struct Progress {
     pub areas: usize,
@@ -46,5 +49,28 @@ pub fn position_of(runner: &Runner) -> Position
     Position {
         made: runner.script.len() - left,
         progress: progress_of(runner),
+    }
+}
+
+/// What a unit took last, of the areas and of the cells that it holds in mid-statement.
+#[derive(Clone, Copy, Debug, PartialEq, Eq)]
+pub struct Newest {
+    pub area: Option<AreaNo>,
+    pub cell: Option<CellName>,
+}
+
+/// What the unit took last.
+pub fn newest_of(runner: &Runner) -> Newest
+    ensures { (schema : Lists) (capacity : ℕ) → result ≡ newest_of (unit_state_of schema capacity runner.now) }
+{
+    match runner.progress {
+        None => Newest {
+            area: None,
+            cell: None,
+        },
+        Some(_) => Newest {
+            area: runner.held.last_area(),
+            cell: runner.held.last_name(),
+        },
     }
 }

@@ -1,4 +1,4 @@
-//! A database in memory on which each statement is made whole, one after another: no unit waits, and nothing is in between.
+//! A database in memory on which each statement is made whole, one after another: no unit waits, and nothing happens in between.
 ghost use Rattle.std.specs.Prelude.{◌≡◌, ℕ, ◌≤◌, ◌<◌, ◌++◌, [], true, length, map, IfOk, OnOk, OnErr};
 ghost use Rattle.std.specs.List.{range_with_len};
 ghost use Rattle.dbtg_schema.specs.Sound.{IsSound};
@@ -19,13 +19,13 @@ use crate::drawing::{enter, make, make_room};
 use crate::imaging::{CellSource, read_image};
 use crate::opening_parts::{hold_opening_cells, opening_unit};
 use crate::results::Run;
-use crate::statements::next_need;
+use crate::statements::{next_need, true_guesses};
 use dbtg_schema::{AreaNo, Row, Schema};
 use dbtg_unit::{Answer, Entry, Held, Image, Need, Owners, Statement, Unit};
 use std::alloc::{AllocError, Global};
 use std::marker::Model;
 
-// All areas in hand.
+// Holds all areas.
 fn hold_areas(schema: &Schema, held: &mut Held) -> Result<(), AllocError>
     ensures { OnOk result (held.new ≡ record held.old { areas = held.old.areas ++ range_with_len 0 (length schema.now.areas) }) }
 {
@@ -40,9 +40,8 @@ fn opening_hands(alloc: Global, schema: &Schema, capacity: u16) -> Result<Held, 
     ensures all { IfOk result (λ held. HoldsAll schema.now capacity held) }
     ensures cells { IfOk result (λ held. AllAgree schema.now capacity (opening schema.now) held.cells) }
 {
-    let mut held = Held::new(alloc, Owners::none(schema.sets().len()));
+    let mut held = hold_opening_cells(alloc, schema, capacity)?;
     hold_areas(schema, &mut held)?;
-    hold_opening_cells(alloc, schema, capacity, &mut held)?;
     Ok(held)
 }
 
@@ -57,14 +56,14 @@ fn opening_units(alloc: Global, schema: &Schema, count: u8) -> Result<Vec<Unit>,
     Ok(units)
 }
 
-// Does the statement go by owners that a unit guesses? All others find theirs among the currents.
+// Does the statement use owners that a unit guesses? All others find theirs among the currents.
 fn goes_by_guesses(statement: &Statement) -> bool
     ensures { result ≡ goes_by_guesses statement.now }
 {
     matches!(statement, Statement::Remove(_) | Statement::Modify { .. })
 }
 
-// What the statement needs, where it is asked once: nothing was kept before, and nothing is kept.
+// What the statement needs, if it is asked once: nothing was kept before, and nothing is kept.
 fn need_once(
     alloc: Global,
     schema: &Schema,
@@ -82,8 +81,9 @@ fn need_once(
     next_need(alloc, schema, capacity, unit, statement, held, &mut course)
 }
 
-// Guesses that the statement needs are the true owners, and there are no others; a statement that needs none leaves them as they are.
-// With all areas and cells in hand it then needs nothing more.
+// Sets the guesses to the true owners, if the statement needs guesses; otherwise leaves them as they are.
+// With all areas and cells held, the statement is then ready. It stands apart, since guesses take room that is cleared at each call.
+#[inline(never)]
 fn guess_owners(
     alloc: Global,
     schema: &Schema,
@@ -105,13 +105,14 @@ fn guess_owners(
         return Ok(());
     }
     held.set_guesses(Owners::none(schema.sets().len()));
-    if let Need::Stale(owners) = need_once(alloc, schema, capacity, unit, statement, held)? {
-        held.set_guesses(owners);
+    if let Need::Stale = need_once(alloc, schema, capacity, unit, statement, held)? {
+        let guesses = true_guesses(schema, unit, statement, held);
+        held.set_guesses(guesses);
     }
     Ok(())
 }
 
-// The statement's effect on the unit and the cells in hand. Where memory is refused, all shows the same.
+// Carries out the statement on the unit and the cells that are held. If memory is refused, nothing visible changes.
 fn make_effect(
     alloc: Global,
     schema: &Schema,
@@ -136,7 +137,7 @@ fn make_effect(
     make(alloc, schema, capacity, unit, held, statement)
 }
 
-/// A database in memory, all of its cells in hand, with its units and the statements that they made.
+/// A database in memory, which holds all of its cells, with its units and the statements that they made.
 #[derive(Drop)]
 pub struct WholeDatabase<'a> {
     alloc: Global,
@@ -180,8 +181,8 @@ impl<'a> WholeDatabase<'a> {
         })
     }
 
-    /// One statement of the unit with this number, made whole: what it makes of the database and of its unit, and what it
-    /// answers, are its effect. Where memory is refused nothing is changed.
+    /// One statement of the unit with this number, made whole: what it does to the database and to its unit, and its
+    /// answer, are its effect. If memory is refused nothing is changed.
     pub fn make(&mut self, unit: u8, statement: Statement) -> Result<(), AllocError>
         requires numbered { 0 < unit }
         requires within { unit ≤ self.old.units }
@@ -227,7 +228,7 @@ impl<'a> WholeDatabase<'a> {
         read_image(self.alloc, self.schema, self.capacity, source)
     }
 
-    /// The database taken apart: its image, the statements that were made, and its units. There are no results of moves.
+    /// The database taken apart: its image, the statements that were made, and its units. Moves have no results.
     pub fn into_run(self) -> Result<Run, AllocError>
         ensures { IfOk result (λ given. IsMadeRun self.entry given) }
     {
@@ -240,8 +241,8 @@ impl<'a> WholeDatabase<'a> {
         }
     }
 
-    /// Lets go of the database and its units, and of their memory. Other crates end them by this, so that they need not prove what it is
-    /// to drop their parts.
+    /// Drops the database and its units. Other crates call this, so that they need not prove that their parts can
+    /// be dropped.
     pub fn discard(self) {
         drop(self)
     }

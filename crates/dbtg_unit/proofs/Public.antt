@@ -60,7 +60,7 @@ pub use Rattle.dbtg_unit.proofs.Lists.Membership.{of_map}
 pub use Rattle.dbtg_unit.proofs.Lists.Membership.{of_range}
 -- where there is a value and it passes, it is that value
 pub use Rattle.dbtg_unit.proofs.Lists.Membership.{some_and_value}
--- the whole as it will be, where so many entries are rewritten
+-- the whole as it will be, if this many entries are rewritten
 pub use Rattle.dbtg_unit.proofs.Lists.Numbered.{rewritten}
 -- where all entries are rewritten, the list is the whole as it will be
 pub use Rattle.dbtg_unit.proofs.Lists.Numbered.{rewritten_all}
@@ -438,6 +438,8 @@ pub use Rattle.dbtg_unit.proofs.Hands.Untouched.LocalStore.{new_is_fresh}
 pub use Rattle.dbtg_unit.proofs.Hands.Untouched.MadeOnEach.{cells_made}
 -- a plan that can be finished makes the statement on every database of which the cells in hand are
 pub use Rattle.dbtg_unit.proofs.Hands.Untouched.MadeOnEach.{plan_makes}
+-- a plan that is the statement's effect makes the statement on every database of which the cells in hand are
+pub use Rattle.dbtg_unit.proofs.Hands.Untouched.MadeOnEach.{prepared_makes}
 -- THE ORDER OF TAKING
 
 -- where each element of a list gives a list of which all pass, all pass of all these
@@ -468,6 +470,8 @@ pub use Rattle.dbtg_unit.proofs.Hands.Taking.FoundKeys.{first_of_filter}
 pub use Rattle.dbtg_unit.proofs.Hands.Taking.FoundKeys.{found_is}
 -- an element of a list turned round is in the list
 pub use Rattle.dbtg_unit.proofs.Hands.Taking.FoundKeys.{of_reverse}
+-- the areas of a statement that fits are the schema's
+pub use Rattle.dbtg_unit.proofs.Hands.Taking.KnownAreas.{areas_known}
 -- a need is above what was taken in turn
 pub use Rattle.dbtg_unit.proofs.Hands.Taking.NeedsInOrder.{above_hands}
 -- a cell that is needed lies in an area in hand
@@ -492,10 +496,14 @@ pub use Rattle.dbtg_unit.proofs.Hands.Holding.WhileEditing.{Held}
 pub use Rattle.dbtg_unit.proofs.Hands.Holding.WhileEditing.{are_distinct}
 -- no edit is of this name, and no two are of one name
 pub use Rattle.dbtg_unit.proofs.Hands.Holding.WhileEditing.{are_of_others}
+-- of edits that can be made in turn the first can be
+pub use Rattle.dbtg_unit.proofs.Hands.Holding.WhileEditing.{can_make_front}
 -- edits of distinct cells can be made in turn where each can be made of what is held now
 pub use Rattle.dbtg_unit.proofs.Hands.Holding.WhileEditing.{can_make_distinct}
 -- edits of distinct cells can be made, then last an edit of another cell and its next version
 pub use Rattle.dbtg_unit.proofs.Hands.Holding.WhileEditing.{can_make_raised}
+-- of edits that can be made in turn the last can be, once those before them are made
+pub use Rattle.dbtg_unit.proofs.Hands.Holding.WhileEditing.{can_make_rest}
 -- a cell that is written leaves the held cell of another name
 pub use Rattle.dbtg_unit.proofs.Hands.Holding.WhileEditing.{cell_of_other}
 -- edits of two lists can each be made of what is held where those of each list can
@@ -504,6 +512,10 @@ pub use Rattle.dbtg_unit.proofs.Hands.Holding.WhileEditing.{each_append}
 pub use Rattle.dbtg_unit.proofs.Hands.Holding.WhileEditing.{each_flat_map}
 -- a change of items leaves the version of a record as it is
 pub use Rattle.dbtg_unit.proofs.Hands.Holding.WhileEditing.{items_leave_version}
+-- edits, and then others, are all of them in turn
+pub use Rattle.dbtg_unit.proofs.Hands.Holding.WhileEditing.{made_append}
+-- what is held after edits shows what they make of it
+pub use Rattle.dbtg_unit.proofs.Hands.Holding.WhileEditing.{made_values}
 -- a change of an owner leaves the version of a record as it is
 pub use Rattle.dbtg_unit.proofs.Hands.Holding.WhileEditing.{owner_leaves_version}
 -- what is there after a cell was written is that cell, and there was one before

@@ -7,7 +7,6 @@ pub mod Erasing
 pub mod HeldNames
 pub mod InHand
 pub mod Kept
-pub mod Making
 pub mod PlanOf
 pub mod Prepared
 pub mod Reserving

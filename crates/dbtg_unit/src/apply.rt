@@ -84,7 +84,7 @@ fn edit_usage(usage: &mut Usage, edit: Edit)
     }
 }
 
-fn edit_extent(extent: &mut Extent, edit: Edit)
+pub(crate) fn edit_extent(extent: &mut Extent, edit: Edit)
     requires { CanEdit edit (Cell.Extent extent.old) }
     ensures { ExtentValue extent.new.numbers ≡ edited edit (ExtentValue extent.old.numbers) }
 {

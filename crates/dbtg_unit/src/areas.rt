@@ -1,4 +1,4 @@
-//! The areas of a statement: whether one of them has something, and the first that a unit has not in hand. Nothing
+//! The areas of a statement: whether one of them has a property, and the first that a unit does not hold. Nothing
 //! here takes memory, since the areas are asked one by one.
 ghost use Rattle.std.specs.Prelude.{◌≡◌, ◌&&◌, List, [], ◌∷◌, length, map, option_map, unwrap_or};
 ghost use Rattle.std.specs.List.{list_any, range_with_len};
@@ -9,21 +9,21 @@ ghost use Rattle.dbtg_unit.specs.Inside.Areas.{asks};
 ghost use Rattle.dbtg_unit.specs.Database.Statements.Checks.{area_of_current, areas_of, find_areas, is_update};
 
 use crate::changes::is_rekeyed_in;
-use crate::counts::{area_count, set_count, type_count};
+use crate::counts::{area_count, set_count};
 use crate::entries::entry_at;
 use crate::statement::{Change, Form, Statement};
 use crate::unit::Unit;
 use dbtg_cells::DbKey;
-use dbtg_schema::{AreaNo, AreaSet, ItemNo, RecordNo, Schema, SetNo};
+use dbtg_schema::{AreaNo, AreaSet, ItemNo, Member, RecordNo, Schema, SetNo};
 
-/// What is asked of an area.
+/// The question about an area.
 #[derive(Clone, Copy)]
 pub enum Question {
-    /// The unit has it not open.
+    /// Does the unit not have it open?
     NotOpen,
-    /// The unit has it not open in a mode for updates.
+    /// Does the unit not have it open in a mode for updates?
     NotUpdate,
-    /// It is this one.
+    /// Is it this one?
     Is(AreaNo),
 }
 
@@ -58,7 +58,7 @@ pub fn is_automatic_in(schema: &Schema, set: SetNo, rtype: RecordNo) -> bool
     schema.connects(set, rtype)
 }
 
-// Of the homes of the sets in which STORE connects a record of this type.
+// About the home areas of the sets in which STORE connects a record of this type.
 fn ask_of_automatic(schema: &Schema, unit: &Unit, question: &Question, rtype: RecordNo) -> bool
     ensures { result ≡ list_any (asks unit.now.modes question.now) (map (home schema.now) (automatic_sets schema.now rtype)) }
 {
@@ -70,7 +70,7 @@ fn ask_of_automatic(schema: &Schema, unit: &Unit, question: &Question, rtype: Re
     false
 }
 
-// Of the homes of the sets in which a MODIFY with these changes moves a record of this type.
+// About the home areas of the sets in which a MODIFY with these changes moves a record of this type.
 #[tactic(auto, using(crate::proofs::Lists::FromZeroUp::numbers_next, crate::proofs::Lists::FromZeroUp::numbers_end))]
 fn ask_of_rekeyed(
     schema: &Schema,
@@ -90,23 +90,27 @@ fn ask_of_rekeyed(
     false
 }
 
-// Of the areas of the set's member types.
-#[tactic(auto, using(crate::proofs::Lists::FromZeroUp::numbers_next, crate::proofs::Lists::FromZeroUp::numbers_end))]
+// About the areas of the record types of these member clauses.
+fn ask_of_clauses(schema: &Schema, unit: &Unit, question: &Question, clauses: &[Member]) -> bool
+    ensures { result ≡ list_any (λ m. asks unit.now.modes question.now (area_of schema.now m.rtype)) clauses.now }
+{
+    clauses
+        .iter()
+        .any(|clause| ask(unit, question, schema.area_of(clause.rtype)))
+}
+
+// About the areas of the set's member types.
 fn ask_of_members(schema: &Schema, unit: &Unit, question: &Question, set: SetNo) -> bool
     ensures { result ≡ list_any (asks unit.now.modes question.now) (map (area_of schema.now) (set_member_types schema.now set)) }
 {
-    for t in 0..type_count(schema) {
-        let rtype = RecordNo::new(t);
-        if schema.member_clause(set, rtype).is_some()
-            && ask(unit, question, schema.area_of(rtype))
-        {
-            return true;
-        }
+    schema.is_well_formed();
+    match schema.set_type(set) {
+        Some(it) => ask_of_clauses(schema, unit, question, it.members.as_slice()),
+        None => false,
     }
-    false
 }
 
-// Of the area of this record type, or of those of all the set's member types where none is named.
+// About the area of this record type, or of all the set's member types if none is named.
 fn ask_of_named(
     schema: &Schema,
     unit: &Unit,
@@ -148,21 +152,21 @@ fn ask_of_find(schema: &Schema, unit: &Unit, question: &Question, form: &Form) -
     }
 }
 
-// Of an area, where it is in the set.
+// About an area, if it is in the set.
 fn ask_if_in(unit: &Unit, question: &Question, areas: &AreaSet, area: AreaNo) -> bool
     ensures { result ≡ (marked areas.now area && asks unit.now.modes question.now area) }
 {
     areas.contains(area) && ask(unit, question, area)
 }
 
-// Of the areas in the set.
+// About the areas in the set.
 fn ask_of_marked(schema: &Schema, unit: &Unit, question: &Question, areas: &AreaSet) -> bool
     ensures { result ≡ list_any (λ a. marked areas.now a && asks unit.now.modes question.now a) (range_with_len 0 (length schema.now.areas)) }
 {
     (0..area_count(schema)).any(|a| ask_if_in(unit, question, areas, AreaNo::new(a)))
 }
 
-// Of the areas of a DELETE of a record of this type.
+// About the areas of a DELETE of a record of this type.
 fn ask_of_erased(schema: &Schema, unit: &Unit, question: &Question, rtype: RecordNo) -> bool
     ensures { result ≡ list_any (asks unit.now.modes question.now) (erase_areas schema.now rtype) }
 {
@@ -170,7 +174,7 @@ fn ask_of_erased(schema: &Schema, unit: &Unit, question: &Question, rtype: Recor
     ask_of_marked(schema, unit, question, &schema.erase_areas(rtype))
 }
 
-/// Does one of the areas of a statement have this?
+/// Is the answer yes for one of the areas of a statement?
 pub(crate) fn ask_of_areas(
     schema: &Schema,
     unit: &Unit,

@@ -8,7 +8,7 @@ ghost use Rattle.dbtg_unit.specs.Database.Statements.Effect.{names_calc};
 use crate::statement::Change;
 use dbtg_schema::{ItemNo, RecordNo, Schema, SetNo};
 
-/// Is this item among those changed?
+/// Is this one of the changed items?
 pub fn names_item(changes: &[Change], item: ItemNo) -> bool
     ensures changed { result ≡ list_any (λ c. c.item == item) changes.now }
     ensures named { result ≡ list_any (λ i. i == item) (map (λ c. c.item) changes.now) }
@@ -21,7 +21,7 @@ pub fn names_item(changes: &[Change], item: ItemNo) -> bool
     false
 }
 
-/// Is this a sorted set of the record type whose key item is among those changed?
+/// Is this a sorted set of the record type whose key item is changed?
 pub fn is_rekeyed_in(schema: &Schema, set: SetNo, rtype: RecordNo, changes: &[Change]) -> bool
     ensures { result ≡ some_and (λ m. some_and (λ i. list_any (λ j. j == i) (map (λ c. c.item) changes.now)) m.key) (member_clause schema.now set rtype) }
 {
@@ -47,7 +47,7 @@ fn names_one(changes: &[Change], items: &[ItemNo]) -> bool
     false
 }
 
-/// Is a CALC item of the record type among those changed?
+/// Is a CALC item of the record type changed?
 pub fn names_calc(schema: &Schema, rtype: RecordNo, changes: &[Change]) -> bool
     ensures { result ≡ names_calc schema.now rtype changes.now }
 {

@@ -1,4 +1,4 @@
-//! The checks of a statement that need the schema and the unit alone, and no cell. Nothing here takes memory.
+//! The checks of a statement that need only the schema and the unit, and no cell. Nothing here takes memory.
 ghost use Rattle.std.specs.Prelude.{◌≡◌, ◌&&◌, not, is_none, option_map};
 ghost use Rattle.std.specs.List.{list_any};
 ghost use Rattle.dbtg_schema.specs.Lookups.{some_and};
@@ -137,7 +137,7 @@ fn has_null(schema: &Schema, unit: &Unit, set: SetNo) -> bool
     unit.place_in(schema, set).is_none()
 }
 
-// Is the current of a set null in which STORE would connect a record of this type?
+// Is there a set with a null current in which STORE would connect a record of this type?
 fn store_wants_null(schema: &Schema, unit: &Unit, rtype: RecordNo) -> bool
     ensures { result ≡ list_any (λ s. is_none (place_in schema.now unit.now s)) (automatic_sets schema.now rtype) }
 {
@@ -202,7 +202,7 @@ fn frees_what_is_not_kept(unit: &Unit, statement: &Statement) -> bool
     }
 }
 
-/// The cause for which a statement is refused with no cell taken: the first that applies, and none where cells decide.
+/// The cause for which a statement is refused without looking at cells: the first that applies; none if cells decide.
 pub fn refused_at_once(
     schema: &Schema,
     capacity: u16,

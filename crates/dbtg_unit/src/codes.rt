@@ -1,4 +1,4 @@
-//! The numbers of statements and causes, of which a printed status is made. It needs nothing but the types.
+//! The numbers of statements and causes, which make up a printed status. It needs nothing but the types.
 ghost use Rattle.std.specs.Prelude.{◌≡◌};
 ghost use Rattle.dbtg_unit.specs.Database.Statements.Codes.{cause_code, statement_code, status_code};
 

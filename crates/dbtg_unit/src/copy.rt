@@ -1,4 +1,4 @@
-//! Copies of what owns memory. Each takes the memory of the copy, or finds none and leaves the original as it is.
+//! Copies of values that own memory. If memory is refused, the original stays as it is.
 ghost use Rattle.std.specs.Prelude.{◌≡◌, IfOk, List};
 
 use crate::statement::{Change, Form, Statement};

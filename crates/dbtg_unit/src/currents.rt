@@ -1,4 +1,4 @@
-//! What the statements change of a run-unit beside what a FIND or STORE sees: its modes, the current of one set, its
+//! What statements change of a run-unit apart from what a FIND or STORE makes current: its modes, the current of one set, its
 //! current of run-unit, its kept list. Nothing here takes memory.
 ghost use Rattle.std.specs.Prelude.{◌≡◌, [], Some, None, slice_set};
 ghost use Rattle.dbtg_unit.specs.Database.State.Base.{Database};
@@ -14,14 +14,14 @@ use dbtg_cells::{DbKey, Mode};
 use dbtg_schema::{AreaNo, SetNo};
 
 impl Unit {
-    /// Has the area open in this mode.
+    /// Opens the area in this mode.
     pub fn open(&mut self, area: AreaNo, mode: Mode)
         ensures { self.new ≡ record self.old { modes = slice_set self.old.modes area (Some mode) } }
     {
         set_entry(&mut self.modes, area.index() as usize, Some(mode));
     }
 
-    /// Has the area open no longer.
+    /// Closes the area.
     pub fn close(&mut self, area: AreaNo)
         ensures { self.new ≡ record self.old { modes = slice_set self.old.modes area None } }
     {
@@ -35,7 +35,7 @@ impl Unit {
         set_entry(&mut self.currency.sets, set.index() as usize, Some(place));
     }
 
-    /// Has no current of run-unit.
+    /// Clears the current of run-unit.
     pub fn clear_run_unit(&mut self)
         ensures { self.new ≡ record self.old { currency = record self.old.currency { run_unit = None } } }
     {
@@ -49,14 +49,14 @@ impl Unit {
         self.kept.version(key)
     }
 
-    /// Keeps what this list says, which was made before by `Kept::noted`.
+    /// Keeps the records of this list, which was made by `Kept::noted`.
     pub fn keep(&mut self, kept: Kept)
         ensures { self.new ≡ record self.old { kept = kept } }
     {
         self.kept = kept;
     }
 
-    /// Keeps a key no longer.
+    /// Stops keeping a key.
     pub fn forget(&mut self, key: DbKey)
         ensures { self.new ≡ record self.old { kept = forgotten key self.old.kept } }
     {
@@ -70,7 +70,7 @@ impl Unit {
         self.kept.clear();
     }
 
-    /// Takes note that this unit's own statement gave the record another version.
+    /// Notes that this unit's own statement gave the record another version.
     pub fn renote(&mut self, key: DbKey, version: u64)
         ensures change { self.new ≡ record self.old { kept = noted_again key version self.old.kept } }
         ensures renoted { (db : Database) → version_of db key ≡ version → self.new ≡ renoted (key_eq key) db self.old }

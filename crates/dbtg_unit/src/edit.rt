@@ -23,12 +23,12 @@ pub enum Edit {
     LeaveUser {
         unit: u8,
     },
-    /// A number of an extent is live in its next generation, with these CALC values.
+    /// A number of an extent becomes live in its next generation, with these CALC values.
     EnterNumber {
         number: u32,
         calc: Row<Value>,
     },
-    /// A number of an extent is live no more.
+    /// A number of an extent is no longer live.
     LeaveNumber {
         number: u32,
     },
@@ -37,11 +37,11 @@ pub enum Edit {
         number: u32,
         calc: Row<Value>,
     },
-    /// A ring has an owner, and no member.
+    /// A ring gets an owner, with no member.
     OpenRing {
         owner: Owner,
     },
-    /// A ring has no owner any more.
+    /// A ring no longer has an owner.
     CloseRing,
     /// A new member of a ring, placed by the order of its set, from a position.
     PlaceMember {
@@ -50,46 +50,46 @@ pub enum Edit {
         key: DbKey,
         sort_key: Option<Value>,
     },
-    /// A member of a ring, placed anew with this sort key.
+    /// A member of a ring is placed again with this sort key.
     ReplaceMember {
         order: Order,
         position: Option<DbKey>,
         key: DbKey,
         sort_key: Option<Value>,
     },
-    /// A member leaves a ring.
+    /// A member is taken out of a ring.
     TakeOut {
         key: DbKey,
     },
-    /// A slot has a record, in its first version.
+    /// A slot gets a record, in its first version.
     Fill {
         generation: u8,
         items: Row<Value>,
         owners: Row<Option<Owner>>,
     },
-    /// A slot is vacant.
+    /// A slot becomes vacant.
     Vacate,
-    /// The items of the record in a slot are now these.
+    /// The record in a slot gets these items.
     ChangeItems {
         items: Row<Value>,
     },
-    /// The record in a slot has this owner in a set, or none.
+    /// The record in a slot gets this owner in a set, or none.
     ChangeOwner {
         set: SetNo,
         owner: Option<Owner>,
     },
-    /// The record in a slot has its next version.
+    /// The record in a slot gets its next version.
     RaiseVersion,
 }
 
-/// A change of the cell of a name.
+/// A change of the cell with this name.
 #[derive(Drop)]
 pub struct CellEdit {
     pub name: CellName,
     pub edit: Edit,
 }
 
-/// Adds the edit by which a record leaves the list of its owner in a set, where it has one.
+/// Adds the edit by which a record leaves the list of its owner in a set, if it has one.
 pub fn push_taking_out(
     edits: &mut Row<CellEdit>,
     set: SetNo,
@@ -107,41 +107,41 @@ pub fn push_taking_out(
     Ok(())
 }
 
-/// The change of the unit, and of its guesses, that a statement makes.
+/// The change that a statement makes to the unit and to its guesses.
 #[derive(Drop)]
 pub enum UnitEdit {
     Same,
-    /// A record with these owners was found or stored, and is current; its owners are the guesses.
+    /// A record with these owners was found or stored, and becomes current; its owners become the guesses.
     See {
         key: DbKey,
         owners: Owners,
         suppress: Suppress,
     },
-    /// The current of a set moves; its owner is the guess there.
+    /// The current of a set moves; its owner becomes the guess there.
     Move {
         set: SetNo,
         place: Place,
     },
-    /// The current of run-unit left its list in a set; there is no guess there.
+    /// The current of run-unit left its list in a set; there is no guess there any more.
     Leave {
         set: SetNo,
     },
-    /// An area is open in a mode, or is not open.
+    /// An area is opened in a mode, or closed.
     SetMode {
         area: AreaNo,
         mode: Option<Mode>,
     },
-    /// The records that are kept are now these.
+    /// These records are now kept.
     Keep {
         kept: Kept,
     },
-    /// A record is kept no more.
+    /// A record is no longer kept.
     Forget {
         key: DbKey,
     },
     /// No record is kept any more.
     ForgetAll,
-    /// The current of run-unit was deleted: there is none, and it is not kept.
+    /// The current of run-unit was deleted: it is cleared, and the record is no longer kept.
     LoseCurrent {
         key: DbKey,
     },

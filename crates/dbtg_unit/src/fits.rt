@@ -1,4 +1,4 @@
-//! Whether a statement is one of a schema: its numbers in range, its values of their items' pictures. It takes no memory.
+//! Whether a statement fits a schema: its numbers are in range, and its values have their items' pictures. It takes no memory.
 ghost use Rattle.std.specs.Prelude.{◌≡◌, ◌&&◌, ◌==◌, not, length, map, nat_lt, nat_le, unwrap_or, is_some};
 ghost use Rattle.std.specs.List.{list_all, list_any};
 ghost use Rattle.dbtg_schema.specs.Lookups.{some_and};
@@ -21,7 +21,7 @@ fn is_text(bytes: &[u8]) -> bool
     true
 }
 
-// Has a number at most so many decimal digits?
+// Does a number have at most this many decimal digits?
 fn is_number_of(value: u64, digits: u8) -> bool
     ensures { result ≡ value_fits (Picture.Number digits) (Value.Num value) }
 {
@@ -50,7 +50,7 @@ fn is_of_picture(value: &Value, picture: Picture) -> bool
     }
 }
 
-// As many values as items, each of its item's picture?
+// Are there as many values as items, each with its item's picture?
 #[tactic(auto, using(crate::proofs::Lists::SideBySide::drop_some, crate::proofs::Lists::SideBySide::drop_none))]
 fn are_of_items(values: &[Value], items: &[Item]) -> bool
     ensures { result ≡ values_fit (map (λ i. i.picture) items.now) values.now }
@@ -68,7 +68,7 @@ fn are_of_items(values: &[Value], items: &[Item]) -> bool
     items.get(values.len()).is_none()
 }
 
-// The picture of an item, and 9(0) for none.
+// The picture of an item; 9(0) if there is none.
 fn picture_or_none(schema: &Schema, rtype: RecordNo, item: ItemNo) -> Picture
     ensures { result ≡ unwrap_or (picture_of schema.now rtype item) (Picture.Number 0) }
 {
@@ -78,7 +78,7 @@ fn picture_or_none(schema: &Schema, rtype: RecordNo, item: ItemNo) -> Picture
     }
 }
 
-// As many values as these items of a record type, each of its item's picture?
+// Are there as many values as these items of a record type, each with its item's picture?
 #[tactic(auto, using(crate::proofs::Lists::SideBySide::drop_some, crate::proofs::Lists::SideBySide::drop_none))]
 fn are_of_numbers(schema: &Schema, rtype: RecordNo, items: &[ItemNo], values: &[Value]) -> bool
     ensures { result ≡ values_fit (pictures_at schema.now rtype items.now) values.now }
@@ -134,7 +134,7 @@ fn has_area(schema: &Schema, area: AreaNo) -> bool
     (area.index() as usize) < schema.areas().len()
 }
 
-// Is the value of the picture of this member's key item?
+// Does the value have the picture of this member's key item?
 fn member_key_fits(schema: &Schema, member: &Member, value: &Value) -> bool
     ensures { result ≡ member_key_fits schema.now value.now member.now }
 {
@@ -160,7 +160,7 @@ fn is_of_keys(schema: &Schema, members: &[Member], value: &Value) -> bool
     true
 }
 
-// Is the value of the picture of the set's keys?
+// Does the value have the picture of the set's keys?
 fn key_fits(schema: &Schema, set: SetNo, value: &Value) -> bool
     ensures { result ≡ key_fits schema.now set value.now }
 {
@@ -196,7 +196,7 @@ fn is_key_of(schema: &Schema, key: &DbKey) -> bool
     has_type(schema, key.rtype) & (0 < key.number) & (key.number <= 999_999) & (0 < key.generation)
 }
 
-// Are these bits of the schema's sets alone?
+// Do these bits stand for sets of the schema alone?
 fn suppress_fits(schema: &Schema, suppress: &Suppress) -> bool
     ensures { result ≡ suppress_fits schema.now suppress.now }
 {
@@ -233,7 +233,7 @@ fn are_calc_values(schema: &Schema, rtype: RecordNo, values: &[Value]) -> bool
 }
 
 impl Form {
-    /// Is this a form of the schema?
+    /// Does this form fit the schema?
     pub fn fits(&self, schema: &Schema) -> bool
         ensures { result ≡ form_fits schema.now self.now }
     {
@@ -260,7 +260,7 @@ impl Form {
 }
 
 impl Statement {
-    /// Is this a statement of the schema? No number in it is too high for this to answer.
+    /// Does this statement fit the schema? It may contain any numbers, however high.
     pub fn fits(&self, schema: &Schema) -> bool
         ensures { result ≡ fits schema.now self.now }
     {

@@ -1,18 +1,18 @@
 //! What a statement has in hand: areas and cells in the order of taking, and the unit's guesses of owners. Short lists
 //! live in place, so that most statements take no memory for them.
-ghost use Rattle.std.specs.Prelude.{◌≡◌, ◌==◌, [], ◌∷◌, ◌++◌, length, map, false, option_copied, slice_get, slice_set, IfErr, IfNone, OnErr, OnOk};
+ghost use Rattle.std.specs.Prelude.{◌≡◌, ◌==◌, ◌-◌, [], ◌∷◌, ◌++◌, length, map, option_map, false, option_copied, slice_get, slice_set, IfErr, IfNone, OnErr, OnOk};
 ghost use Rattle.std.specs.Borrow.{sem};
-ghost use Rattle.std.specs.List.{list_any};
+ghost use Rattle.std.specs.List.{list_any, zip};
 ghost use Rattle.std.specs.Option.{option_copied_mut, option_to_list};
 ghost use Rattle.dbtg_schema.specs.Lookups.{at};
 ghost use Rattle.dbtg_cells.specs.Names.{name_eq};
-ghost use Rattle.dbtg_unit.specs.Hands.Hands.{cell_of};
+ghost use Rattle.dbtg_unit.specs.Hands.Hands.{StandAtNumbers, cell_of};
 ghost use Rattle.dbtg_unit.specs.Hands.Lends.{LendsCell};
 
 use crate::entries::entry_at;
-use crate::names::{NameKey, enter, find_place, leave};
+use crate::names::{FirstNames, NameKey, enter, find_place, leave};
 use crate::owners::Owners;
-use dbtg_cells::{Cell, CellName, Owner};
+use dbtg_cells::{Cell, CellName, Layout, Owner};
 use dbtg_schema::{AreaNo, SetNo};
 use indexmap::IndexMap;
 use smallvec::SmallVec;
@@ -20,14 +20,14 @@ use std::alloc::{AllocError, AllocFailed, Global};
 use std::marker::Model;
 
 /// What a statement needs next.
-#[derive(Drop)]
+#[derive(Clone, Copy)]
 pub enum Need {
-    /// This area, of those that it wants.
+    /// This area, one of those that the statement wants.
     Area(AreaNo),
     /// This cell.
     Take(CellName),
-    /// Other guesses: the true owner in each set where its guess is wrong.
-    Stale(Owners),
+    /// Other guesses: a needed owner is not the guess.
+    Stale,
     /// Nothing more.
     Ready,
 }
@@ -37,6 +37,7 @@ pub enum Need {
 pub struct Held {
     areas: SmallVec<u8, 8>,
     names: SmallVec<CellName, 8>,
+    first: FirstNames,
     index: IndexMap<NameKey, usize>,
     cells: SmallVec<Cell, 8>,
     guesses: Owners,
@@ -47,13 +48,13 @@ impl Model for Held {
     ghost use Rattle.std.specs.List.{zip};
     ghost use Rattle.indexmap.specs.IndexMap.{get};
     ghost use Rattle.dbtg_unit.specs.Hands.Hands.{Hands};
-    ghost use Rattle.dbtg_unit.specs.Inside.HeldNames.{key_eq, IsIndexOf};
+    ghost use Rattle.dbtg_unit.specs.Inside.HeldNames.{key_eq, first_count, AreNumbered, IsIndexOf};
 
     ghost Value = { Hands };
 
     ghost view = { λ h. record { areas = h.areas.items; cells = zip h.names.items h.cells.items; guesses = h.guesses } };
 
-    ghost invariant = { λ h. (length h.cells.items ≡ length h.names.items) × IsIndexOf (get key_eq h.index) h.names.items };
+    ghost invariant = { λ h. (length h.cells.items ≡ length h.names.items) × IsIndexOf (get key_eq h.index) (first_count h.first) h.names.items × AreNumbered h.first h.names.items };
 }
 
 fn is_among(areas: &[u8], area: u8) -> bool
@@ -74,15 +75,39 @@ fn cell_at(cells: &[Cell], at: usize) -> Option<&Cell>
 }
 
 impl Held {
-    /// Empty hands with these guesses.
+    /// Hands that hold nothing, with these guesses.
     pub fn new(alloc: Global, guesses: Owners) -> Self
         ensures { result ≡ record { areas = []; cells = []; guesses = guesses } }
     {
         Self {
             areas: SmallVec::new(alloc),
             names: SmallVec::new(alloc),
+            first: FirstNames::InPlace,
             index: IndexMap::new(alloc),
             cells: SmallVec::new(alloc),
+            guesses,
+        }
+    }
+
+    /// Hands with these cells, each at its number in a layout, and these guesses: no cell has to be searched.
+    pub fn numbered(
+        alloc: Global,
+        layout: Layout,
+        names: Vec<CellName>,
+        cells: Vec<Cell>,
+        guesses: Owners,
+    ) -> Self
+        requires numbered { StandAtNumbers layout (length names.items) names.items }
+        requires named { length cells.items ≡ length names.items }
+        ensures { result ≡ record { areas = []; cells = zip names.items cells.items; guesses = guesses } }
+    {
+        let names = SmallVec::from_vec(names);
+        Self {
+            areas: SmallVec::new(alloc),
+            first: FirstNames::Numbered(layout, names.len()),
+            names,
+            index: IndexMap::new(alloc),
+            cells: SmallVec::from_vec(cells),
             guesses,
         }
     }
@@ -94,29 +119,29 @@ impl Held {
         is_among(self.areas.as_slice(), area.index())
     }
 
-    /// The cell of this name, if it is in hand.
+    /// The cell with this name, if it is held.
     pub fn cell(&self, name: &CellName) -> Option<&Cell>
         ensures { option_copied result ≡ cell_of name.now self.now.cells }
     {
-        match find_place(self.names.as_slice(), &self.index, name) {
+        match find_place(self.names.as_slice(), &self.first, &self.index, name) {
             Some(at) => cell_at(self.cells.as_slice(), at),
             None => None,
         }
     }
 
-    /// The cells in hand, in the order of taking.
+    /// The cells that are held, in the order of taking.
     pub fn cells(&self) -> &[Cell]
         ensures { result.now ≡ map (λ e. e.1) self.now.cells }
     {
         self.cells.as_slice()
     }
 
-    /// The cell of this name, if it is in hand, to be written.
+    /// The cell with this name, if it is held, to be written.
     pub fn cell_mut(&mut self, name: &CellName) -> Option<&mut Cell>
         ensures* writes_back { sem 𝓛 (LendsCell name.now self.entry result) }
         ensures value { option_copied_mut result ≡ cell_of name.now self.old.cells }
     {
-        match find_place(self.names.as_slice(), &self.index, name) {
+        match find_place(self.names.as_slice(), &self.first, &self.index, name) {
             Some(at) => self.cells.get_mut(at),
             None => None,
         }
@@ -124,7 +149,7 @@ impl Held {
 }
 
 impl Held {
-    /// Takes an area in hand, behind the others. Where no room is found nothing changes.
+    /// Appends an area to those that are held. On failure nothing changes.
     pub fn push_area(&mut self, area: AreaNo) -> Result<(), AllocError>
         ensures ok { OnOk result (self.new ≡ record self.old { areas = self.old.areas ++ area ∷ [] }) }
         ensures err { OnErr result (self.new ≡ self.old) }
@@ -133,7 +158,7 @@ impl Held {
         Ok(())
     }
 
-    /// Gives the area back that was taken last.
+    /// Gives back the area that was taken last.
     pub fn pop_area(&mut self) -> Option<AreaNo>
         ensures areas { self.old.areas ≡ self.new.areas ++ option_to_list result }
         ensures none { IfNone result (self.old.areas ≡ []) }
@@ -145,7 +170,7 @@ impl Held {
         }
     }
 
-    /// Takes a cell in hand that isn't yet, behind the others. Where no room is found nothing changes, and the error has the cell.
+    /// Appends a cell that is not held yet. On failure nothing changes, and the error returns the cell.
     pub fn push_cell(&mut self, name: CellName, cell: Cell) -> Result<(), AllocFailed<Cell>>
         requires { list_any (λ e. name_eq name e.0) self.old.cells ≡ false }
         ensures ok { OnOk result (self.new ≡ record self.old { cells = self.old.cells ++ (name, cell) ∷ [] }) }
@@ -155,22 +180,12 @@ impl Held {
         if self.names.reserve(1).is_err() || self.cells.reserve(1).is_err() {
             return Err(AllocFailed { value: cell });
         }
-        if enter(&mut self.index, &name, self.names.len()).is_err() {
+        if enter(&mut self.index, self.first.count(), &name, self.names.len()).is_err() {
             return Err(AllocFailed { value: cell });
         }
         self.cells.push_reserved(cell);
         self.names.push_reserved(name);
         Ok(())
-    }
-
-    /// Asks for memory for `more` cells at once, where they would grow it step by step. It saves time alone: no promise
-    /// rests on it, and nothing that is held changes.
-    pub fn reserve_cells(&mut self, more: usize) -> Result<(), AllocError>
-        ensures { self.new ≡ self.old }
-    {
-        self.names.reserve(more)?;
-        self.cells.reserve(more)?;
-        self.index.reserve(more)
     }
 
     /// Gives the cell back that was taken last, under its name.
@@ -180,9 +195,27 @@ impl Held {
         ensures rest { self.new ≡ record self.old { cells = self.new.cells } }
     {
         let name = self.names.pop()?;
-        leave(&mut self.index, &name, self.names.len());
+        let left = self.names.len();
+        leave(&mut self.index, self.first.count(), &name, left);
+        self.first.keep(left);
         let cell = self.cells.pop()?;
         Some((name, cell))
+    }
+
+    /// The area that was taken last.
+    pub fn last_area(&self) -> Option<AreaNo>
+        ensures { result ≡ slice_get self.now.areas (length self.now.areas - 1) }
+    {
+        self.areas.as_slice().last().map(|area| AreaNo::new(*area))
+    }
+
+    /// The name of the cell that was taken last.
+    pub fn last_name(&self) -> Option<CellName>
+        ensures { result ≡ option_map (λ e. e.0) (slice_get self.now.cells (length self.now.cells - 1)) }
+    {
+        // The invariant: there are as many names as cells.
+        let _ = &self.cells;
+        self.names.as_slice().last().copied()
     }
 
     /// How many areas are in hand.
@@ -192,7 +225,7 @@ impl Held {
         self.areas.len()
     }
 
-    /// How many cells are in hand.
+    /// How many cells are held.
     pub fn cell_count(&self) -> usize
         ensures { result ≡ length self.now.cells }
     {

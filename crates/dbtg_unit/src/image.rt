@@ -1,9 +1,9 @@
-//! The image of a database: all that it has, as lists.
+//! The image of a database: its contents as lists.
 use dbtg_cells::{DbKey, Mode, Owner, Value};
 use dbtg_schema::Row;
 use std::marker::Model;
 
-/// All that a database has, as lists: records and versions by key; the lists by set, then owner; by record type the least
+/// The contents of a database as lists: records and versions by key; the lists by set, then owner; by record type the least
 /// free number, 0 for none, and the last generation of each number; by area who has it open, in the order of opening.
 #[derive(Drop)]
 pub struct Image {

@@ -1,4 +1,4 @@
-//! What is read off the cells in hand. Nothing here takes memory.
+//! What is read from the cells that are held. Nothing here takes memory.
 ghost use Rattle.std.specs.Prelude.{◌≡◌, ℕ, ◌+◌, [], is_some, option_and_then, option_copied, option_map, unwrap_or};
 ghost use Rattle.dbtg_schema.specs.Lookups.{at, first_cause};
 ghost use Rattle.dbtg_unit.specs.Database.Statements.Checks.{own_checks};
@@ -21,7 +21,7 @@ pub fn ring_name(set: SetNo, owner: &Owner) -> CellName
     }
 }
 
-/// The record of a key, if its slot is in hand and has that record.
+/// The record of a key, if its slot is held and has that record.
 pub fn stored<'a>(held: &'a Held, key: &DbKey) -> Option<&'a Stored>
     ensures { option_copied result ≡ stored_in held.now key.now }
 {
@@ -40,7 +40,7 @@ pub fn stored<'a>(held: &'a Held, key: &DbKey) -> Option<&'a Stored>
     }
 }
 
-/// The version of a record in hand once it is changed.
+/// The version of a record that is held once it is changed.
 #[tactic(auto, using(crate::proofs::Hands::Reading::NextVersions::has_next_version))]
 pub fn next_version(held: &Held, key: &DbKey) -> u64
     requires { HaveNextVersions held.now.cells }
@@ -52,7 +52,7 @@ pub fn next_version(held: &Held, key: &DbKey) -> u64
     }
 }
 
-/// The owner of a record in a set, by its slot in hand.
+/// The owner of a record in a set, from its slot, which is held.
 pub fn owner_of(held: &Held, set: SetNo, key: &DbKey) -> Option<Owner>
     ensures { result ≡ owner_in held.now set key.now }
 {
@@ -65,7 +65,7 @@ pub fn owner_of(held: &Held, set: SetNo, key: &DbKey) -> Option<Owner>
     }
 }
 
-/// The owners of a record, by set, by its slot in hand; there are none where the slot is not in hand or has another record.
+/// The owners of a record, by set, from its slot; there are none if the slot is not held or has another record.
 pub fn owners_of<'a>(held: &'a Held, key: &DbKey) -> &'a [Option<Owner>]
     ensures { (s : ℕ) → at result.now s ≡ owner_in held.now s key.now }
 {
@@ -75,7 +75,7 @@ pub fn owners_of<'a>(held: &'a Held, key: &DbKey) -> &'a [Option<Owner>]
     }
 }
 
-/// The ring of an owner in a set, if it is in hand and has that owner's occurrence.
+/// The ring of an owner in a set, if it is held and has that owner's occurrence.
 pub fn occurrence<'a>(held: &'a Held, set: SetNo, owner: &Owner) -> Option<&'a Ring>
     ensures there { is_some result ≡ is_some (occurrence_in held.now set owner.now) }
     ensures value { option_and_then (λ r. r.occurrence) (option_copied result) ≡ occurrence_in held.now set owner.now }
@@ -95,7 +95,7 @@ pub fn occurrence<'a>(held: &'a Held, set: SetNo, owner: &Owner) -> Option<&'a R
     }
 }
 
-/// The extent of a record type, if it is in hand.
+/// The extent of a record type, if it is held.
 pub fn numbers(held: &Held, rtype: RecordNo) -> Option<&Extent>
     ensures there { option_copied result ≡ extent_in held.now rtype }
     ensures value { unwrap_or (option_map (λ e. e.numbers) (option_copied result)) [] ≡ numbers_in held.now rtype }
@@ -106,7 +106,7 @@ pub fn numbers(held: &Held, rtype: RecordNo) -> Option<&Extent>
     }
 }
 
-/// The usage cell of an area, if it is in hand.
+/// The usage cell of an area, if it is held.
 pub fn usage(held: &Held, area: AreaNo) -> Option<&Usage>
     ensures there { option_copied result ≡ usage_in held.now area }
     ensures value { unwrap_or (option_map (λ u. u.users) (option_copied result)) [] ≡ users_in held.now area }

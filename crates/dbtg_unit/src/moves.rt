@@ -1,4 +1,4 @@
-//! The moves of a run, and what each came to.
+//! The moves of a run, and the result of each.
 
 /// One move of a run: a step of the unit with this number, or its quit. Units are numbered from 1.
 #[derive(Clone, Copy, Debug, PartialEq, Eq)]
@@ -7,15 +7,15 @@ pub enum Move {
     Quit(u8),
 }
 
-/// What a step or a quit came to.
+/// The result of a step or a quit.
 #[derive(Clone, Copy, Debug, PartialEq, Eq)]
 pub enum Stepped {
-    /// One event was made.
+    /// An event was made.
     Moved,
     /// Another unit holds the area or the cell that is needed next; nothing is changed.
     Blocked,
     /// There is no such unit, or it has nothing to do; nothing is changed.
     Idle,
-    /// A growth was refused in place of the event; nothing is changed.
+    /// Memory was refused before the event; nothing is changed.
     NoMemory,
 }

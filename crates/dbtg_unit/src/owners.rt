@@ -1,4 +1,4 @@
-//! An owner or none for each set of a schema, in place. Nothing here takes memory.
+//! An owner or none for each set of a schema, stored inline. Nothing here takes memory.
 ghost use Rattle.std.specs.Prelude.{◌≡◌, ◌≤◌, ◌<◌, slice_set, length, replicate, take, None};
 ghost use Rattle.dbtg_unit.specs.Hands.Guesses.{with_owners};
 
@@ -34,7 +34,7 @@ fn set_entry(entries: &mut [Option<Owner>; SETS], set: usize, owner: Option<Owne
 }
 
 impl Owners {
-    /// No owner in any of so many sets.
+    /// No owner in any of this many sets.
     pub fn none(sets: usize) -> Self
         requires { sets ≤ 16 }
         ensures { result ≡ replicate sets None }
@@ -45,7 +45,7 @@ impl Owners {
         }
     }
 
-    /// These owners, the first sixteen where there are more.
+    /// These owners; if there are more than sixteen, the first sixteen.
     pub fn of(owners: &[Option<Owner>]) -> Self
         ensures { result ≡ take 16 owners.now }
     {
@@ -61,7 +61,7 @@ impl Owners {
         &self.entries[..self.len]
     }
 
-    /// Notes the owner in a set; where there is no entry of it nothing changes.
+    /// Notes the owner in a set; nothing changes if the set has no entry.
     pub fn set(&mut self, set: usize, owner: Option<Owner>)
         ensures { self.new ≡ slice_set self.old set owner }
     {
@@ -71,7 +71,7 @@ impl Owners {
     }
 }
 
-/// These guesses with the true owners: where there is one it is the guess, elsewhere the guess stays.
+/// These guesses with the true owners: where there is a true owner it becomes the guess, elsewhere the guess stays.
 pub fn with_true_owners(guesses: &[Option<Owner>], mut owners: Owners) -> Owners
     requires { length guesses.now ≡ length owners }
     ensures { result ≡ with_owners guesses.now owners }

@@ -1,4 +1,4 @@
-//! Where a run-unit stands in a set, and which record that is.
+//! Where a run-unit is in a set, and which record that is.
 ghost use Rattle.std.specs.Prelude.{◌≡◌, option_and_then};
 ghost use Rattle.dbtg_unit.specs.Database.State.Units.{key_of_owner, key_of_place, place_in};
 
@@ -17,7 +17,7 @@ fn owner_key(owner: Owner) -> Option<DbKey>
 }
 
 impl Place {
-    /// The record that it names: the member, and at the owner itself the owner; none at SYSTEM.
+    /// The record at the place: the member, or the owner at the owner itself; none at SYSTEM.
     pub fn key(self) -> Option<DbKey>
         ensures { result ≡ key_of_place self }
     {
@@ -29,7 +29,7 @@ impl Place {
 }
 
 impl Unit {
-    /// The current of a set. A SYSTEM set without one stands at SYSTEM.
+    /// The current of a set. A SYSTEM set without one is at SYSTEM.
     pub fn place_in(&self, schema: &Schema, set: SetNo) -> Option<Place>
         ensures { result ≡ place_in schema.now self.now set }
     {
@@ -48,7 +48,7 @@ impl Unit {
         }
     }
 
-    /// The record at which the unit stands in a set.
+    /// The record at which the unit is in a set.
     pub fn key_in(&self, schema: &Schema, set: SetNo) -> Option<DbKey>
         ensures { result ≡ option_and_then key_of_place (place_in schema.now self.now set) }
     {

@@ -1,12 +1,13 @@
 //! What a statement has prepared, and how it is done: without memory and without a refusal.
-ghost use Rattle.std.specs.Prelude.{◌≡◌, slice_set};
+ghost use Rattle.std.specs.Prelude.{◌≡◌, [], ◌∷◌, ◌++◌, slice_set};
+ghost use Rattle.dbtg_unit.specs.Hands.EditsOf.{edits_of_erased};
 ghost use Rattle.dbtg_unit.specs.Hands.Locality.{made_by, seen};
-ghost use Rattle.dbtg_unit.specs.Hands.Making.{CanEditHeld, CanMake};
-ghost use Rattle.dbtg_unit.specs.Inside.Making.{IsMade};
+ghost use Rattle.dbtg_unit.specs.Hands.Making.{AreMade, CanEditHeld, CanMake};
 ghost use Rattle.dbtg_unit.specs.Hands.Prepared.{edited_values, guesses_edited, refusal, renoted_at, unit_after, unit_edited, values_of};
 
 use crate::apply::edit_cell;
 use crate::edit::{CellEdit, UnitEdit};
+use crate::erased::{Erased, erase};
 use crate::held::Held;
 use crate::unit::{Answer, Cause, Status, Unit};
 use dbtg_cells::{DbKey, Mode};
@@ -15,21 +16,24 @@ use std::alloc::Global;
 use std::marker::Model;
 
 /// What a statement has prepared: its answer, the changes of the cells that it holds in their order, the new versions of the
-/// records that it changes, and the change of its unit.
+/// records that it changes, and the change of its unit. The changes by which records go come first.
 #[derive(Drop)]
 pub struct Prepared {
     answer: Answer,
+    erased: Option<Erased>,
     cells: Row<CellEdit>,
     versions: Row<(DbKey, u64)>,
     unit: UnitEdit,
 }
 
 impl Model for Prepared {
+    ghost use Rattle.std.specs.Prelude.{◌++◌};
+    ghost use Rattle.dbtg_unit.specs.Inside.Prepared.{erased_edits};
     ghost use Rattle.dbtg_unit.specs.Hands.Prepared.{Plan};
 
     ghost Value = { Plan };
 
-    ghost view = { λ p. record { answer = p.answer; cells = p.cells; versions = p.versions; unit = p.unit } };
+    ghost view = { λ p. record { answer = p.answer; cells = erased_edits p.erased ++ p.cells; versions = p.versions; unit = p.unit } };
 }
 
 impl Prepared {
@@ -42,6 +46,26 @@ impl Prepared {
         ensures { result ≡ record { answer = answer; cells = cells; versions = versions; unit = unit } }
     {
         Self {
+            erased: None,
+            answer,
+            cells,
+            versions,
+            unit,
+        }
+    }
+
+    /// Of a statement that takes records out, before the other changes of cells.
+    pub fn erasing(
+        answer: Answer,
+        erased: Erased,
+        cells: Row<CellEdit>,
+        versions: Row<(DbKey, u64)>,
+        unit: UnitEdit,
+    ) -> Self
+        ensures { result ≡ record { answer = answer; cells = edits_of_erased erased ++ cells; versions = versions; unit = unit } }
+    {
+        Self {
+            erased: Some(erased),
             answer,
             cells,
             versions,
@@ -74,9 +98,12 @@ pub fn refused(alloc: Global, cause: Cause) -> Prepared
     )
 }
 
-fn edit_held(held: &mut Held, edit: CellEdit)
+/// Makes an edit of the cell of its name, where that is in hand. It takes no memory and cannot fail.
+pub fn edit_held(held: &mut Held, edit: CellEdit)
     requires { CanEditHeld edit held.old.cells }
-    ensures { IsMade edit held.old held.new }
+    ensures made { AreMade (edit ∷ []) held.old.cells held.new.cells }
+    ensures areas { held.new.areas ≡ held.old.areas }
+    ensures guesses { held.new.guesses ≡ held.old.guesses }
 {
     let CellEdit { name, edit } = edit;
     match held.cell_mut(&name) {
@@ -85,10 +112,11 @@ fn edit_held(held: &mut Held, edit: CellEdit)
     }
 }
 
-fn edit_cells(held: &mut Held, edits: Row<CellEdit>)
+/// Makes edits of cells in hand, one after another.
+pub fn edit_cells(held: &mut Held, edits: Row<CellEdit>)
     requires { CanMake edits held.old.cells }
+    ensures made { AreMade edits held.old.cells held.new.cells }
     ensures areas { held.new.areas ≡ held.old.areas }
-    ensures cells { values_of held.new.cells ≡ edited_values edits (values_of held.old.cells) }
     ensures guesses { held.new.guesses ≡ held.old.guesses }
 {
     for edit in edits.into_vec() {
@@ -143,7 +171,7 @@ fn change_unit(schema: &Schema, change: UnitEdit, held: &mut Held, unit: &mut Un
     }
 }
 
-/// Makes what was prepared of the cells in hand, of the guesses and of the unit. It takes no memory and cannot fail. What the plan
+/// Carries out what was prepared on the cells that are held, the guesses and the unit. It takes no memory and cannot fail. What the plan
 /// makes is then seen; on which databases that is the statement's effect, the call that prepared it says.
 pub fn finish(schema: &Schema, prepared: Prepared, held: &mut Held, unit: &mut Unit) -> Answer
     requires { CanMake prepared.cells held.old.cells }
@@ -156,10 +184,12 @@ pub fn finish(schema: &Schema, prepared: Prepared, held: &mut Held, unit: &mut U
 {
     let Prepared {
         answer,
+        erased,
         cells,
         versions,
         unit: change,
     } = prepared;
+    erase(held, erased);
     edit_cells(held, cells);
     note_versions(unit, versions.as_slice());
     change_unit(schema, change, held, unit);

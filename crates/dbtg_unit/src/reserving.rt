@@ -1,5 +1,5 @@
-//! Room in the cells in hand for what a statement adds, made before it changes anything. What they show stays, and so does the
-//! room that was made before.
+//! Room in the cells that are held for what a statement adds, made before it changes anything. Their contents stay, and so does
+//! the room that was made before.
 ghost use Rattle.std.specs.Prelude.{◌≡◌, IsOk, OnOk};
 ghost use Rattle.dbtg_cells.specs.Cells.{shown};
 ghost use Rattle.dbtg_unit.specs.Hands.Making.{ShowsTheSame};
@@ -40,7 +40,7 @@ fn make_room_for_user(cell: &mut Cell) -> Result<(), AllocError>
     }
 }
 
-/// Makes room for a member in the ring of this name, where that ring is in hand and the key is no member of it. Where there is
+/// Makes room for a member in the ring with this name, if that ring is held and the key is not a member of it. If there is
 /// room already it takes no memory.
 pub fn reserve_member(held: &mut Held, name: &CellName, key: &DbKey) -> Result<(), AllocError>
     ensures same { ShowsTheSame held.old held.new }
@@ -55,7 +55,7 @@ pub fn reserve_member(held: &mut Held, name: &CellName, key: &DbKey) -> Result<(
     }
 }
 
-/// Makes room for one more user in the usage cell of this name, where it is in hand. Where there is room already it takes no
+/// Makes room for another user in the usage cell with this name, if it is held. If there is room already it takes no
 /// memory, so that one user is never given room twice.
 pub fn reserve_user(held: &mut Held, name: &CellName) -> Result<(), AllocError>
     ensures same { ShowsTheSame held.old held.new }

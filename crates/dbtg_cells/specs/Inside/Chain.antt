@@ -24,7 +24,7 @@ slot s i = slice_index_or s i None
 abbrev pub key_at : Slots → ℕ → Option DbKey
 key_at s i = option_map (λ n. n.member.0) (slot s i)
 
--- the node at a place is linked, and no reserved one
+-- the node at a place is linked, not only reserved
 abbrev pub linked_at : Slots → ℕ → Bool
 linked_at s i = option_map_or (λ n. n.linked) (slot s i) false
 
@@ -37,12 +37,12 @@ abbrev pub head_at : List Link → Option ℕ → Option ℕ
 head_at [] q = q
 head_at (e ∷ es) q = Some e.at
 
--- the place of the last of these links, or what stands before them
+-- the place of the last of these links, or what comes before them
 abbrev pub last_at : Option ℕ → List Link → Option ℕ
 last_at p [] = p
 last_at p (e ∷ es) = last_at (Some e.at) es
 
--- the nodes lie in the slots and are linked both ways, from p before them to q behind them
+-- the nodes lie in the slots and are linked both ways, from p before them to q after them
 abbrev pub Seg : Slots → Option ℕ → List Link → Option ℕ → Type 0
 Seg s p [] q = ⊤
 Seg s p (e ∷ es) q = (slot s e.at ≡ Some (node_of e p (head_at es q))) × Seg s (Some e.at) es q
@@ -67,7 +67,7 @@ abbrev pub neighbour : Direction → Node → Option ℕ
 neighbour Next n = n.next
 neighbour Prior n = n.prior
 
--- the members that are read from `at` on in this direction, as many as n
+-- the first n members from `at` on in this direction
 abbrev pub read : Direction → ℕ → Slots → Option ℕ → List Entry
 read direction zero s at = []
 read direction (suc n) s None = []
@@ -87,7 +87,7 @@ unlinked_keys [] = []
 unlinked_keys (None ∷ s) = unlinked_keys s
 unlinked_keys (Some n ∷ s) = if n.linked then unlinked_keys s else n.member.0 ∷ unlinked_keys s
 
--- an end of the list, after a node came to lie at it or not
+-- an end of the list, whether or not a node now lies at it
 abbrev pub end_or : Option ℕ → Option ℕ → Option ℕ → Option ℕ
 end_or None new old = new
 end_or (Some i) new old = old

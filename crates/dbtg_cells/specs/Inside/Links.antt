@@ -9,7 +9,7 @@ use Rattle.dbtg_cells.specs.Inside.Chain.{Slots, slot}
 abbrev pub put : ℕ → (Node → Node) → Slots → Slots
 put i f s = slice_set s i (option_map f (slot s i))
 
--- the same, where there may be no node
+-- the same, if there may be no node
 abbrev pub put_if : Option ℕ → (Node → Node) → Slots → Slots
 put_if None f s = s
 put_if (Some i) f s = put i f s
@@ -26,7 +26,7 @@ with_prior p n = record { member = n.member; linked = n.linked; next = n.next; p
 abbrev pub as_linked : Entry → Option ℕ → Option ℕ → Node → Node
 as_linked m p q n = record { member = m; linked = true; next = q; prior = p }
 
--- a node that is reserved alone
+-- a node that is only reserved
 abbrev pub as_unlinked : Node → Node
 as_unlinked n = record { member = n.member; linked = false; next = n.next; prior = n.prior }
 
@@ -34,6 +34,6 @@ as_unlinked n = record { member = n.member; linked = false; next = n.next; prior
 abbrev pub linked_in : ℕ → Entry → Option ℕ → Option ℕ → Slots → Slots
 linked_in x m p q s = put_if q (with_prior (Some x)) (put_if p (with_next (Some x)) (put x (as_linked m p q) s))
 
--- x taken from between p and q
+-- x taken out from between p and q
 abbrev pub linked_out : ℕ → Option ℕ → Option ℕ → Slots → Slots
 linked_out x p q s = put x as_unlinked (put_if q (with_prior p) (put_if p (with_next q) s))

@@ -8,7 +8,7 @@ pub record OrderView : Type 0 where
   pub nodes : List ℕ
   pub room : ℕ
 
--- the node in front of a place, if there is one
+-- the node before a place, if there is one
 abbrev pub node_in_front : List ℕ → ℕ → Option ℕ
 node_in_front nodes zero = None
 node_in_front nodes (suc place) = slice_get nodes place
@@ -29,7 +29,7 @@ are_below room nodes = list_all (λ n. nat_lt n room) nodes
 abbrev pub are_distinct : List ℕ → Bool
 are_distinct nodes = is_rising (λ i j. not (i == j)) nodes
 
--- the label is above those in front of the place, and below those behind it
+-- the label is above those before the place, and below those after it
 pub record Fits (nodes labels : List ℕ) (place label : ℕ) : Type 0 where
   pub front : list_all (λ n. nat_lt (slice_index labels n) label) (take place nodes) ≡ true
   pub behind : list_all (λ n. nat_lt label (slice_index labels n)) (drop place nodes) ≡ true

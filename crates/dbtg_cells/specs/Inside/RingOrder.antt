@@ -1,4 +1,4 @@
--- The nodes of a ring by their places: their order, where they stand by sort key, and what is known of all of them.
+-- The nodes of a ring by their places: their order, where they are by sort key, and what is known of all of them.
 use Rattle.std.specs.Prelude.{◌≡◌, ℕ, ◌<◌, Bool, true, false, not, List, map, Option, Some}
 use Rattle.std.specs.List.{position_or_len, list_all}
 use Rattle.std.specs.Option.{option_map_or}
@@ -14,7 +14,7 @@ use Rattle.dbtg_cells.specs.Inside.Chain.{Slots, Link, slot}
 use Rattle.dbtg_cells.specs.Inside.SortedMembers.{is_of_kind, is_sorted, KeepsOrder}
 use Rattle.dbtg_cells.specs.Inside.Ordered.{OrderView}
 
--- the member of a node stands before a new one with sort key m
+-- the member of a node comes before a new one with sort key m
 abbrev pub stands_at : Bool → Duplicates → Option Value → Slots → ℕ → Bool
 stands_at ascending duplicates m s at = option_map_or (λ n. comes_before ascending duplicates n.member.1 m) (slot s at) false
 
@@ -22,7 +22,7 @@ stands_at ascending duplicates m s at = option_map_or (λ n. comes_before ascend
 abbrev pub is_below_at : Bool → Option Value → Slots → ℕ → Bool
 is_below_at ascending m s at = option_map_or (λ n. sort_key_below ascending n.member.1 m) (slot s at) false
 
--- the place of the first member whose sort key does not come before v, where members are sorted by keys of the kind of v
+-- the place of the first member whose sort key does not come before v, if members are sorted by keys of the kind of v
 pub record IsPlaceFrom (v : Value) (ms : List Entry) (place : ℕ) : Type 0 where
   pub order : SortedBy
   pub sorted : is_sorted order ms ≡ true

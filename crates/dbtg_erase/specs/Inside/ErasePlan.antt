@@ -1,20 +1,21 @@
--- What a DELETE prepares, read off the cells in hand.
+-- What a DELETE prepares, read from the held cells.
 -- k is a key, s a set.
-use Rattle.std.specs.Prelude.{ℕ, ◌+◌, List, Option, Some, None, map}
+use Rattle.std.specs.Prelude.{ℕ, ◌+◌, List, ◌++◌, Option, Some, None, map}
+use Rattle.std.specs.List.{flat_map}
 use Rattle.dbtg_schema.specs.Lists.{Lists}
 use Rattle.dbtg_schema.specs.Lookups.{first_cause}
 use Rattle.dbtg_cells.specs.declared.key.DbKey.{DbKey}
-use Rattle.dbtg_cells.specs.declared.name.CellName.TheVariants.{Ring}
+use Rattle.dbtg_cells.specs.declared.key.Owner.{Owner}
 use Rattle.dbtg_unit.specs.Database.Statements.Checks.{delete_checks, refused_at_once}
 use Rattle.dbtg_unit.specs.declared.edit.CellEdit.{CellEdit}
-use Rattle.dbtg_unit.specs.declared.edit.Edit.TheVariants.{ChangeOwner, CloseRing}
+use Rattle.dbtg_unit.specs.declared.edit.Edit.TheVariants.{ChangeOwner, Vacate}
 use Rattle.dbtg_unit.specs.declared.edit.UnitEdit.TheVariants.{LoseCurrent}
 use Rattle.dbtg_unit.specs.declared.statement.Erase.{Erase}
 use Rattle.dbtg_unit.specs.declared.statement.Statement.TheVariants.{Delete}
 use Rattle.dbtg_unit.specs.declared.unit.Cause.TheVariants.{NoCurrentOfRunUnit}
 use Rattle.dbtg_unit.specs.declared.unit.Status.TheVariants.{Done}
 use Rattle.dbtg_unit.specs.declared.unit.Unit.{Unit}
-use Rattle.dbtg_unit.specs.Hands.EditsOf.{erasing_edits, left_behind, slot_edit}
+use Rattle.dbtg_unit.specs.Hands.EditsOf.{closing_edits, erasing_edits, leave_number, leaving_edits, left_behind, slot_edit}
 use Rattle.dbtg_unit.specs.Hands.Hands.{Hands}
 use Rattle.dbtg_unit.specs.Hands.InHand.{owner_in, version_in, in_hand}
 use Rattle.dbtg_unit.specs.Hands.Prepared.{Plan, refusal}
@@ -25,9 +26,10 @@ use Rattle.dbtg_erase.specs.WorkList.{gone_in, members_in_hand}
 abbrev pub raised_versions : Lists → Hands → List DbKey → List (DbKey × ℕ)
 raised_versions schema hands gone = map (λ x. (x, version_in hands x + 1)) (left_behind (members_in_hand schema hands) gone)
 
--- the edit that closes d's ring of set s
-abbrev pub close_ring : DbKey → ℕ → CellEdit
-close_ring d s = record { name = Ring s (Some (d.rtype, d.number)); edit = CloseRing }
+-- what goes: its numbers, its places, the occurrences that it owns, its slots
+abbrev pub going_edits : Lists → (ℕ → DbKey → Option Owner) → List DbKey → List CellEdit
+going_edits schema owner gone =
+    map leave_number gone ++ (flat_map (leaving_edits schema owner gone) gone ++ (flat_map (closing_edits schema) gone ++ map (λ d. slot_edit d Vacate) gone))
 
 -- the edit by which x has no owner in set s
 abbrev pub lose_owner : DbKey → ℕ → CellEdit

@@ -24,32 +24,32 @@ use Rattle.dbtg_erase.specs.NextCell.{first_missing, is_missing, least_name, out
 abbrev pub ring_of : DbKey → ℕ → CellName
 ring_of k s = Ring s (Some (k.rtype, k.number))
 
--- k owns set s, and its ring is not in hand or has a member
+-- k owns set s, and its ring is not held or has a member
 abbrev pub stops_at : Lists → Hands → DbKey → ℕ → Bool
 stops_at schema hands k s = owns schema s k.rtype && (is_missing hands (ring_of k s) || nat_lt 0 (length (list_in hands k s)))
 
--- of the records that go, the first of their cells, in turn, that is not in hand, and then of the cells around them
+-- the first of the cells of the records that go, in turn, that is not held, and then of the cells around them
 abbrev pub next_of_gone : Lists → Hands → List DbKey → Option CellName
 next_of_gone schema hands gone =
     option_or (first_missing hands (flat_map (cells_of_gone schema hands) gone)) (least_name None (filter (is_missing hands) (flat_map (outer_names schema hands) gone)))
 
--- the ring at which the plain form stops, where it stops and that is not in hand
+-- the ring at which the plain form stops, if it stops there and the ring is not held
 abbrev pub unless_stopped : Hands → DbKey → Option ℕ → Option CellName → Option CellName
 unless_stopped hands k None next = next
 unless_stopped hands k (Some s) next = first_missing hands (ring_of k s ∷ [])
 
--- the plain form looks for a member first, and takes no more where it finds one
+-- the plain form looks for a member first, and takes no more if it finds one
 abbrev pub next_of_passed : Lists → ℕ → Hands → Erase → DbKey → Option CellName
 next_of_passed schema capacity hands option k =
     unless_stopped hands k (if is_plain option then find (stops_at schema hands k) (set_numbers schema) else None) (next_of_gone schema hands (gone_in schema capacity hands option k))
 
--- the slot of k, and no more where k is refused for itself
+-- the slot of k, and no more if k is refused for itself
 abbrev pub next_cell_in : Lists → ℕ → Hands → Unit → Erase → DbKey → Option CellName
 next_cell_in schema capacity hands unit option k =
     option_or (first_missing hands (slot_name k ∷ []))
     (if is_some (first_cause (own_checks (in_hand hands) unit k)) then None else next_of_passed schema capacity hands option k)
 
--- of the current of run-unit, or none
+-- for the current of run-unit, or none
 abbrev pub next_cell_of : Lists → ℕ → Hands → Unit → Erase → Option DbKey → Option CellName
 next_cell_of schema capacity hands unit option None = None
 next_cell_of schema capacity hands unit option (Some k) = next_cell_in schema capacity hands unit option k

@@ -1,6 +1,6 @@
 -- Guesses are wrong by the record in hand where they are wrong by each database that agrees.
 -- k is a key, s a set.
-use Rattle.std.proofs.Common.{◌≡◌, refl, sym, ◌∙◌, ap, subst, ℕ, ◌<◌, Bool, true, false, cond, not, ◌&&◌, ◌||◌, List, [], ◌∷◌, ◌++◌, length, Option, Some, None, inl, inr, map, arith}
+use Rattle.std.proofs.Common.{◌≡◌, refl, sym, ◌∙◌, ap, subst, ℕ, ◌<◌, Bool, true, false, cond, not, ◌&&◌, List, [], ◌∷◌, ◌++◌, length, Option, Some, None, inl, inr, map, arith}
 use Rattle.std.specs.Prelude.{◌==◌, filter, is_some, option_map, unwrap_or, if◌then◌else◌}
 use Rattle.std.specs.List.{find, flat_map, list_any}
 use Rattle.std.proofs.lemmas.Bool.{and_from, and_parts, cases_Bool, eqb-true, eq-eqb, false≢true, false_from_ne_true, ltb-true}
@@ -27,7 +27,7 @@ use Rattle.dbtg_unit.specs.Hands.InHand.{owner_in}
 use Rattle.dbtg_unit.specs.Hands.Local.{Agrees, holds}
 use Rattle.dbtg_unit.specs.Hands.Needs.{areas_in_order, cells_of, first_missing, guessed_sets, is_stale, is_wrong_guess, need, need_of_cells, next_of, ring_names, slot_names, stale_owners, wrong_owner}
 use Rattle.dbtg_unit.proofs.Public.{In, all_held, any_element, any_in, has_number, has_number_filter, has_number_passes, has_number_range, in_range, in_right, map_agrees, of_filter, owner_in_hand, unlisted_has_no_owner}
-use Rattle.dbtg_plan.specs.Inside.Stale.{need_of_guesses, wrong_owner_in, wrong_owners_in}
+use Rattle.dbtg_plan.specs.Inside.Stale.{has_wrong_owner_in, need_of_guesses, wrong_owner_in, wrong_owners_in}
 use Rattle.dbtg_plan.proofs.Plans.SamePlan.{current_slot}
 
 -- LISTS
@@ -61,10 +61,6 @@ any_needed p needed all within =
           false≢true (sym e ∙ any_in p y.0 needed y.1 (ap p (eqb-true y.0 x.0 y.2) ∙ parts.1)))
           ∙ sym e
     ]
-
-any_made : {X Y : Type 0} (p : Y → Bool) (q : X → Bool) (f : X → Y) (xs : List X) → ((x : X) → In x xs → p (f x) ≡ q x) → list_any p (map f xs) ≡ list_any q xs
-any_made p q f [] h = refl
-any_made p q f (x ∷ xs) h = λ i. h x (inl refl) i || any_made p q f xs (λ y j. h y (inr j)) i
 
 -- GUESSES
 
@@ -136,12 +132,10 @@ module _ (schema : Lists) (capacity : ℕ) (db : Database) (hands : Hands) (unit
     owners_are = map_agrees (wrong_owner schema capacity db hands.guesses needed k) (wrong_owner_in hands needed k) (set_numbers schema) (λ s i. wrong_is s)
 
     -- a needed owner is wrong where one of these is there
-    any_wrong : list_any (λ s. is_wrong_guess (owner_of schema capacity db s k) (at hands.guesses s)) needed ≡ list_any is_some (wrong_owners_in schema unit hands statement k)
+    any_wrong : list_any (λ s. is_wrong_guess (owner_of schema capacity db s k) (at hands.guesses s)) needed ≡ has_wrong_owner_in schema unit hands statement k
     any_wrong =
         sym (any_needed (λ s. is_wrong_guess (owner_of schema capacity db s k) (at hands.guesses s)) needed (set_numbers schema) (guessed_within schema unit statement fit))
-        ∙ sym (any_made is_some (λ s. list_any (λ s'. s' == s) needed && is_wrong_guess (owner_of schema capacity db s k) (at hands.guesses s)) (wrong_owner schema capacity db hands.guesses needed k) (set_numbers schema)
-        (λ s i. is_there (owner_of schema capacity db s k) (at hands.guesses s) (list_any (λ s'. s' == s) needed)))
-        ∙ ap (list_any is_some) owners_are
+        ∙ (λ i. list_any (λ s. (sym (is_there (owner_of schema capacity db s k) (at hands.guesses s) (list_any (λ s'. s' == s) needed)) ∙ ap is_some (wrong_is s)) i) (set_numbers schema))
 
     -- a record with an owner is live
     live_or_right : is_live db k && list_any (λ s. is_wrong_guess (owner_of schema capacity db s k) (at hands.guesses s)) needed ≡ list_any (λ s. is_wrong_guess (owner_of schema capacity db s k) (at hands.guesses s)) needed
@@ -157,19 +151,45 @@ module _ (schema : Lists) (capacity : ℕ) (db : Database) (hands : Hands) (unit
         ]
 
   -- what is needed of the guesses
-  pub guesses_need : next_of None None (is_stale schema capacity db unit hands.guesses statement) (stale_owners schema capacity db unit hands.guesses statement) ≡ need_of_guesses schema unit hands statement unit.currency.run_unit
+  pub guesses_need : next_of None None (is_stale schema capacity db unit hands.guesses statement) ≡ need_of_guesses schema unit hands statement unit.currency.run_unit
   guesses_need = by_current unit.currency.run_unit refl where
     by_current : (current : Option DbKey) → unit.currency.run_unit ≡ current
         → next_of None None (some_and (λ k. is_live db k && list_any (λ s. is_wrong_guess (owner_of schema capacity db s k) (at hands.guesses s)) (guessed_sets schema unit statement)) current)
-        (unwrap_or (option_map (λ k. map (wrong_owner schema capacity db hands.guesses (guessed_sets schema unit statement) k) (set_numbers schema)) current) [])
         ≡ need_of_guesses schema unit hands statement current
     by_current None e = refl
     by_current (Some k) e =
-        (λ i. next_of None None ((live_or_right k e ∙ any_wrong k e) i) (owners_are k e i))
-        ∙ elim (list_any is_some (wrong_owners_in schema unit hands statement k)) as (λ b. next_of None None b (wrong_owners_in schema unit hands statement k) ≡ (if b then Stale (wrong_owners_in schema unit hands statement k) else Ready)) [
+        ap (next_of None None) (live_or_right k e ∙ any_wrong k e)
+        ∙ elim (has_wrong_owner_in schema unit hands statement k) as (λ b. next_of None None b ≡ (if b then Stale else Ready)) [
           | true ↦ refl
           | false ↦ refl
         ]
+
+-- of a choice that was stale, what decided it
+chose_stale : (b : Bool) (oa : Option ℕ) (oc : Option CellName) (stale : Bool) → (if b then Ready else next_of oa oc stale) ≡ Stale → (oc ≡ None) × (stale ≡ true)
+chose_stale true oa oc stale e = absurd (cc (e))
+chose_stale false (Some a) oc stale e = absurd (cc (e))
+chose_stale false None (Some c) stale e = absurd (cc (e))
+chose_stale false None None true e = (refl, refl)
+chose_stale false None None false e = absurd (cc (e))
+
+module _ (schema : Lists) (capacity : ℕ) (db : Database) (hands : Hands) (unit : Unit) (statement : Statement) (fit : fits schema statement ≡ true) (agrees : Agrees schema capacity db hands unit)
+    (stale : need schema capacity db unit hands statement ≡ Stale) where
+  stale_parts : (first_missing hands (cells_of schema capacity db unit hands.guesses statement) ≡ None) × (is_stale schema capacity db unit hands.guesses statement ≡ true)
+  unfolding need
+  stale_parts =
+      chose_stale (is_some (refused_at_once schema capacity unit statement)) (find (λ a. not (list_any (λ b. b == a) hands.areas)) (areas_in_order schema unit statement))
+      (first_missing hands (cells_of schema capacity db unit hands.guesses statement)) (is_stale schema capacity db unit hands.guesses statement) stale
+
+  -- the owners that are noted then
+  pub owners_of_stale : (k : DbKey) → unit.currency.run_unit ≡ Some k → stale_owners schema capacity db unit hands.guesses statement ≡ wrong_owners_in schema unit hands statement k
+  owners_of_stale k is =
+      ap (λ o. unwrap_or (option_map (λ k. map (wrong_owner schema capacity db hands.guesses (guessed_sets schema unit statement) k) (set_numbers schema)) o) []) is
+      ∙ owners_are schema capacity db hands unit statement fit agrees (all_held hands.cells (cells_of schema capacity db unit hands.guesses statement) stale_parts.0) k is
+
+  -- there is a current of run-unit
+  pub stale_has_current : unit.currency.run_unit ≡ None → ⊥
+  stale_has_current e =
+      false≢true (sym (ap (some_and (λ k. is_live db k && list_any (λ s. is_wrong_guess (owner_of schema capacity db s k) (at hands.guesses s)) (guessed_sets schema unit statement))) e) ∙ stale_parts.1)
 
 -- NEEDS
 
@@ -181,11 +201,11 @@ module _ (schema : Lists) (capacity : ℕ) (db : Database) (hands : Hands) (unit
 
   module _ (passes : refused_at_once schema capacity unit statement ≡ None) where
     need_is : (a : Option ℕ) → find (λ a. not (list_any (λ b. b == a) hands.areas)) (areas_in_order schema unit statement) ≡ a → (c : Option CellName) → first_missing hands (cells_of schema capacity db unit hands.guesses statement) ≡ c
-        → need schema capacity db unit hands statement ≡ next_of a c (is_stale schema capacity db unit hands.guesses statement) (stale_owners schema capacity db unit hands.guesses statement)
+        → need schema capacity db unit hands statement ≡ next_of a c (is_stale schema capacity db unit hands.guesses statement)
     unfolding need
     need_is a areas c cells =
         ap (λ (o : Option Cause). if is_some o then Ready else need_of_cells schema capacity db unit hands statement) passes
-        ∙ (λ i. next_of (areas i) (cells i) (is_stale schema capacity db unit hands.guesses statement) (stale_owners schema capacity db unit hands.guesses statement))
+        ∙ (λ i. next_of (areas i) (cells i) (is_stale schema capacity db unit hands.guesses statement))
 
     -- the first area
     pub area_needed : (a : ℕ) → find (λ a. not (list_any (λ b. b == a) hands.areas)) (areas_in_order schema unit statement) ≡ Some a → need schema capacity db unit hands statement ≡ Area a

@@ -1,4 +1,4 @@
--- FIND and GET, made without a plan, make what their plans make.
+-- Statements that are made without a plan make what their plans make.
 -- k is a key.
 use Rattle.std.proofs.Common.{◌≡◌, refl, sym, ◌∙◌, ap, subst, ℕ, Bool, List, Option, Some, None}
 use Rattle.std.specs.Prelude.{Result, Ok, Err, IfOk}
@@ -12,14 +12,15 @@ use Rattle.dbtg_unit.specs.declared.statement.Statement.TheVariants.{Find, Get}
 use Rattle.dbtg_unit.specs.declared.statement.Suppress.{Suppress}
 use Rattle.dbtg_unit.specs.declared.unit.Answer.{Answer}
 use Rattle.dbtg_unit.specs.declared.unit.Cause.{Cause}
+use Rattle.dbtg_unit.specs.declared.unit.Cause.TheVariants.{NoCurrentOfRunUnit}
 use Rattle.dbtg_unit.specs.declared.unit.Unit.{Unit}
 use Rattle.dbtg_unit.specs.Database.Statements.Checks.{about, live_checks, refused_at_once}
 use Rattle.dbtg_unit.specs.Hands.Hands.{Hands}
 use Rattle.dbtg_unit.specs.Hands.InHand.{in_hand}
-use Rattle.dbtg_unit.specs.Hands.Locality.{IsMadeOnEach, made_by, seen}
+use Rattle.dbtg_unit.specs.Hands.Locality.{IsMadeOnEach, Made, made_by, seen}
 use Rattle.dbtg_unit.specs.Hands.Making.{CanFinish, MayPrepare}
 use Rattle.dbtg_unit.specs.Hands.PlanOf.{done_plan, planned_on_current}
-use Rattle.dbtg_unit.specs.Hands.Prepared.{Plan, refusal}
+use Rattle.dbtg_unit.specs.Hands.Prepared.{Plan, edited_values, guesses_edited, refusal, unit_after, values_of}
 use Rattle.dbtg_unit.specs.Inside.PlanOf.{plan_of}
 use Rattle.dbtg_unit.specs.Inside.Prepared.{unless_refusal}
 use Rattle.dbtg_unit.proofs.Public.{may_plan, plan_makes}
@@ -27,6 +28,28 @@ use Rattle.dbtg_plan.specs.Inside.Finding.{found_in, plan_of_found}
 use Rattle.dbtg_plan.proofs.Find.FindPlans.{find_can_finish}
 use Rattle.dbtg_plan.proofs.Plans.GetKeepFree.{get_finishes}
 use Rattle.dbtg_plan.proofs.Plans.PartByPart.{refused_finishes}
+
+-- what is seen after the edits of a plan, and with its unit and its guesses, is what the plan makes
+pub seen_by_plan : (schema : Lists) (unit unit' : Unit) (old new : Hands) (plan : Plan) (answer : Answer) → answer ≡ plan.answer → unit' ≡ unit_after schema plan unit → new.areas ≡ old.areas
+    → values_of new.cells ≡ edited_values plan.cells (values_of old.cells) → new.guesses ≡ guesses_edited plan.unit old.guesses → seen answer unit' new ≡ made_by schema unit old plan
+seen_by_plan schema unit unit' old new plan answer answers units areas cells guesses = λ i. record { answer = answers i; unit = units i; areas = areas i; cells = cells i; guesses = guesses i }
+
+-- WHAT IS PLANNED ABOUT THE CURRENT OF RUN-UNIT
+
+module _ (checks : DbKey → List (Bool × Cause)) (plan : DbKey → Plan) where
+  abbrev planned : Option DbKey → Plan
+  planned current = unless_refusal (first_cause (about current checks)) (planned_on_current current plan)
+
+  pub planned_none : (current : Option DbKey) → current ≡ None → planned current ≡ refusal NoCurrentOfRunUnit
+  planned_none current none = ap planned none
+
+  pub planned_refused : (current : Option DbKey) (k : DbKey) (cause : Cause) → current ≡ Some k → first_cause (checks k) ≡ Some cause → planned current ≡ refusal cause
+  planned_refused current k cause some refused = ap planned some ∙ ap (λ (c : Option Cause). unless_refusal c (plan k)) refused
+
+  pub planned_done : (current : Option DbKey) (k : DbKey) → current ≡ Some k → first_cause (checks k) ≡ None → planned current ≡ plan k
+  planned_done current k some free = ap planned some ∙ ap (λ (c : Option Cause). unless_refusal c (plan k)) free
+
+-- MADE
 
 module _ (schema : Lists) (unit : Unit) (hands : Hands) where
   -- where plans about the current of run-unit make their answers alone, so does what is planned behind the checks
@@ -43,8 +66,19 @@ module _ (schema : Lists) (unit : Unit) (hands : Hands) where
 
   module _ (capacity : ℕ) where
     -- what a plan that can be finished makes is made
-    plan_is_made : (statement : Statement) (plan : Plan) → MayPrepare schema capacity unit hands statement → CanFinish schema capacity unit hands statement plan → IsMadeOnEach schema capacity unit hands statement (made_by schema unit hands plan)
+    pub plan_is_made : (statement : Statement) (plan : Plan) → MayPrepare schema capacity unit hands statement → CanFinish schema capacity unit hands statement plan → IsMadeOnEach schema capacity unit hands statement (made_by schema unit hands plan)
     plan_is_made statement plan may can = plan_makes schema capacity unit statement plan hands hands may (record { areas = refl; cells = refl; guesses = refl }) can
+
+    -- where a plan that makes the statement is a refusal, its answer makes it
+    pub refused_is_made : (statement : Statement) (plan : Plan) (cause : Cause) (answer : Answer) → IsMadeOnEach schema capacity unit hands statement (made_by schema unit hands plan) → plan ≡ refusal cause → answer ≡ (refusal cause).answer
+        → IsMadeOnEach schema capacity unit hands statement (seen answer unit hands)
+    refused_is_made statement plan cause answer made is answers =
+        subst (IsMadeOnEach schema capacity unit hands statement) (ap (made_by schema unit hands) is ∙ ap (λ (a : Answer). seen a unit hands) (sym answers)) made
+
+    -- and so does what another plan makes that is the same
+    pub done_is_made : (statement : Statement) (plan plan' : Plan) (made : Made) → IsMadeOnEach schema capacity unit hands statement (made_by schema unit hands plan) → plan ≡ plan' → made ≡ made_by schema unit hands plan'
+        → IsMadeOnEach schema capacity unit hands statement made
+    done_is_made statement plan plan' made makes same is = subst (IsMadeOnEach schema capacity unit hands statement) (ap (made_by schema unit hands) same ∙ sym is) makes
 
     pub refusal_is_made : (statement : Statement) (cause : Cause) → MayPrepare schema capacity unit hands statement → refused_at_once schema capacity unit statement ≡ Some cause
         → IsMadeOnEach schema capacity unit hands statement (seen (refusal cause).answer unit hands)

@@ -25,7 +25,7 @@ use Rattle.dbtg_unit.specs.Hands.Local.{Agrees, holds}
 use Rattle.dbtg_unit.specs.Hands.Making.{CanFinish, CanMake, MayPrepare, ShowsTheSame}
 use Rattle.dbtg_unit.specs.Inside.PlanOf.{plan_of}
 use Rattle.dbtg_unit.specs.Hands.PlanOf.{storing}
-use Rattle.dbtg_unit.specs.Hands.Prepared.{IsEffect, Plan, refusal}
+use Rattle.dbtg_unit.specs.Hands.Prepared.{IsEffect, IsPrepared, Plan, refusal}
 use Rattle.dbtg_unit.specs.Inside.Prepared.{unless_refusal}
 use Rattle.dbtg_unit.proofs.Public.{agrees_same, holds_same, may_plan, same_sym, some_from_not_none}
 use Rattle.dbtg_plan.specs.Inside.Store.{HasRoom}
@@ -73,19 +73,20 @@ module _ (schema : Lists) (capacity : ℕ) (unit : Unit) (old new : Hands) (t : 
         store_can_make schema capacity db new unit agrees t (unwrap_or (free_number capacity db t) 0) items (n.1 ∙ ap Some is) (has_places schema capacity unit old t items suppress (may_plan may) passes db agrees_old)
         (sym (checks_in_hand schema capacity unit old t items suppress (may_plan may) passes db agrees_old) ∙ e) may.sound fit (λ s. rooms k s refl))
 
-  -- what is prepared can be finished, where there is a place for the new record
+  -- what is prepared is the effect
+  pub store_prepared : IsPrepared schema capacity unit new (Store t items suppress) (plan_of schema (in_hand old) unit (Store t items suppress))
+  store_prepared =
+      record {
+        held = λ db agrees. (λ i. list_all (λ (e : CellEdit). holds_same old new same e.name i) (plan_of schema (in_hand old) unit (Store t items suppress)).cells) ∙ all_held db agrees;
+        effects = λ db agrees.
+            subst (λ (guesses : List (Option Owner)). IsEffect schema capacity db unit guesses (Store t items suppress) (plan_of schema (in_hand old) unit (Store t items suppress))) (sym same.guesses)
+            (plan_is_effect schema capacity unit old t items suppress (may_plan may) passes db (agrees_old db agrees));
+      }
+
+  -- and can be finished, where there is a place for the new record
   pub store_finishes : ((k : DbKey) (s : ℕ) → (plan_of schema (in_hand old) unit (Store t items suppress)).answer.key ≡ Some k → HasRoom schema unit new k s)
       → CanFinish schema capacity unit new (Store t items suppress) (plan_of schema (in_hand old) unit (Store t items suppress))
-  store_finishes rooms =
-      record {
-        prepared = record {
-          held = λ db agrees. (λ i. list_all (λ (e : CellEdit). holds_same old new same e.name i) (plan_of schema (in_hand old) unit (Store t items suppress)).cells) ∙ all_held db agrees;
-          effects = λ db agrees.
-              subst (λ (guesses : List (Option Owner)). IsEffect schema capacity db unit guesses (Store t items suppress) (plan_of schema (in_hand old) unit (Store t items suppress))) (sym same.guesses)
-              (plan_is_effect schema capacity unit old t items suppress (may_plan may) passes db (agrees_old db agrees));
-        };
-        can_make = λ db agrees. made db agrees rooms;
-      }
+  store_finishes rooms = record { prepared = store_prepared; can_make = λ db agrees. made db agrees rooms }
 
   -- the same of what was prepared, if memory was found
   pub finishes_if_ok : (prepared : Result Plan AllocError) → IfOk prepared (λ plan. plan ≡ plan_of schema (in_hand old) unit (Store t items suppress))

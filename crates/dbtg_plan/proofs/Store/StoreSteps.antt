@@ -1,26 +1,26 @@
 -- The steps of a STORE over the sets of a schema.
 -- s is a set, t a record type, i how many sets are behind.
 use Rattle.std.proofs.Common.{◌≡◌, refl, sym, ◌∙◌, ap, subst, ℕ, zero, suc, ◌+◌, ◌<◌, Bool, true, false, cond, ◌&&◌, ◌||◌, List, [], ◌∷◌, ◌++◌, Option, Some, None, eqb, inl, inr, map, drop, get_or, length, append_assoc, arith}
-use Rattle.std.specs.Prelude.{filter, is_some, option_and_then, replicate, slice_get, slice_set}
+use Rattle.std.specs.Prelude.{is_some, option_and_then, replicate, slice_get, slice_set}
 use Rattle.std.specs.List.{enumerate_from, find, flat_map, list_any, range_with_len}
 use Rattle.std.proofs.lemmas.Bool.{cases_Bool, eq-eqb, eqb-false, eqb-true, false_from_ne_true, false≢true}
 use Rattle.std.proofs.lemmas.List.{drop_more}
 use Rattle.std.proofs.lemmas.List.Folds.{find-append}
 use Rattle.dbtg_schema.specs.Lists.{Lists}
 use Rattle.dbtg_schema.specs.Lookups.{first_cause, some_and}
-use Rattle.dbtg_schema.specs.Structure.{automatic_sets, is_automatic, member_clause, owns, set_numbers}
+use Rattle.dbtg_schema.specs.Structure.{automatic_sets, is_automatic, member_clause, set_numbers}
 use Rattle.dbtg_schema.specs.declared.shape.SetType.{SetType}
 use Rattle.dbtg_cells.specs.declared.key.DbKey.{DbKey}
 use Rattle.dbtg_cells.specs.declared.key.Owner.{Owner}
 use Rattle.dbtg_cells.specs.declared.key.Value.{Value}
 use Rattle.dbtg_cells.specs.declared.name.CellName.{CellName}
-use Rattle.dbtg_cells.specs.declared.name.CellName.TheVariants.{Extent, Ring}
+use Rattle.dbtg_cells.specs.declared.name.CellName.TheVariants.{Ring}
 use Rattle.dbtg_cells.specs.Names.{place_eq}
 use Rattle.dbtg_cells.proofs.Public.{index_within}
 use Rattle.dbtg_unit.specs.declared.edit.CellEdit.{CellEdit}
-use Rattle.dbtg_unit.specs.declared.edit.Edit.TheVariants.{EnterNumber, Fill}
+use Rattle.dbtg_unit.specs.declared.edit.Edit.TheVariants.{Fill}
 use Rattle.dbtg_unit.specs.declared.unit.Unit.{Unit}
-use Rattle.dbtg_unit.specs.Database.State.Base.{calc_items, key_item}
+use Rattle.dbtg_unit.specs.Database.State.Base.{key_item}
 use Rattle.dbtg_unit.specs.Database.State.CellNames.{place_of}
 use Rattle.dbtg_unit.specs.Hands.EditsOf.{first_owners, joining_edits, slot_edit, store_edits}
 use Rattle.dbtg_unit.specs.Hands.Hands.{Hands}
@@ -28,7 +28,7 @@ use Rattle.dbtg_unit.specs.Hands.Needs.{current_owner, first_missing, is_missing
 use Rattle.dbtg_unit.specs.Hands.Reserving.{CanTakeMember, KeepsOthers, OfHeld}
 use Rattle.dbtg_unit.proofs.Public.{has_number_filter, has_number_passes, has_number_range, map_same}
 use Rattle.dbtg_unit.specs.Database.Statements.Conditions.{joined_place}
-use Rattle.dbtg_plan.specs.Inside.Store.{HasRoom, opening_edit}
+use Rattle.dbtg_plan.specs.Inside.Store.{HasRoom, entering_edit, opening_edits}
 use Rattle.dbtg_plan.proofs.Store.SetSteps.{first_cause_append, flat_step, or_first, or_second}
 
 -- SETS IN WHICH STORE CONNECTS
@@ -82,18 +82,25 @@ cause_behind xs ys h = first_cause_append xs ys ∙ or_second (first_cause xs) (
 
 -- the edits of a STORE, as they were pushed
 pub edits_pushed : (schema : Lists) (unit : Unit) (k : DbKey) (items : List Value) (entered joined opened filled : List CellEdit)
-    → entered ≡ [] ++ record { name = Extent k.rtype; edit = EnterNumber k.number (calc_items schema k.rtype items) } ∷ []
+    → entered ≡ [] ++ entering_edit schema k items ∷ []
     → joined ≡ entered ++ flat_map (λ s. joining_edits schema unit s k (key_item schema s k.rtype items)) (automatic_sets schema k.rtype)
-    → opened ≡ joined ++ flat_map (λ s. opening_edit k s ∷ []) (filter (λ s. owns schema s k.rtype) (set_numbers schema))
+    → opened ≡ joined ++ opening_edits schema k
     → filled ≡ opened ++ slot_edit k (Fill k.generation items (first_owners schema unit k.rtype)) ∷ []
     → filled ≡ store_edits schema unit k items
 edits_pushed schema unit k items entered joined opened filled enters joins opens fills =
-    let first : CellEdit = record { name = Extent k.rtype; edit = EnterNumber k.number (calc_items schema k.rtype items) } in
     let joining = flat_map (λ s. joining_edits schema unit s k (key_item schema s k.rtype items)) (automatic_sets schema k.rtype) in
-    let opening = flat_map (λ s. opening_edit k s ∷ []) (filter (λ s. owns schema s k.rtype) (set_numbers schema)) in
+    let opening = opening_edits schema k in
     let last = slot_edit k (Fill k.generation items (first_owners schema unit k.rtype)) ∷ [] in
     fills ∙ ap (λ es. es ++ last) (opens ∙ ap (λ es. es ++ opening) (joins ∙ ap (λ es. es ++ joining) enters))
-    ∙ append_assoc (first ∷ joining) opening last
+    ∙ append_assoc (entering_edit schema k items ∷ joining) opening last
+
+-- and as they are made
+pub edits_made : (schema : Lists) (unit : Unit) (k : DbKey) (items : List Value) (enter fill : CellEdit) (joins : List CellEdit)
+    → enter ≡ entering_edit schema k items
+    → joins ≡ flat_map (λ s. joining_edits schema unit s k (key_item schema s k.rtype items)) (automatic_sets schema k.rtype)
+    → fill ≡ slot_edit k (Fill k.generation items (first_owners schema unit k.rtype))
+    → enter ∷ (joins ++ (opening_edits schema k ++ fill ∷ [])) ≡ store_edits schema unit k items
+edits_made schema unit k items enter fill joins enters are_joins fills = λ i. enters i ∷ (are_joins i ++ (opening_edits schema k ++ fills i ∷ []))
 
 -- OWNERS
 

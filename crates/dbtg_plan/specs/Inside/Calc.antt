@@ -1,4 +1,4 @@
--- Which number is free, by an extent in hand.
+-- Which number is free, by a held extent.
 -- t is a record type.
 use Rattle.std.specs.Prelude.{ℕ, List, Option, option_map}
 use Rattle.dbtg_schema.specs.Lookups.{first}

@@ -1,4 +1,4 @@
--- What a FIND finds, read off the cells in hand.
+-- What a FIND finds, read from the held cells.
 -- k is a key, n a number, p a position, v a value, s a set, r and t record types, a an area.
 use Rattle.std.specs.Prelude.{ℕ, ◌+◌, ◌-◌, take, Bool, true, ◌&&◌, ◌==◌, nat_lt, List, [], ◌∷◌, ◌++◌, Option, Some, None, Result, Ok, Err, is_none, is_some, map, filter, length, option_map, option_and_then, unwrap_or, if◌then◌else◌}
 use Rattle.std.specs.List.{find, range_with_len, flat_map}
@@ -31,7 +31,7 @@ use Rattle.dbtg_unit.specs.Hands.Prepared.{Plan, refusal}
 use Rattle.dbtg_unit.specs.Database.State.Units.{key_of_owner, key_of_place, place_in}
 use Rattle.dbtg_unit.specs.Hands.PlanOf.{done_plan}
 
--- the record k in hand, or this cause where it is not there
+-- the record k, if its slot is held, or this cause if it is not there
 abbrev pub stored_or : Cause → Hands → DbKey → Result DbKey Cause
 stored_or cause hands k = if is_some (stored_in hands k) then Ok k else Err cause
 
@@ -65,42 +65,42 @@ duplicate_found r numbers k =
     found_unless (first_cause ((is_none (values_of_key numbers k), Deleted) ∷ []))
     (option_map (key_of numbers r) (first (filter (nat_lt k.number) (numbers_where (has_values (unwrap_or (values_of_key numbers k) [])) numbers)))) End
 
--- the number above which the keys of its type lie behind k
+-- the number above which the keys of its type come after k
 abbrev pub number_above : List Number → DbKey → ℕ
 number_above numbers k = if nat_lt k.generation (last_of k.number numbers) then k.number - 1 else k.number
 
--- the number below which the keys of its type lie before k
+-- the number below which the keys of its type come before k
 abbrev pub number_below : List Number → DbKey → ℕ
 number_below numbers k = if nat_lt (last_of k.number numbers) k.generation then k.number + 1 else k.number
 
 -- AREAS
 
--- t is a type of area a, and the named one where one is named
+-- t is a type of area a, and the named one if one is named
 abbrev pub is_wanted : Lists → Option ℕ → ℕ → ℕ → Bool
 is_wanted schema None a t = area_of schema t == a
 is_wanted schema (Some r) a t = t == r
 
--- the live keys in hand of type t, where it is such a type
+-- the live keys of type t, if it is such a type, read from the held cells
 abbrev pub keys_wanted : Lists → Hands → Option ℕ → ℕ → ℕ → List DbKey
 keys_wanted schema hands r a t = if is_wanted schema r a t then keys_of_type t (numbers_in hands t) else []
 
--- the live keys of an area in hand, in key order
+-- the live keys of an area, read from the held cells, in key order
 abbrev pub area_keys_in : Lists → Hands → Option ℕ → ℕ → List DbKey
 area_keys_in schema hands r a = flat_map (keys_wanted schema hands r a) (range_with_len 0 (length schema.types))
 
--- k comes behind the bound, where there is one
+-- k comes after the bound, if there is one
 abbrev pub is_above : Option DbKey → DbKey → Bool
 is_above None k = true
 is_above (Some bound) k = key_below bound k
 
--- k comes before the bound, where there is one
+-- k comes before the bound, if there is one
 abbrev pub is_below : Option DbKey → DbKey → Bool
 is_below None k = true
 is_below (Some bound) k = key_below k bound
 
 -- THE STATEMENT
 
--- the key that a FIND finds, or the cause why it finds none
+-- the key that a FIND finds, or the cause if it finds none
 abbrev pub found_in : Lists → Unit → Hands → Form → Result DbKey Cause
 found_in schema unit hands (Key k) = stored_or NoneSatisfies hands k
 found_in schema unit hands CurrentOfUnit = with_current unit.currency.run_unit (stored_or Deleted hands)
@@ -114,11 +114,11 @@ found_in schema unit hands (Calc r values) = calc_found r values (numbers_in han
 found_in schema unit hands (NextDuplicate r) = with_current (at unit.currency.types r) (duplicate_found r (numbers_in hands r))
 found_in schema unit hands (Sorted v s) = with_current (place_in schema unit s) (λ place. sorted_found v (occurrence_in hands s place.owner))
 
--- the first cell that is not in hand, of those by which it is found and then the slot of what is found
+-- the first cell that is not held, among those by which the record is found and then the slot of what is found
 abbrev pub next_cell_in : Lists → Unit → Hands → Form → Option CellName
 next_cell_in schema unit hands form = first_missing hands (cells_to_find schema unit form ++ found_slot (found_in schema unit hands form))
 
--- the owners of the record k in hand, one entry for each set
+-- the owners of the held record k, one entry for each set
 abbrev pub owners_in : Hands → DbKey → List (Option Owner)
 owners_in hands k = unwrap_or (option_map (λ r. r.owners) (stored_in hands k)) []
 

@@ -1,4 +1,4 @@
--- Set by set, what MODIFY asks of the cells in hand.
+-- Set by set, what MODIFY asks of the held cells.
 -- k is a key, s a set, t a record type, items what the record has after the changes.
 use Rattle.std.specs.Prelude.{ℕ, Bool, ◌&&◌, ◌==◌, List, map}
 use Rattle.std.specs.List.{list_any}

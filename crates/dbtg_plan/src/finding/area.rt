@@ -18,7 +18,7 @@ use dbtg_cells::{CellName, DbKey, Extent};
 use dbtg_schema::{AreaNo, RecordNo, Schema};
 use dbtg_unit::{Cause, Held, Unit, Which, numbers, type_count};
 
-// Is this a type of the area, and the named one where one is named?
+// Is this a type of the area, and the named one if one is named?
 fn is_wanted(schema: &Schema, named: &Option<RecordNo>, area: AreaNo, rtype: RecordNo) -> bool
     ensures { result ≡ is_wanted schema.now named.now area rtype }
 {
@@ -28,7 +28,7 @@ fn is_wanted(schema: &Schema, named: &Option<RecordNo>, area: AreaNo, rtype: Rec
     }
 }
 
-// The extent of a type that is wanted, where it is in hand.
+// The extent of a type that is wanted, if it is held.
 fn wanted_extent<'a>(
     schema: &Schema,
     held: &'a Held,
@@ -45,7 +45,7 @@ fn wanted_extent<'a>(
     }
 }
 
-// The first key of one type behind the bound; none where the type is not wanted.
+// The first key of one type after the bound; none if the type is not wanted.
 fn first_of_type(
     schema: &Schema,
     held: &Held,
@@ -62,7 +62,7 @@ fn first_of_type(
     }
 }
 
-// The first key behind the bound, where there is one.
+// The first key after the bound, if there is one.
 fn first_key(
     schema: &Schema,
     held: &Held,
@@ -81,7 +81,7 @@ fn first_key(
     None
 }
 
-// The last key of one type before the bound; none where the type is not wanted.
+// The last key of one type before the bound; none if the type is not wanted.
 fn last_of_type(
     schema: &Schema,
     held: &Held,
@@ -99,7 +99,7 @@ fn last_of_type(
     }
 }
 
-// The last key before the bound, where there is one.
+// The last key before the bound, if there is one.
 fn last_key(
     schema: &Schema,
     held: &Held,
@@ -117,7 +117,7 @@ fn last_key(
     last
 }
 
-// How many keys of one type there are; none where the type is not wanted.
+// How many keys of one type there are; none if the type is not wanted.
 fn count_of_type(
     schema: &Schema,
     held: &Held,
@@ -145,7 +145,7 @@ fn count_keys(schema: &Schema, held: &Held, named: &Option<RecordNo>, area: Area
     count
 }
 
-// The key of one type at a place, from 0; none where the type is not wanted.
+// The key of one type at a place, from 0; none if the type is not wanted.
 fn nth_of_type(
     schema: &Schema,
     held: &Held,
@@ -222,7 +222,7 @@ fn nth_key(
     }
 }
 
-// The next key behind the area's current.
+// The next key after the area's current.
 #[tactic(auto, using(crate::proofs::Find::ChosenKeys::next_chosen, crate::proofs::Find::ChosenKeys::no_next))]
 fn next_key(
     schema: &Schema,
@@ -257,7 +257,7 @@ fn prior_key(
     last_key(schema, held, named, area, current)
 }
 
-// The key by which it is asked for.
+// The key that is asked for.
 fn chosen_by_key(
     schema: &Schema,
     held: &Held,
@@ -300,7 +300,7 @@ pub(crate) fn find_in_area(
     }
 }
 
-/// The first extent of the area's record types that is not in hand.
+/// The first extent of the area's record types that is not held.
 #[tactic(auto, using(dbtg_unit::proofs::Public::numbers_next, dbtg_unit::proofs::Public::numbers_end))]
 pub(crate) fn missing_extent(
     schema: &Schema,

@@ -11,7 +11,7 @@ use dbtg_cells::{DbKey, Owner};
 use dbtg_schema::{AreaNo, RecordNo, Schema, SetNo};
 use dbtg_unit::{Cause, Held, Unit, entry_at, stored};
 
-/// The record, or the cause where it is not in hand.
+/// The record, or the cause if it is not there.
 pub(crate) fn stored_key(held: &Held, key: DbKey, cause: Cause) -> Result<DbKey, Cause>
     ensures { result ≡ stored_or cause held.now key }
 {
@@ -21,7 +21,7 @@ pub(crate) fn stored_key(held: &Held, key: DbKey, cause: Cause) -> Result<DbKey,
     }
 }
 
-/// The record that is current, or the cause why there is none.
+/// The record that is current, or the cause if there is none.
 pub(crate) fn of_current(held: &Held, current: Option<DbKey>) -> Result<DbKey, Cause>
     ensures { result ≡ with_current current (stored_or Deleted held.now) }
 {

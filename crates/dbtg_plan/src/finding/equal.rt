@@ -1,4 +1,4 @@
-//! FIND by CALC values: the numbers of a record type with the values, read off its extent.
+//! FIND by CALC values: the numbers of a record type with the values, read from its extent.
 ghost use Rattle.std.specs.Prelude.{◌≡◌};
 ghost use Rattle.std.specs.Option.{option_copied};
 ghost use Rattle.dbtg_schema.specs.Lookups.{at};
@@ -26,7 +26,7 @@ pub(crate) fn find_calc(held: &Held, rtype: RecordNo, values: &[Value]) -> Resul
     }
 }
 
-// The CALC values of a record that is live.
+// The CALC values of a live record.
 fn values_of<'a>(extent: &'a Extent, key: &DbKey) -> Option<&'a [Value]>
     ensures { option_copied result ≡ values_of_key extent.now.numbers key.now }
 {

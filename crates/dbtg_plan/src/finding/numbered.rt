@@ -1,4 +1,4 @@
-//! The keys of one record type, read off its extent.
+//! The keys of one record type, read from its extent.
 ghost use Rattle.std.specs.Prelude.{◌≡◌, ◌<◌, ◌+◌, ◌^◌, filter, option_map, slice_get, IfSome};
 ghost use Rattle.dbtg_schema.specs.Lookups.{final, first};
 ghost use Rattle.dbtg_cells.specs.Keys.{key_below};
@@ -20,7 +20,7 @@ pub(crate) fn key_of(extent: &Extent, rtype: RecordNo, number: Option<u32>) -> O
     })
 }
 
-// Keys of the bound's type lie behind it above its number, and at it where the number was used again.
+// Keys of the bound's type lie after it above its number, and at its number if that was used again.
 fn number_above(extent: &Extent, bound: &DbKey) -> u32
     ensures { result ≡ number_above extent.now.numbers bound.now }
 {
@@ -31,7 +31,7 @@ fn number_above(extent: &Extent, bound: &DbKey) -> u32
     }
 }
 
-// Keys of the bound's type lie before it below its number, and at it where the number was not used so often.
+// Keys of the bound's type lie before it below its number, and at its number if that was used less often.
 fn number_below(extent: &Extent, bound: &DbKey) -> u32
     requires { bound.now.number + 1 < 2 ^ 32 }
     ensures { result ≡ number_below extent.now.numbers bound.now }
@@ -43,7 +43,7 @@ fn number_below(extent: &Extent, bound: &DbKey) -> u32
     }
 }
 
-// The first key behind the bound.
+// The first key after the bound.
 fn next_key(extent: &Extent, rtype: RecordNo, bound: &DbKey) -> Option<DbKey>
     ensures { result ≡ first (filter (key_below bound.now) (keys_of_type rtype extent.now.numbers)) }
 {
@@ -74,7 +74,7 @@ fn prior_key(extent: &Extent, rtype: RecordNo, bound: &DbKey) -> Option<DbKey>
     )
 }
 
-/// The first key behind the bound, where there is one.
+/// The first key after the bound, if there is one.
 pub(crate) fn first_key(extent: &Extent, rtype: RecordNo, bound: &Option<DbKey>) -> Option<DbKey>
     ensures { result ≡ first (filter (is_above bound.now) (keys_of_type rtype extent.now.numbers)) }
 {
@@ -84,7 +84,7 @@ pub(crate) fn first_key(extent: &Extent, rtype: RecordNo, bound: &Option<DbKey>)
     }
 }
 
-/// The last key before the bound, where there is one.
+/// The last key before the bound, if there is one.
 pub(crate) fn last_key(extent: &Extent, rtype: RecordNo, bound: &Option<DbKey>) -> Option<DbKey>
     requires { IfSome bound.now (λ k. k.number + 1 < 2 ^ 32) }
     ensures { result ≡ final (filter (is_below bound.now) (keys_of_type rtype extent.now.numbers)) }

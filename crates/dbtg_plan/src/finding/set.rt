@@ -1,4 +1,4 @@
-//! FIND in a set: the members of the current occurrence, read off its ring.
+//! FIND in a set: the members of the current occurrence, read from its ring.
 ghost use Rattle.std.specs.Prelude.{◌≡◌, true, false, ◌&&◌};
 ghost use Rattle.dbtg_cells.specs.Members.{keys_in};
 ghost use Rattle.dbtg_unit.specs.Database.Statements.Fits.{which_fits};
@@ -13,7 +13,7 @@ use dbtg_cells::{DbKey, Ring, Value};
 use dbtg_schema::{RecordNo, Schema, SetNo};
 use dbtg_unit::{Cause, Held, Unit, Which, occurrence};
 
-// Is the position lost, where NEXT or PRIOR goes on from it?
+// Is the position lost, and does NEXT or PRIOR go on from it?
 fn loses_position(ring: &Ring, which: Which, position: &Option<DbKey>) -> bool
     ensures { result ≡ needs_position which && is_lost position.now (keys_in ring.now.occurrence) }
 {
@@ -24,7 +24,7 @@ fn loses_position(ring: &Ring, which: Which, position: &Option<DbKey>) -> bool
     }
 }
 
-// The first member behind the position, of a record type or of any.
+// The first member after the position, of a record type or of any.
 fn next_member(ring: &Ring, rtype: Option<RecordNo>, position: Option<DbKey>) -> Option<DbKey>
     requires { is_lost position (keys_in ring.now.occurrence) ≡ false }
     ensures { result ≡ chosen Next (has_type rtype) position (keys_in ring.now.occurrence) }
@@ -66,7 +66,7 @@ fn choose(
     }
 }
 
-// The member, or the cause why there is none.
+// The member, or the cause if there is none.
 fn member_found(
     ring: &Ring,
     which: Which,
@@ -109,7 +109,7 @@ pub(crate) fn find_member(
     }
 }
 
-// The first member with a sort key, or the cause why there is none.
+// The first member with a sort key, or the cause if there is none.
 fn sorted_found(ring: &Ring, value: &Value) -> Result<DbKey, Cause>
     ensures { result ≡ sorted_found value.now ring.now.occurrence }
 {

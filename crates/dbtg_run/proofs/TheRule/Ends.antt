@@ -13,7 +13,7 @@ use Rattle.dbtg_run.specs.declared.view.SeatUnit.{SeatUnit}
 use Rattle.dbtg_run.specs.declared.view.SeatKnowledge.{SeatKnowledge}
 use Rattle.dbtg_run.specs.Views.{Has, lone}
 use Rattle.dbtg_run.specs.Inside.Views.{total, put, one_if, once_below, times_place, Sits, Seated}
-use Rattle.dbtg_run.specs.Inside.LatchRule.{LatchRule, spent, Whole, Learns}
+use Rattle.dbtg_run.specs.Inside.LatchRule.{LatchRule, vacated, Whole, Learns}
 use Rattle.dbtg_run.proofs.TheRule.Base.{put_here, put_else, total_set, total_snoc, total_at, total_alone}
 use Rattle.dbtg_run.proofs.TheRule.History.{is_history, unit_is}
 
@@ -98,15 +98,15 @@ module _ (about : About) (all : ℕ → SeatUnit) (vs : List SeatKnowledge) (K :
 
   -- kind 8
   pub unites : (id other : ℕ) (m : SeatUnit) (ms : List SeatUnit) → get_elem? vs id ≡ some (record { live = true; about = about; members = ms }) → (other ≡ id → ⊥) → get_elem? (set vs id (record { live = true; about = about; members = m ∷ ms })) other ≡ some (lone about m)
-      → Seated about all (set (set vs id (record { live = true; about = about; members = m ∷ ms })) other spent)
+      → Seated about all (set (set vs id (record { live = true; about = about; members = m ∷ ms })) other vacated)
   unites id other m ms at ne there = record {
     seat = put K.seat m.place id;
     live = λ i v e l. ⊎_elim
-        (λ (t : (i ≡ other) × (spent ≡ v)). absurd (off (ap (λ (x : SeatKnowledge). x.live) t.1 ∙ l)))
+        (λ (t : (i ≡ other) × (vacated ≡ v)). absurd (off (ap (λ (x : SeatKnowledge). x.live) t.1 ∙ l)))
         (λ (t : (i ≢ other) × (get_elem? views i ≡ some v)). ⊎_elim (λ (q : (i ≡ id) × (both ≡ v)). sym (ap (λ (x : SeatKnowledge). x.about) q.1)) (λ (q : (i ≢ id) × (get_elem? vs i ≡ some v)). K.live i v q.1 l) (at_set vs id i both v t.1))
-        (at_set views other i spent v e);
+        (at_set views other i vacated v e);
     seated = λ i v x e has. ⊎_elim
-        (λ (t : (i ≡ other) × (spent ≡ v)). absurd (subst (λ (y : SeatKnowledge). Has x y.members) (sym t.1) has))
+        (λ (t : (i ≡ other) × (vacated ≡ v)). absurd (subst (λ (y : SeatKnowledge). Has x y.members) (sym t.1) has))
         (λ (t : (i ≢ other) × (get_elem? views i ≡ some v)). ⊎_elim
         (λ (q : (i ≡ id) × (both ≡ v)). ⊎_elim
         (λ (r : m ≡ x). subst (Sits about all (put K.seat m.place id) i) r record { same = mine.same; here = put_here K.seat m.place id ∙ sym q.0; inside = mine.inside })
@@ -114,9 +114,9 @@ module _ (about : About) (all : ℕ → SeatUnit) (vs : List SeatKnowledge) (K :
         (subst (λ (y : SeatKnowledge). Has x y.members) (sym q.1) has))
         (λ (q : (i ≢ id) × (get_elem? vs i ≡ some v)). let h = K.seated i v x q.1 has in sit i x (λ p. t.0 (sym h.here ∙ ap K.seat p ∙ mine.here)) h)
         (at_set vs id i both v t.1))
-        (at_set views other i spent v e);
-    each_once = λ u. let a = total_set (λ (v : SeatKnowledge). times_place u v.members) vs id left both at in let b = total_set (λ (v : SeatKnowledge). times_place u v.members) views other (lone about m) spent there in let c = K.each_once u in omega arith;
-    all_there = let a = total_set (λ (v : SeatKnowledge). length v.members) vs id left both at in let b = total_set (λ (v : SeatKnowledge). length v.members) views other (lone about m) spent there in let c = K.all_there in omega arith;
+        (at_set views other i vacated v e);
+    each_once = λ u. let a = total_set (λ (v : SeatKnowledge). times_place u v.members) vs id left both at in let b = total_set (λ (v : SeatKnowledge). times_place u v.members) views other (lone about m) vacated there in let c = K.each_once u in omega arith;
+    all_there = let a = total_set (λ (v : SeatKnowledge). length v.members) vs id left both at in let b = total_set (λ (v : SeatKnowledge). length v.members) views other (lone about m) vacated there in let c = K.all_there in omega arith;
   }
     where
       left : SeatKnowledge
@@ -144,7 +144,7 @@ module _ (about : About) where
   splits id m ms s K at = record { sound = K.sound; few = K.few; all = K.all; seats = cuts about K.all s.views K.seats id m ms at; worded = K.worded }
 
   -- kind 8
-  pub joins : (id other : ℕ) (m : SeatUnit) (ms : List SeatUnit) → Joins (LatchRule about) id (record { live = true; about = about; members = ms }) other (lone about m) (record { live = true; about = about; members = m ∷ ms }) spent
+  pub joins : (id other : ℕ) (m : SeatUnit) (ms : List SeatUnit) → Joins (LatchRule about) id (record { live = true; about = about; members = ms }) other (lone about m) (record { live = true; about = about; members = m ∷ ms }) vacated
   joins id other m ms s K at ne there = record { sound = K.sound; few = K.few; all = K.all; seats = unites about K.all s.views K.seats id other m ms at ne there; worded = K.worded }
 
   -- the seat with all units learns the history

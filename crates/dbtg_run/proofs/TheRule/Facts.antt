@@ -25,7 +25,7 @@ use Rattle.dbtg_step.specs.Machine.SequentialDatabase.{In, MayMake, unit_at}
 use Rattle.dbtg_step.specs.Inside.SequentialDatabase.{IsSequentialDatabase}
 use Rattle.dbtg_step.specs.Machine.Machine.{State as Machine, replay, held_cells}
 use Rattle.dbtg_step.specs.Machine.Lawful.{Lawful, AreDistinct}
-use Rattle.dbtg_step.specs.Machine.Network.{next_need_of}
+use Rattle.dbtg_step.specs.Machine.Network.{next_need_of, noted_owners}
 use Rattle.dbtg_step.specs.Machine.Headline.{entry_of}
 use Rattle.dbtg_step.specs.Core.Parts.{held_of, note_of}
 use Rattle.dbtg_step.proofs.Public.{entries_again, in_mapped, in_reverse, need_of_holding, once_of_distinct, replays_same, unit_found}
@@ -107,8 +107,8 @@ module _ (about : About) (machine : Machine (net about)) (lawful : Lawful (net a
 
     -- what the statement needs on every database that agrees with what is held, the machine's unit needs
     pub needs_now : (x : Statement) (g : List (Option Owner)) (n : Need) → ((db : Database) → Agrees about.schema.value about.capacity db (hands_of m) m.unit → n ≡ need about.schema.value about.capacity db m.unit (record { areas = m.areas; cells = m.held; guesses = g }) x) →
-        (net about).need database_now m.unit x g (progress_of about m).areas (progress_of about m).cells ≡ next_need_of g n
-    needs_now x g n all = ap (next_need_of g) (need_of_holding about.schema.value about.capacity database_now m.unit x (record { areas = m.areas; cells = m.held; guesses = g }) ∙ sym (all database_now agrees_now))
+        (net about).need database_now m.unit x g (progress_of about m).areas (progress_of about m).cells ≡ next_need_of (noted_owners about.schema.value about.capacity database_now m.unit x g) n
+    needs_now x g n all = ap (next_need_of (noted_owners about.schema.value about.capacity database_now m.unit x g)) (need_of_holding about.schema.value about.capacity database_now m.unit x (record { areas = m.areas; cells = m.held; guesses = g }) ∙ sym (all database_now agrees_now))
 
     pub area_of_cell_held : (x : Statement) (g : List (Option Owner)) (c : CellName) → fits about.schema.value x ≡ true → ((db : Database) → Agrees about.schema.value about.capacity db (hands_of m) m.unit → Take c ≡ need about.schema.value about.capacity db m.unit (record { areas = m.areas; cells = m.held; guesses = g }) x) →
         (laws : IsSequentialDatabase (net about)) → In ((net about).area c) (progress_of about m).areas

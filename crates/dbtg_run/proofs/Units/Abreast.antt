@@ -52,7 +52,7 @@ at_more P scripts before after s u v at A last = record {
 pub script_at : (scripts : List (List Statement)) (k n : ℕ) (s : List Statement) → k ≡ n → n < length scripts → s ≡ get_or scripts k s → (d : List Statement) → get_or scripts n d ≡ s
 script_at scripts k n s same below is d = get_or_from_slice_get scripts n s d (slice_get_read scripts (length scripts) n s refl below (is ∙ ap (λ i. get_or scripts i s) same))
 
--- the units that are left came back, and behind them the last
+-- the units that are left came back, and after them the last
 pub all_back : (P : List Statement → UnitView → UnitView → Type 0) (scripts : List (List Statement)) (units left came back : List UnitView) (s : List Statement) (u v : UnitView)
     → units ≡ left ++ u ∷ [] → back ≡ came ++ v ∷ [] → ((d : List Statement) → get_or scripts (length left) d ≡ s) → AtEach P scripts left came → P s u v → AtEach P scripts units back
 all_back P scripts units left came back s u v units_are back_is at A last =

@@ -104,7 +104,7 @@ alone_posed about place number e =
 abbrev pub waiting : About → ℕ → SeatKnowledge
 waiting about place = record { live = true; about = about; members = numbered about place (about.units - place) }
 
--- so many units from this place on
+-- this many units from this place on
 abbrev line : About → ℕ → ℕ → SeatKnowledge
 line about place n = record { live = true; about = about; members = numbered about place n }
 

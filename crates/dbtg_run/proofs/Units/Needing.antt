@@ -6,7 +6,6 @@ use Rattle.std.proofs.lemmas.Bool.{not-true, cases_Bool}
 use Rattle.std.proofs.lemmas.List.FromFn.{length-range_with_len}
 use Rattle.dbtg_schema.specs.Lists.{Lists}
 use Rattle.dbtg_cells.specs.declared.cell.Cell.{Cell}
-use Rattle.dbtg_cells.specs.declared.key.Owner.{Owner}
 use Rattle.dbtg_cells.specs.declared.name.CellName.{CellName}
 use Rattle.dbtg_cells.specs.Names.{name_eq}
 use Rattle.dbtg_cells.specs.CellNumbers.{cell_number, cells_in_order}
@@ -17,12 +16,11 @@ use Rattle.dbtg_unit.specs.declared.unit.Unit.{Unit}
 use Rattle.dbtg_unit.specs.Database.State.Base.{Database}
 use Rattle.dbtg_unit.specs.Database.Statements.Checks.{areas_of, refused_at_once}
 use Rattle.dbtg_unit.specs.Database.Statements.Fits.{fits}
-use Rattle.dbtg_unit.specs.Hands.Guesses.{with_owners}
 use Rattle.dbtg_unit.specs.Hands.Hands.{Hands}
-use Rattle.dbtg_unit.specs.Hands.Needs.{areas_in_order, cells_of, is_stale, need, stale_owners, next_of}
+use Rattle.dbtg_unit.specs.Hands.Needs.{areas_in_order, cells_of, is_stale, need, next_of}
 use Rattle.dbtg_unit.proofs.Public.{In as InKeys, find_element}
 use Rattle.dbtg_step.specs.Machine.SequentialDatabase.{In}
-use Rattle.dbtg_step.specs.Machine.Network.{next_need_of}
+use Rattle.dbtg_step.specs.Machine.Network.{next_need_of, noted_owners}
 use Rattle.dbtg_step.specs.Machine.TurningBack.{count}
 use Rattle.dbtg_step.proofs.Public.{chose_area, count_length, count_up_to, needs_come_to_an_end, network_names_cells, slice_get_in}
 use Rattle.dbtg_run.specs.declared.view.About.{About}
@@ -114,29 +112,25 @@ module _ (schema : Lists) (capacity : ℕ) (db : Database) (unit : Unit) (hands 
   pub area_needed : (a : ℕ) → Area a ≡ need schema capacity db unit hands x → IsArea a
   unfolding need
   area_needed a e =
-      let f = chose_area [] (is_some (refused_at_once schema capacity unit x)) (find (λ a. not (list_any (λ b. b == a) hands.areas)) (areas_in_order schema unit x)) (find (λ c. not (list_any (λ e. name_eq c e.0) hands.cells)) (cells_of schema capacity db unit hands.guesses x)) (is_stale schema capacity db unit hands.guesses x) (stale_owners schema capacity db unit hands.guesses x) a (ap (next_need_of []) (sym e)) in
+      let f = chose_area [] (is_some (refused_at_once schema capacity unit x)) (find (λ a. not (list_any (λ b. b == a) hands.areas)) (areas_in_order schema unit x)) (find (λ c. not (list_any (λ e. name_eq c e.0) hands.cells)) (cells_of schema capacity db unit hands.guesses x)) (is_stale schema capacity db unit hands.guesses x) a (ap (next_need_of []) (sym e)) in
       let g = find_element (λ a. not (list_any (λ b. b == a) hands.areas)) (areas_in_order schema unit x) a f.1 in
       let r = in_filter (λ a. list_any (λ b. b == a) (areas_of schema unit x)) a (range_with_len 0 (length schema.areas)) (there a (areas_in_order schema unit x) g.0) in
       record { inside = let h = in_range a 0 (length schema.areas) r in omega arith; fresh = not-true _ g.1; in_range_of = r }
 
-  -- the true owners, after which no guess is stale
-  pub record IsStale (owners : List (Option Owner)) : Type 0 where
-    pub now : is_stale schema capacity db unit hands.guesses x ≡ true
-    pub owners_are : stale_owners schema capacity db unit hands.guesses x ≡ owners
-
-  pub stale_needed : (owners : List (Option Owner)) → Stale owners ≡ need schema capacity db unit hands x → IsStale owners
+  -- a statement turns back where a guess is stale, and with the true owners none is
+  pub stale_needed : Stale ≡ need schema capacity db unit hands x → is_stale schema capacity db unit hands.guesses x ≡ true
   unfolding need
-  stale_needed owners e = chose (is_some (refused_at_once schema capacity unit x)) (find (λ a. not (list_any (λ b. b == a) hands.areas)) (areas_in_order schema unit x)) (find (λ c. not (list_any (λ e. name_eq c e.0) hands.cells)) (cells_of schema capacity db unit hands.guesses x)) (is_stale schema capacity db unit hands.guesses x) (stale_owners schema capacity db unit hands.guesses x) refl refl (sym e)
+  stale_needed e = chose (is_some (refused_at_once schema capacity unit x)) (find (λ a. not (list_any (λ b. b == a) hands.areas)) (areas_in_order schema unit x)) (find (λ c. not (list_any (λ e. name_eq c e.0) hands.cells)) (cells_of schema capacity db unit hands.guesses x)) (is_stale schema capacity db unit hands.guesses x) (sym e)
     where
-      chose : (r : Bool) (oa : Option ℕ) (oc : Option CellName) (stale : Bool) (true_owners : List (Option Owner)) → is_stale schema capacity db unit hands.guesses x ≡ stale → stale_owners schema capacity db unit hands.guesses x ≡ true_owners → (cond r Ready (next_of oa oc stale true_owners)) ≡ Stale owners → IsStale owners
-      chose true oa oc stale os p q e = absurd (cc (e))
-      chose false (Some a) oc stale os p q e = absurd (cc (e))
-      chose false None (Some c) stale os p q e = absurd (cc (e))
-      chose false None None false os p q e = absurd (cc (e))
-      chose false None None true os p q e = record { now = p; owners_are = q ∙ (let h : os ≡ owners = cc (e) in h) }
+      chose : (r : Bool) (oa : Option ℕ) (oc : Option CellName) (stale : Bool) → (cond r Ready (next_of oa oc stale)) ≡ Stale → stale ≡ true
+      chose true oa oc stale e = absurd (cc (e))
+      chose false (Some a) oc stale e = absurd (cc (e))
+      chose false None (Some c) stale e = absurd (cc (e))
+      chose false None None false e = absurd (cc (e))
+      chose false None None true e = refl
 
-  pub not_stale_then : (owners : List (Option Owner)) → fits schema x ≡ true → IsStale owners → is_stale schema capacity db unit (with_owners hands.guesses owners) x ≡ false
-  not_stale_then owners fit s = ap (λ os. is_stale schema capacity db unit (with_owners hands.guesses os) x) (sym s.owners_are) ∙ (needs_come_to_an_end schema capacity).not_stale_again db unit x hands.guesses fit
+  pub not_stale_then : fits schema x ≡ true → is_stale schema capacity db unit (noted_owners schema capacity db unit x hands.guesses) x ≡ false
+  not_stale_then fit = (needs_come_to_an_end schema capacity).not_stale_again db unit x hands.guesses fit
 
 -- THE END
 
@@ -174,8 +168,3 @@ module _ (about : About) where
         where
           grow : (t k : ℕ) → (t + 1) * k ≡ t * k + k
           grow t k = omega arith
-
-pub owners_length : (gs os : List (Option Owner)) → length gs ≡ length os → length (with_owners gs os) ≡ length os
-owners_length [] os e = refl
-owners_length (g ∷ gs) [] e = absurd (cc (e))
-owners_length (g ∷ gs) (o ∷ os) e = ap suc (owners_length gs os (cc (e)))

@@ -6,23 +6,22 @@ use Rattle.dbtg_cells.specs.declared.key.Owner.{Owner}
 use Rattle.dbtg_cells.specs.declared.name.CellName.{CellName}
 use Rattle.dbtg_cells.specs.CellNumbers.{cell_number, is_cell}
 use Rattle.dbtg_cells.proofs.Public.{has_number}
-use Rattle.dbtg_unit.specs.declared.held.Need.TheVariants.{Stale, Take}
+use Rattle.dbtg_unit.specs.declared.held.Need.TheVariants.{Take}
 use Rattle.dbtg_unit.specs.declared.statement.Statement.{Statement}
 use Rattle.dbtg_unit.specs.declared.unit.Entry.{Entry}
 use Rattle.dbtg_unit.specs.declared.unit.Unit.{Unit}
 use Rattle.dbtg_unit.specs.Database.Statements.Fits.{fits}
-use Rattle.dbtg_unit.specs.Hands.Guesses.{with_owners}
 use Rattle.dbtg_unit.specs.Hands.Hands.{Hands}
 use Rattle.dbtg_unit.specs.Hands.Making.{CanFinish}
 use Rattle.dbtg_unit.specs.Hands.Needs.{cells_of, need}
 use Rattle.dbtg_unit.specs.Hands.Prepared.{Plan, guesses_edited}
 use Rattle.dbtg_unit.proofs.Public.{all_at, effect_step}
+use Rattle.dbtg_step.specs.Machine.Network.{noted_owners}
 use Rattle.dbtg_step.specs.Inside.Events.{HaveRings}
 use Rattle.dbtg_step.proofs.Public.{cell_wanted, cells_exist, made_have_rings, not_beyond, turned_have_rings}
 use Rattle.dbtg_run.specs.declared.view.About.{About}
 use Rattle.dbtg_run.specs.Inside.LatchRule.{IsReal}
 use Rattle.dbtg_run.specs.Posed.{IsOurs}
-use Rattle.dbtg_run.proofs.Units.Needing.{stale_needed}
 
 module _ (about : About) (unit : Unit) (journal : List Entry) (hands : Hands) (x : Statement) (ours : IsOurs about unit) (real : IsReal about unit journal hands)
     (fit : fits about.schema.value x ≡ true) (rings : HaveRings about.schema.value about.capacity hands.guesses) where
@@ -36,11 +35,8 @@ module _ (about : About) (unit : Unit) (journal : List Entry) (hands : Hands) (x
       (made_have_rings about.schema.value about.capacity real.db unit x hands.guesses step.legal rings)
 
   -- after it turned back
-  pub rings_turned : (owners : List (Option Owner)) → Stale owners ≡ need about.schema.value about.capacity real.db unit hands x
-      → HaveRings about.schema.value about.capacity (with_owners hands.guesses owners)
-  rings_turned owners e =
-      subst (λ os. HaveRings about.schema.value about.capacity (with_owners hands.guesses os)) (stale_needed about.schema.value about.capacity real.db unit hands x owners e).owners_are
-      (turned_have_rings about.schema.value about.capacity real.db real.agrees.legal unit hands.guesses x rings)
+  pub rings_turned : HaveRings about.schema.value about.capacity (noted_owners about.schema.value about.capacity real.db unit x hands.guesses)
+  rings_turned = turned_have_rings about.schema.value about.capacity real.db real.agrees.legal unit hands.guesses x rings
 
   -- what it needs has a number
   pub needed_has_number : (c : CellName) → Take c ≡ need about.schema.value about.capacity real.db unit hands x → cell_number about.schema.value about.capacity c ≡ None → ⊥

@@ -245,7 +245,7 @@ not_bared (e ∷ es) c = by (name_eq c e.0) (not_bared es c)
     by true h = refl
     by false h = h
 
--- in a database of one unit a cell that is not in hand is free
+-- in a database of one unit a cell that is not held is free
 pub cell_free_as : (about : About) (k word found : ℕ) (me : Sat) (unit : Unit) (journal : List Entry) (exclusive : Bool) (hands : Hands) (c : CellName) → me ≡ posed about unit journal exclusive hands → word ≡ cell_word about k → slot_name about k ≡ Some c → CellFreeAlone (slot_of_word me.0 word) me.0 found → about.units ≡ 1 → list_any (λ (e : CellName × Cell). name_eq c e.0) hands.cells ≡ false → found ≡ 0
 cell_free_as about k word found me unit journal exclusive hands c is at named free one none_held =
     let fewer : 1 + area_count about + k - (1 + area_count about) ≡ k = omega arith in
@@ -253,7 +253,7 @@ cell_free_as about k word found me unit journal exclusive hands c is at named fr
     let t : CellFreeAlone k (lone about (member_of unit journal exclusive hands)) found = subst (λ (p : Sat × ℕ). CellFreeAlone p.1 p.0.0 found) (λ i. (is i, index i)) free in
     t (member_of unit journal exclusive hands) c refl one named (sym (not_bared hands.cells c) ∙ none_held)
 
--- and an area that is not in hand
+-- and an area that is not held
 pub free_as : (about : About) (a word found : ℕ) (me : Sat) (m : SeatUnit) (l : List (ℕ × Option Cell)) → me ≡ (lone about m, l) → word ≡ area_word a → FreeAlone (word - 1) me.0 found → about.units ≡ 1 → times a m.areas ≡ 0 → found ≡ 0
 free_as about a word found me m l is at free one none_held =
     let less : 1 + a - 1 ≡ a = omega arith in

@@ -74,7 +74,7 @@ slot_name about k = cell_at about.schema.value about.capacity k
 abbrev pub database_after : About → List Entry → Database
 database_after about log = (replay_entries about.schema.value about.capacity (opening_state about.schema.value about.units) log).database
 
--- what a member is as a unit of the machine
+-- a member as a unit of the machine
 abbrev pub progress_of : (about : About) → SeatUnit → Progress (net about)
 progress_of about m = record { exclusive = m.exclusive; areas = reverse m.areas; cells = held_cells_of m.held; turning_back = false; ticket = None; linked = 0 }
 
@@ -85,7 +85,7 @@ pub record Shows (about : About) (machine : Machine (net about)) (u : ℕ) (m : 
   pub unit : state.unit ≡ m.unit
   pub progress : state.progress ≡ Some (progress_of about m)
 
--- an area's word has just the bits of those who have it
+-- an area's word has exactly the bits of those who have it
 pub record AreaOk (word : ℕ) (has : Bool → ℕ → ℕ) : Type 0 where
   pub small : word < 65536
   pub shared : (u : ℕ) → u < 8 → bit_at word u ≡ has false u
@@ -114,12 +114,12 @@ pub record Worded (about : About) (words : List ℕ) (homes : List (maybe.Option
   pub place : (u : ℕ) → u < about.units → (all u).place ≡ u
   pub journal : (u : ℕ) → u < about.units → entries_of (suc u) log ≡ (all u).journal
   pub short : (u : ℕ) → u < about.units → length (all u).journal ≤ MOST_STATEMENTS
-  -- where there is no unit, no area is held; there are no other entries
+  -- if there is no unit, no area is held; there are no other entries
   pub none : (u : ℕ) → about.units ≤ u → (all u).areas ≡ []
   pub entries : total_below (λ u. length (all u).journal) about.units ≡ length log
   -- the areas' words have the bits of those who hold them
   pub areas : (a : ℕ) → a < area_count about → AreaOk (slice_index words (area_word a)) (λ x u. latched x a (all u))
-  -- a cell whose word is 0 is at home in its slot, and another is with the unit that its word names
+  -- a cell whose word is 0 is at home in its slot, and any other is with the unit that its word names
   pub home : (k : ℕ) (c : CellName) → slot_name about k ≡ Some c → slice_index words (cell_word about k) ≡ 0 → AtHome machine.location (get_elem? homes k) c
   pub out : (k : ℕ) (c : CellName) → slot_name about k ≡ Some c → slice_index words (cell_word about k) ≢ 0 → machine.location c ≡ HeldBy (slice_index words (cell_word about k))
 
@@ -139,7 +139,7 @@ Sat = Me (Option Cell) SeatKnowledge
 abbrev pub At : Type 0
 At = Step (Option Cell)
 
--- in a database of one unit an area's word is 0 where this unit does not have the area
+-- in a database of one unit an area's word is 0 if this unit does not have the area
 abbrev pub FreeAlone : ℕ → SeatKnowledge → ℕ → Type 0
 FreeAlone a v found = (m : SeatUnit) → v.members ≡ m ∷ [] → v.about.units ≡ 1 → latched false a m ≡ 0 → latched true a m ≡ 0 → found ≡ 0
 
@@ -156,7 +156,7 @@ pub record IsReal (about : About) (unit : Unit) (journal : List Entry) (hands : 
   pub once : pairwise (λ (e f : CellName × Cell). not (name_eq e.0 f.0)) hands.cells ≡ true
   pub versions : HaveNextVersions hands.cells
 
--- where a view has one member, some database agrees with what it holds
+-- if a view has one member, some database agrees with what it holds
 abbrev pub TellsReal : SeatKnowledge → Type 0
 TellsReal v = (m : SeatUnit) → v.members ≡ m ∷ [] → IsReal v.about m.unit m.journal (hands_of m)
 
@@ -164,7 +164,7 @@ TellsReal v = (m : SeatUnit) → v.members ≡ m ∷ [] → IsReal v.about m.uni
 abbrev pub LooksAtArea : At → Sat → ℕ → Sat → Type 0
 LooksAtArea st me found after = (after ≡ me) × (found < 65536) × FreeAlone (st.word - 1) me.0 found
 
--- an area is taken, exclusively or not, where its word was as expected, and else nothing changes
+-- an area is taken, exclusively or not, if its word was as expected; otherwise nothing changes
 abbrev pub TakesArea : Bool → At → Sat → ℕ → Sat → Type 0
 TakesArea x st me found after =
     (found ≡ st.first → after ≡ (changed (with_area (st.word - 1) x) me.0, me.1)) × (found ≢ st.first → after ≡ me)
@@ -188,11 +188,11 @@ TookAt k me after =
 abbrev pub CellFreeAlone : ℕ → SeatKnowledge → ℕ → Type 0
 CellFreeAlone k v found = (m : SeatUnit) (c : CellName) → v.members ≡ m ∷ [] → v.about.units ≡ 1 → slot_name v.about k ≡ Some c → holds m.held c ≡ false → found ≡ 0
 
--- slot k is taken where its word was 0, and else nothing changes
+-- slot k is taken if its word was 0; otherwise nothing changes
 abbrev pub TakesAt : ℕ → Sat → ℕ → Sat → Type 0
 TakesAt k me found after = (found ≡ 0 → TookAt k me after × TellsReal after.0) × (found ≢ 0 → after ≡ me) × CellFreeAlone k me.0 found
 
--- the same of the slot that the word guards
+-- the same for the slot that the word guards
 abbrev pub TakesCell : At → Sat → ℕ → Sat → Type 0
 TakesCell st me found after = TakesAt (slot_of_word me.0 st.word) me found after
 
@@ -251,8 +251,8 @@ abbrev pub no_schema : Lists
 no_schema = record { name = []; areas = []; types = []; sets = [] }
 
 -- what a join leaves of the view that was joined
-abbrev pub spent : SeatKnowledge
-spent = record { live = false; about = record { schema = record { marker = record {}; value = no_schema }; capacity = 0; units = 0 }; members = [] }
+abbrev pub vacated : SeatKnowledge
+vacated = record { live = false; about = record { schema = record { marker = record {}; value = no_schema }; capacity = 0; units = 0 }; members = [] }
 
 -- all units are in this view
 pub record Whole (v : SeatKnowledge) : Type 0 where

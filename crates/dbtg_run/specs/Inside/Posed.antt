@@ -1,4 +1,4 @@
--- What a unit's seat knows, from what the unit is and has in hand.
+-- What a unit's seat knows, from what the unit is and holds.
 use Rattle.std.specs.Prelude.{◌≡◌, ℕ, ◌+◌, ◌-◌, ◌*◌, ◌^◌, ◌<◌, Bool, true, not, nat_lt, is_some, unwrap_or, List, [], map, reverse, length, Option, None, ◌⊎◌, ◌==◌}
 use Rattle.std.specs.List.{list_all, list_any, range_with_len}
 use Rattle.atomic_table.specs.Seated.{TableId}
@@ -20,7 +20,7 @@ use Rattle.dbtg_run.specs.Inside.LatchRule.{Sat, area_count, cells_of_table}
 abbrev pub member_of : Unit → List Entry → Bool → Hands → SeatUnit
 member_of unit journal exclusive hands = record { place = unit.number - 1; unit = unit; journal = journal; exclusive = exclusive; areas = hands.areas; held = bared hands.cells }
 
--- the number of a cell, 0 for one that the schema has not
+-- the number of a cell, 0 for one that the schema does not have
 abbrev pub number_or_0 : About → CellName → ℕ
 number_or_0 about c = unwrap_or (cell_number about.schema.value about.capacity c) 0
 
@@ -48,11 +48,11 @@ pub record AreInside (about : About) (hands : Hands) : Type 0 where
   pub cells : list_all (λ e. is_some (cell_number about.schema.value about.capacity e.0)) hands.cells ≡ true
   pub guesses : length hands.guesses ≡ length about.schema.value.sets
 
--- areas are held so, or none is
+-- areas are held in this mode, or none is
 abbrev pub HoldsSo : Bool → Bool → Hands → Type 0
 HoldsSo x exclusive hands = (hands.areas ≡ []) ⊎ (exclusive ≡ x)
 
--- how many areas and cells aren't held
+-- how many areas and cells are not held
 abbrev pub not_held : About → Hands → ℕ
 not_held about hands =
     count (λ a. not (list_any (λ b. b == a) hands.areas)) (range_with_len 0 (area_count about))

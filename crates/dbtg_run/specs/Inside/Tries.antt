@@ -2,7 +2,6 @@
 use Rattle.std.specs.Prelude.{◌≡◌, ◌+◌, ◌≤◌, []}
 use Rattle.dbtg_unit.specs.declared.held.Need.{Need}
 use Rattle.dbtg_unit.specs.declared.held.Need.TheVariants.{Ready, Area, Take, Stale}
-use Rattle.dbtg_unit.specs.Hands.Guesses.{with_owners}
 use Rattle.dbtg_unit.specs.Hands.Hands.{Hands}
 use Rattle.dbtg_run.specs.declared.tries.Tries.{Tries}
 
@@ -13,7 +12,7 @@ abbrev pub IsVain : Need → Hands → Hands → Type 0
 IsVain Ready old new = ⊥
 IsVain (Area a) old new = new ≡ old
 IsVain (Take c) old new = new ≡ old
-IsVain (Stale owners) old new = new ≡ record old { cells = []; guesses = with_owners old.guesses owners }
+IsVain Stale old new = new ≡ record old { cells = []; guesses = new.guesses }
 
 -- no look was in vain for which there was no try
 abbrev pub Suffice : Tries → Type 0

@@ -28,7 +28,7 @@ total_below f (suc n) = total_below f n + f n
 abbrev pub put : {A : Type 0} → (ℕ → A) → ℕ → A → ℕ → A
 put f k x j = cond (j == k) x (f j)
 
--- 1 where it is so, and else 0
+-- 1 if it is so; otherwise 0
 abbrev pub one_if : Bool → ℕ
 one_if b = cond b 1 0
 
@@ -37,12 +37,12 @@ abbrev pub once_below : ℕ → ℕ → ℕ
 once_below u zero = 0
 once_below u (suc n) = once_below u n + one_if (n == u)
 
--- how often the number stands in the list
+-- how often the number is in the list
 abbrev pub times : ℕ → List ℕ → ℕ
 times a [] = 0
 times a (b ∷ bs) = one_if (b == a) + times a bs
 
--- how often the member has the area so
+-- how often the member has the area in this way
 abbrev pub latched : Bool → ℕ → SeatUnit → ℕ
 latched true a m = cond m.exclusive (times a m.areas) 0
 latched false a m = cond m.exclusive 0 (times a m.areas)
@@ -71,7 +71,7 @@ rest_of (x ∷ xs) = xs
 abbrev pub init : {A : Type 0} → List A → List A
 init xs = reverse (rest_of (reverse xs))
 
--- the view with each member changed so
+-- the view with each member changed in this way
 abbrev pub changed : (SeatUnit → SeatUnit) → SeatKnowledge → SeatKnowledge
 changed f v = record { live = v.live; about = v.about; members = map f v.members }
 
@@ -91,7 +91,7 @@ with_cell c x m = record m { held = m.held ++ (c, x) ∷ [] }
 abbrev pub less_cell : SeatUnit → SeatUnit
 less_cell m = record m { held = init m.held }
 
--- the member with one entry more, and what the statement leaves of unit and cells
+-- the member with one entry more, and with the unit and cells that the statement leaves
 abbrev pub drawn : Entry → Unit → List (CellName × Cell) → SeatUnit → SeatUnit
 drawn e unit held m = record m { unit = unit; journal = m.journal ++ e ∷ []; held = held }
 

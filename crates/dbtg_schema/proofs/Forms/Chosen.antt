@@ -1,4 +1,4 @@
--- Where the words with which a form can go on are ranked, the start by which words are derived is the one that is found, or comes behind it.
+-- Where the words with which a form can go on are ranked, the start by which words are derived is the one that is found, or comes after it.
 use Rattle.std.proofs.Common.{◌≡◌, Bool, true, false, cond, not, ◌&&◌, List, [], ◌∷◌, ◌++◌, Some, map, refl, sym, ap, subst, ◌∙◌, ◌⊎◌, inl, inr}
 use Rattle.std.specs.List.{list_all}
 use Rattle.std.proofs.lemmas.Bool.{and_parts, or_cases}
@@ -41,7 +41,7 @@ module _ {K R : Type 0} (Before : K → K → Type 0) where
   Ranked (either f g) = Ranked f × Ranked g × AreBefore (firsts f) (starts g)
   Ranked (many f) = Ranked f × AreBefore (further f) (starts f)
 
-  -- each start comes before those behind it
+  -- each start comes before those after it
   abbrev pub InOrder : List (Start K R) → Type 0
   InOrder [] = Unit {0}
   InOrder (x ∷ xs) = ((s : Start K R) → Among s xs → Before x.kind s.kind) × InOrder xs
@@ -204,7 +204,7 @@ module _ {K R W : Type 0} (fits : K → W → Bool) (Before : K → K → Type 0
   chosen_at w x xs found s false h e (inl m) t o rest = absurd (let k = subst (λ (y : Start K R). fits y.kind w ≡ true) m t in cc)
   chosen_at w x xs found s false h e (inr m) t o rest = rest e m
 
-  -- a start that a word fits is the one that is found for it, or comes behind it
+  -- a start that a word fits is the one that is found for it, or comes after it
   pub chosen : (w : W) (ss : List (Start K R)) → InOrder Before ss → (found s : Start K R) → start_with fits w ss ≡ Some found → Among s ss → fits s.kind w ≡ true → (s ≡ found) ⊎ Before found.kind s.kind
   chosen w [] o found s e a t = absurd a
   chosen w (x ∷ xs) o found s e a t = chosen_at w x xs found s (fits x.kind w) refl e a t o.0 (λ h m. chosen w xs o.1 found s h m t)

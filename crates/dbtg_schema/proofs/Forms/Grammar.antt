@@ -81,7 +81,7 @@ until_behind r (x ∷ xs) ys h = step (is r x) (list_any (is r) xs) h (λ g. unt
     step true b h k = absurd cc
     step false b h k = ap (λ (z : List Labelled). x ∷ z) (k h)
 
--- what stands behind a first part counts no more
+-- what follows a first part counts no more
 behind_first : (r s : Role) (f g : Form) (ws : List Labelled) (d : Derives fits (both f g) ws) → lacks r f ≡ true → at_least s f + count_of s (until r d.1) ≤ count_of s (until r ws)
 behind_first r s f g ws d h =
     subst (λ (z : List Labelled). at_least s f + count_of s (until r d.1) ≤ count_of s (until r z)) (sym d.2)

@@ -109,7 +109,7 @@ by_case l left end ws f (Some s) t e d rest =
     clean_both (at_word ws (labelled s.role l.word)) (flat_map (λ here. here) (places end (ws ++ labelled s.role l.word ∷ []) s.rest (words_of left)))
     (clean_at_word ws (labelled s.role l.word)) (rest s m.0 (subst (λ (y : Start). Derives fits y.rest left) same r.4))
 
--- words that a form derives have no fault of the grammar, behind any words
+-- words that a form derives have no fault of the grammar, after any words
 clean : (left : List Labelled) (end : ℕ) (ws : List Labelled) (f : Form) → Told f → Derives fits f left → Clean (flat_map (λ here. here) (places end ws f (words_of left)))
 clean [] end ws f t d = clean_both (at_end end ws f) [] (clean_at_end end ws f (may_stop fits f d)) refl
 clean (l ∷ left) end ws f t d = by_case l left end ws f (start_with fits l.word (starts f)) t refl d (λ s a c. clean left end (ws ++ labelled s.role l.word ∷ []) s.rest (ranked_rest (λ j k. apart j k ≡ true) f t s a) c)

@@ -10,7 +10,7 @@ use Rattle.dbtg_schema.proofs.Forms.Wanted.{ended}
 use Rattle.dbtg_schema.proofs.Forms.OneWay.{is_told, all_apart, further, firsts, words_of, in_parts, meets, Apart, Alike, begins, joined, parts_alike, are_apart, alike}
 
 module _ {K R W : Type 0} (fits : K → W → Bool) (are_set : IsSet (List (Labelled W R))) where
-  -- what is derived by one word, behind the word
+  -- what is derived by one word, after the word
   abbrev Word : K → R → List (Labelled W R) → W → Type 0
   Word k r ws w = (ws ≡ labelled r w ∷ []) × (fits k w ≡ true)
 
@@ -20,7 +20,7 @@ module _ {K R W : Type 0} (fits : K → W → Bool) (are_set : IsSet (List (Labe
       let same : ◌≡◌ {A = (w : W) × Word k r ws w} (d.0, (d.1, d.2)) (c.0, (c.1, c.2)) = Σ_prop_path (λ w. ×_prop (are_set ws (labelled r w ∷ [])) (Bool-set (fits k w) true)) word in
       λ i. ((same i).0, (same i).1.0, (same i).1.1)
 
-  -- what is derived by two forms, behind the words of the first
+  -- what is derived by two forms, after the words of the first
   abbrev Back : Form K R → Form K R → List (Labelled W R) → List (Labelled W R) → Type 0
   Back f g ws front = (back : List (Labelled W R)) × ((ws ≡ front ++ back) × (Derives fits f front × Derives fits g back))
 
@@ -71,7 +71,7 @@ module _ {K R W : Type 0} (fits : K → W → Bool) (are_set : IsSet (List (Labe
         | inr m ↦ absurd (elim m [ inl a ↦ cc | inr b ↦ cc ])
       ]
 
-  -- what is derived by parts, behind the parts
+  -- what is derived by parts, after the parts
   abbrev Parts : Form K R → List (Labelled W R) → List (List (Labelled W R)) → Type 0
   Parts f ws parts = (ws ≡ joined fits parts) × AllByRecursion (Derives fits f) parts
 

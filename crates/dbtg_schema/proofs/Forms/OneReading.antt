@@ -71,7 +71,7 @@ words_set = is_set word_set
 labelled_set : IsSet (List Labelled)
 labelled_set = is_set (hlevel (role_set, word_set))
 
--- where a start fits, the word stands behind it
+-- where a start fits, the word follows it
 behind_start : (w : Word) (left : List Word) (end : ℕ) (ws : List Labelled) (f : Form) (o : Option Start)
     → ((s : Start) → first (flat_map (λ here. here) (places end (ws ++ labelled s.role w ∷ []) s.rest left)) ≡ None → words_of (labels fits s.rest left) ≡ left)
     → first (flat_map (λ here. here) (by_start o (λ s. at_word ws (labelled s.role w) ∷ places end (ws ++ labelled s.role w ∷ []) s.rest left) (at_other ws (starts f) w ∷ []))) ≡ None

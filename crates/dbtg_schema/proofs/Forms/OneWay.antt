@@ -139,7 +139,7 @@ module _ {K R W : Type 0} (fits : K → W → Bool) where
   abbrev pub joined : List (List (Labelled W R)) → List (Labelled W R)
   joined parts = flat_map (λ part. part) parts
 
-  -- behind one part the next begins
+  -- after one part the next begins
   next_part : (f : Form K R) (ps : List (List (Labelled W R))) (left : List W) → may_end f ≡ false → Apart fits (further f) (firsts f) → AllByRecursion (Derives fits f) ps
       → meets fits (further f) (words_of (joined ps) ++ left) ≡ true → meets fits (further (many f)) left ≡ true
   next_part f [] left some differ all h = meets_left fits (further f) (firsts f) left h

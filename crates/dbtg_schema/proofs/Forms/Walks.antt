@@ -14,7 +14,7 @@ use Rattle.dbtg_schema.specs.Texts.SchemaFaults.{at_word, at_other, places}
 use Rattle.dbtg_schema.specs.Inside.Reading.{verdict}
 use Rattle.dbtg_schema.proofs.Forms.Accepted.{none_rest, never}
 
--- behind the words ws none of these words has a fault
+-- after the words ws none of these words has a fault
 abbrev pub EachClean : List Labelled → List Labelled → Type 0
 EachClean ws [] = Unit {0}
 EachClean ws (l ∷ ls) = (at_word ws l ≡ []) × EachClean (ws ++ l ∷ []) ls
@@ -51,7 +51,7 @@ any_behind r (b ∷ before) w p h = or_second (is r b) _ (any_behind r before w 
     or_second true b h = refl
     or_second false b h = h
 
--- the last entry, where no other begins behind it
+-- the last entry, where no other begins after it
 pub since_last : (r : Role) (before : List Labelled) (w : Labelled) (p : List Labelled) → is r w ≡ true → list_any (is r) p ≡ false → since r (before ++ w ∷ p) ≡ w ∷ p
 since_last r [] w p h none = rw (h, none) refl
 since_last r (b ∷ before) w p h none = not_last _ _ _ (is r b) (list_any (is r) (before ++ w ∷ p)) (any_behind r before w p h) (since_last r before w p h none)

@@ -16,7 +16,7 @@ use Rattle.dbtg_schema.specs.declared.shape.Area.{Area}
 use Rattle.dbtg_schema.specs.declared.shape.SetType.{SetType}
 use Rattle.dbtg_schema.specs.declared.index.SchemaIndex.{SchemaIndex}
 
--- what is found among entries with one more behind them
+-- what is found among entries with one more after them
 pub lookup_more : {K X : Type 0} (t : K → Bool) (es : List (K × X)) (k : K) (v : X) → lookup t (es ++ (k, v) ∷ []) ≡ option_or (lookup t es) (cond (t k) (Some v) None)
 lookup_more t [] k v = refl
 lookup_more t (e ∷ es) k v = elim (t e.0) as (λ b. cond b (Some e.1) (lookup t (es ++ (k, v) ∷ [])) ≡ option_or (cond b (Some e.1) (lookup t es)) (cond (t k) (Some v) None)) [ true ↦ refl | false ↦ lookup_more t es k v ]

@@ -75,7 +75,7 @@ key_known schema types are all p has_key known item_known =
 
 -- THE KEY ITEM IS ONE OF THE MEMBER'S
 
--- behind these words a MEMBER sentence without faults names as its key an item of its record type
+-- after these words a MEMBER sentence without faults names as its key an item of its record type
 pub key_there : (before p : List Labelled) (types : List (List Labelled)) → Derives fits member p → EachClean before p
     → ((zs : List Labelled) (r : List ℕ) → SaysNoTypes zs → items_of r (before ++ zs) ≡ items_of_part r types)
     → has role.KeyItem p ≡ true → among (first_named role.KeyItem p) (items_of_part (first_named role.MemberName p) types) ≡ true

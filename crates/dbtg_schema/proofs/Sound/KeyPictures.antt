@@ -1,4 +1,4 @@
--- The picture of an item of a record type, by their names, is the same wherever behind the record types it is asked for.
+-- The picture of an item of a record type, by their names, is the same wherever after the record types it is asked for.
 use Rattle.std.proofs.Common.{◌≡◌, ℕ, suc, ◌+◌, Bool, true, false, cond, ◌||◌, List, [], ◌∷◌, ◌++◌, map, Option, Some, None, refl, sym, ap, ◌∙◌, arith, inl, inr}
 use Rattle.std.specs.Prelude.{codes, is_some, slice_get, unwrap_or}
 use Rattle.std.specs.List.{list_any, position_from, AllByRecursion}
@@ -32,12 +32,12 @@ item_told e = (first_named role.ItemName e, first_named role.Picture e)
 abbrev pub type_told : List Labelled → Told
 type_told e = (first_named role.RecordName e, map item_told (entries role.ItemEntry e))
 
--- the items of the record type of this name
+-- the items of the record type with this name
 abbrev pub items_told : List ℕ → List Told → List (List ℕ × List ℕ)
 items_told r [] = []
 items_told r (t ∷ types) = cond (bytes_eq t.0 r) t.1 (items_told r types)
 
--- the picture of the item of this name
+-- the picture of the item with this name
 abbrev pub picture_told : List ℕ → List (List ℕ × List ℕ) → Option Picture
 picture_told i [] = None
 picture_told i (x ∷ items) = cond (bytes_eq x.0 i) (spelled_picture x.1) (picture_told i items)
@@ -59,7 +59,7 @@ items_as_told r (e ∷ es) = step (bytes_eq (first_named role.RecordName e) r) (
 pub item_picture_told : (r i : List ℕ) (ws : List Labelled) → item_picture r i ws ≡ picture_told i (items_told r (map type_told (entries role.RecordEntry ws)))
 item_picture_told r i ws = picture_as_told i (entries role.ItemEntry (record_named r (entries role.RecordEntry ws))) ∙ ap (picture_told i) (items_as_told r (entries role.RecordEntry ws))
 
--- the item names of the record type of this name
+-- the item names of the record type with this name
 abbrev pub items_of_part : List ℕ → List (List Labelled) → List (List ℕ)
 items_of_part r [] = []
 items_of_part r (p ∷ ps) = cond (bytes_eq (first_named role.RecordName p) r) (named role.ItemName p) (items_of_part r ps)

@@ -27,7 +27,7 @@ use Rattle.dbtg_schema.proofs.Forms.Parts.{flat, Begins, begins, begins_append, 
 use Rattle.dbtg_schema.proofs.Sound.TextParts.{set_head, set_head_begins, member_head, member_parts, member_head_begins, all_begin, none_in_parts}
 use Rattle.dbtg_schema.proofs.Forms.Walks.{EachClean}
 
--- what is wrong at the end of a MEMBER sentence behind these words: nothing
+-- what is wrong at the end of a MEMBER sentence after these words: nothing
 pub record Ended (ws : List Labelled) : Type 0 where
   pub no_owner : is_owner ws ≡ false
   pub once_there : is_there_twice ws ≡ false
@@ -59,7 +59,7 @@ sentence p d =
     let parts = member_parts p d in
     record { body = parts.0; stop = parts.4.0; whole = parts.2 ∙ ap (λ (z : List Labelled). parts.0 ++ z) parts.4.1; is_body = parts.3 }
 
--- each sentence of a set, behind the sentences before it: nothing is wrong at its end
+-- each sentence of a set, after the sentences before it: nothing is wrong at its end
 abbrev pub EachEnds : List Labelled → List (List Labelled) → Type 0
 EachEnds before [] = Unit {0}
 EachEnds before (p ∷ parts) = ((body : List Labelled) × (stop : Word) × (p ≡ body ++ labelled role.MemberEnd stop ∷ []) × Derives fits member_head body × Ended (before ++ body)) × EachEnds (before ++ p) parts
@@ -238,7 +238,7 @@ module _ (before head : List Labelled) (is_head : Derives fits set_head head) wh
       subst (λ (z : List (List Labelled)). distinct bytes_eq (map (first_named role.MemberName) z) ≡ true) (append_assoc earlier (p ∷ []) parts)
       (members_differ (earlier ++ p ∷ []) parts (all_more earlier p all each.0) each.1 (one_further earlier p parts h.1) one)
 
-  -- the keys of all sentences behind the first have its picture
+  -- the keys of all sentences after the first have its picture
   pub pictures_agree : (picture : List Labelled → Option Picture) → ((earlier : List (List Labelled)) (body m : List Labelled) → AllByRecursion (Derives fits member) earlier → Derives fits member_head body → key_picture (behind_them earlier ++ body) m ≡ picture m)
       → (first : List Labelled) (others parts : List (List Labelled)) → AllByRecursion (Derives fits member) (first ∷ others) → AllByRecursion (Derives fits member) parts → EachEnds (behind_them (first ∷ others)) parts
       → ((p body : List Labelled) → IsTold p body → picture p ≡ picture body) → AllByRecursion (λ p. unequal (picture first) (picture p) ≡ false) parts

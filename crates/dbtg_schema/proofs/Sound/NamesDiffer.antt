@@ -25,7 +25,7 @@ use Rattle.dbtg_schema.proofs.Forms.Roles.{role_is}
 use Rattle.dbtg_schema.proofs.Sound.TextParts.{type_head, type_parts, all_begin}
 use Rattle.dbtg_schema.proofs.Forms.Walks.{EachClean, keeps, each_entry}
 
--- what is wrong with a word of this role, behind the words ws: nothing
+-- what is wrong with a word of this role, after the words ws: nothing
 pub unsaid : (r : Role) (ws : List Labelled) (l : Labelled) → at_word ws l ≡ [] → is r l ≡ true → said ws l r ≡ []
 unsaid r ws l c t = subst (λ (q : Role). said ws l q ≡ []) (role_is r l t) (at_word_parts ws l c).2
 

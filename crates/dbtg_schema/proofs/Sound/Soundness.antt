@@ -228,7 +228,7 @@ module _ (ws : List Labelled) (c : EachClean [] ws) (d : Derives fits schema ws)
   type_parts_before : entries role.RecordEntry before_sets_words ≡ text.types
   type_parts_before = ap (entries role.RecordEntry) (sym (before_sets ws text)) ∙ type_entries ws text
 
-  -- the picture of a member's key, wherever it is asked for behind the record types
+  -- the picture of a member's key, wherever it is asked for after the record types
   picture_asked : (zs m : List Labelled) → SaysNoTypes zs → key_picture (before_sets_words ++ zs) m ≡ picture_by_name text.types m
   picture_asked zs m says =
       item_picture_told (first_named role.MemberName m) (first_named role.KeyItem m) (before_sets_words ++ zs)
@@ -401,7 +401,7 @@ module _ (ws : List Labelled) (c : EachClean [] ws) (d : Derives fits schema ws)
           ];
         })
 
-  -- each set, behind the sets before it
+  -- each set, after the sets before it
   each_sound_set : (earlier sets : List (List Labelled)) → AllByRecursion (Derives fits set) earlier → AllByRecursion (Derives fits set) sets → EachClean (before_sets_words ++ flat earlier) (flat sets)
       → AllByRecursion (λ q. all_among type_names_there (named role.MemberName q)) sets → AllByRecursion (λ q. all_among type_names_there (named role.OwnerName q)) sets
       → All (IsSoundSet (schema_of ws)) (map (set_from types) sets)

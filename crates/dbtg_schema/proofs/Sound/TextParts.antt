@@ -11,7 +11,7 @@ use Rattle.dbtg_schema.proofs.Forms.Grammar.{left, right, lacks, lacking, any_ap
 use Rattle.dbtg_schema.proofs.Forms.Parts.{flat, Begins, begins, begins_one, begins_more, entries_are, until_parts, named_parts, named_none, named_append, first_named_front, read_entries}
 use Rattle.std.specs.Prelude.{codes}
 
--- the form of what stands in front of the areas
+-- the form of what stands before the areas
 abbrev pub opening : Form
 opening = say (codes "SCHEMA") ▹ say (codes "NAME") ▹ one name role.SchemaName ▹ period
 
@@ -87,7 +87,7 @@ module _ (ws : List Labelled) (text : Text ws) where
       ∙ entries_behind role.SetEntry (flat text.areas) _ (none_in_parts role.SetEntry area text.areas text.each_area refl)
       ∙ entries_behind role.SetEntry (flat text.types) _ (none_in_parts role.SetEntry rec text.types text.each_type refl) ∙ entries_are role.SetEntry text.sets sets_begin
 
-  -- what stands in front of the sets
+  -- what stands before the sets
   pub before_sets : until role.SetEntry ws ≡ text.front ++ (flat text.areas ++ flat text.types)
   before_sets =
       ap (until role.SetEntry) text.whole ∙ until_behind role.SetEntry text.front _ (lacking role.SetEntry opening text.front text.is_front refl)
@@ -132,7 +132,7 @@ module _ (ws : List Labelled) (text : Text ws) where
       ++ (named_none role.SetName (flat text.types) (none_in_parts role.SetName rec text.types text.each_type refl) i
       ++ named_parts role.SetName set text.sets text.each_set refl refl refl i)))
 
-  -- the names of the areas, each read off its entry
+  -- the names of the areas, each read from its entry
   pub area_entry_names : map (first_named role.AreaName) (entries role.AreaEntry ws) ≡ named role.AreaName ws
   area_entry_names =
       let rest = flat text.types ++ flat text.sets in

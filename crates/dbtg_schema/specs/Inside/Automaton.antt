@@ -20,7 +20,7 @@ records_and_sets = (rec ▹ many rec) ▹ many set
 abbrev pub first_area : Form
 first_area = some area ▹ records_and_sets
 
--- the name of the schema, and all behind it
+-- the name of the schema, and all after it
 abbrev pub schema_name : Form
 schema_name = one name role.SchemaName ▹ (period ▹ first_area)
 
@@ -52,7 +52,7 @@ in_location left = in_record (left ▹ within)
 abbrev pub allowed_or_not : Form
 allowed_or_not = either (one (key (codes "NOT")) role.Unique) nothing ▹ say (codes "ALLOWED")
 
--- the items of a CALC clause behind the first, and its end
+-- the items of a CALC clause after the first, and its end
 abbrev pub calc_end : Form
 calc_end = say (codes "DUPLICATES") ▹ allowed_or_not
 
@@ -60,11 +60,11 @@ calc_end = say (codes "DUPLICATES") ▹ allowed_or_not
 abbrev pub calc_items : Form
 calc_items = (one name role.CalcItem ▹ many (one name role.CalcItem)) ▹ calc_end
 
--- a CALC clause behind its first word
+-- a CALC clause after its first word
 abbrev pub using : Form
 using = say (codes "USING") ▹ calc_items
 
--- a VIA clause behind its first word
+-- a VIA clause after its first word
 abbrev pub via_set : Form
 via_set = one name role.ViaSet ▹ say (codes "SET")
 
@@ -88,7 +88,7 @@ picture_end = one picture role.Picture ▹ period
 abbrev pub picture_clause : Form
 picture_clause = either (say (codes "PICTURE")) (say (codes "PIC")) ▹ picture_end
 
--- what is left of a set, then the sets behind it
+-- what is left of a set, then the sets after it
 abbrev pub in_set : Form → Form
 in_set left = left ▹ many set
 

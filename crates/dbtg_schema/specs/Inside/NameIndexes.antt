@@ -14,7 +14,7 @@ use Rattle.dbtg_schema.specs.declared.index.SchemaIndex.{SchemaIndex}
 abbrev pub leads_to : NameIndex → List ℕ → Option ℕ
 leads_to index name = get_by (λ key. bytes_eq name key.items) index.numbers
 
--- an index leads from each name to where it first stands among these
+-- an index leads from each name to its first place among these
 abbrev pub IsIndexOf : NameIndex → List (List ℕ) → Type 0
 IsIndexOf index names = (name : List ℕ) → leads_to index name ≡ place_of name names
 

@@ -1,10 +1,10 @@
--- Words of the code, without where they lie in memory.
+-- The spec-level view of labelled words: the code's values without their references.
 use Rattle.std.specs.Prelude.{List, map}
 use Rattle.dbtg_schema.specs.declared.queries.Labelled as code
 use Rattle.dbtg_schema.specs.Inside.Words.{view}
 use Rattle.dbtg_schema.specs.Texts.SchemaGrammar.{Labelled}
 
--- a labelled word of the code, as definitions speak of it
+-- a labelled word of the code, as definitions name it
 abbrev pub view_labelled : code.Labelled → Labelled
 view_labelled w = record { role = w.role; word = view w.word }
 

@@ -2,6 +2,6 @@
 use Rattle.dbtg_schema.specs.declared.scanner.Word as code
 use Rattle.dbtg_schema.specs.Texts.Words.{Word}
 
--- a word without where it lies in memory
+-- the spec-level view of a word: without its reference
 abbrev pub view : code.Word → Word
 view w = record { text = w.text.now; line = w.line }

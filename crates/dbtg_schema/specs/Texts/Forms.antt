@@ -37,7 +37,7 @@ pub record Start (K R : Type 0) : Type 0 where
   pub role : R
   pub rest : Form K R
 
--- the second behind the first, which is left out where it is nothing
+-- the second after the first, which is left out if it is nothing
 abbrev pub followed : {K R : Type 0} → Form K R → Form K R → Form K R
 followed nothing g = g
 followed (one k r) g = both (one k r) g
@@ -71,7 +71,7 @@ abbrev pub start_with : {K R W : Type 0} → (K → W → Bool) → W → List (
 start_with fits w [] = None
 start_with fits w (s ∷ ss) = if fits s.kind w then Some s else start_with fits w ss
 
--- where a start fits, what is made of it; else the other
+-- what is made of a start that fits; otherwise the other
 abbrev pub by_start : {K R X : Type 0} → Option (Start K R) → (Start K R → X) → X → X
 by_start (Some s) wanted other = wanted s
 by_start None wanted other = other
@@ -81,7 +81,7 @@ abbrev pub labels : {K R W : Type 0} → (K → W → Bool) → Form K R → Lis
 labels fits wanted [] = []
 labels fits wanted (w ∷ rest) = by_start (start_with fits w (starts wanted)) (λ s. labelled s.role w ∷ labels fits s.rest rest) []
 
--- what the form wants behind the words that it goes along with: behind all of them, or in front of the first that it does not want
+-- what the form wants after the words that fit it: after all of them, or before the first that it does not want
 abbrev pub left_behind : {K R W : Type 0} → (K → W → Bool) → Form K R → List W → Form K R
 left_behind fits wanted [] = wanted
 left_behind fits wanted (w ∷ rest) = by_start (start_with fits w (starts wanted)) (λ s. left_behind fits s.rest rest) wanted

@@ -62,7 +62,7 @@ abbrev pub since : Role → List Labelled → List Labelled
 since r [] = []
 since r (w ∷ ws) = if is r w && not (list_any (is r) ws) then w ∷ ws else since r ws
 
--- the words in front of the first one with this role
+-- the words before the first one with this role
 abbrev pub until : Role → List Labelled → List Labelled
 until r [] = []
 until r (w ∷ ws) = if is r w then [] else w ∷ until r ws

@@ -1,4 +1,4 @@
--- The refusal, as it is reached from left to right.
+-- The refusal, as the reader reaches it from left to right.
 use Rattle.std.specs.Prelude.{◌≡◌, ℕ, List, [], ◌∷◌, Option, Some}
 use Rattle.dbtg_schema.specs.declared.fault.Fault.{Fault}
 use Rattle.dbtg_schema.specs.declared.fault.SchemaFault.{SchemaFault}
@@ -19,6 +19,6 @@ Refuses (Refused line cause) v = v ≡ Some (record { line = line; cause = cause
 abbrev pub faults_at : List Labelled → Form → Word → List Fault
 faults_at ws wanted w = by_start (start_with fits w (starts wanted)) (λ s. at_word ws (labelled s.role w)) (at_other ws (starts wanted) w)
 
--- this is told of a text whose first word is at fault
+-- a text whose first word is at fault is refused for that, even without memory
 abbrev pub RefusedAtOnce : List ℕ → Type 0 → Type 0
 RefusedAtOnce text Told = (w : Word) (ws : List Word) (fault : Fault) → text_words text ≡ w ∷ ws → first (faults_at [] schema w) ≡ Some fault → Told

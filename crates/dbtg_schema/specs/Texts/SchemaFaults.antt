@@ -17,20 +17,20 @@ use Rattle.dbtg_schema.specs.Texts.Forms.{starts, may_end, start_with, by_start,
 use Rattle.dbtg_schema.specs.Texts.SchemaGrammar.{Kind, key, name, picture, fits, Form, Start, Labelled, schema}
 use Rattle.dbtg_schema.specs.Texts.Labels.{number, is, named, count_of, since, entries, first_named}
 
--- the entry of the record type of this name
+-- the entry of the record type with this name
 abbrev pub record_named : List ℕ → List (List Labelled) → List Labelled
 record_named n [] = []
 record_named n (e ∷ es) = if bytes_eq (first_named role.RecordName e) n then e else record_named n es
 
--- the record type that is still open: none behind the first SET entry
+-- the record type that is still open: none after the first SET entry
 abbrev pub open_record : List Labelled → List Labelled
 open_record ws = if list_any (is role.SetEntry) ws then [] else since role.RecordEntry ws
 
--- the item names of the record type of this name
+-- the item names of the record type with this name
 abbrev pub items_of : List ℕ → List Labelled → List (List ℕ)
 items_of n ws = named role.ItemName (record_named n (entries role.RecordEntry ws))
 
--- the fault, where the test holds
+-- the fault, if the test holds
 abbrev pub when : Bool → Fault → List Fault
 when b f = if b then f ∷ [] else []
 
@@ -38,7 +38,7 @@ when b f = if b then f ∷ [] else []
 abbrev pub fault : Cause → ℕ → Fault
 fault cause line = record { line = line; cause = cause }
 
--- CALC item by CALC item: one that the record type hasn't, one that stands there twice
+-- CALC item by CALC item: one that is unknown, one that is repeated
 abbrev pub calc_faults : List (List ℕ) → List (List ℕ) → List Labelled → List Fault
 calc_faults items before [] = []
 calc_faults items before (w ∷ ws) =
@@ -60,7 +60,7 @@ is_surplus ws role.MemberEntry = nat_le MOST_MEMBERS (count_of role.MemberEntry 
 is_surplus ws role.CalcItem = nat_le MOST_CALC_ITEMS (count_of role.CalcItem (since role.RecordEntry ws))
 is_surplus ws _ = false
 
--- the picture of the item of this name, among these item entries
+-- the picture of the item with this name, among these item entries
 abbrev pub picture_in : List ℕ → List (List Labelled) → Option Picture
 picture_in n [] = None
 picture_in n (e ∷ es) = if bytes_eq (first_named role.ItemName e) n then spelled_picture (first_named role.Picture e) else picture_in n es
@@ -106,11 +106,11 @@ is_owner ws = among (member_type ws) (named role.OwnerName (this_set ws))
 abbrev pub is_there_twice : List Labelled → Bool
 is_there_twice ws = nat_le 2 (count_by (bytes_eq (member_type ws)) (named role.MemberName (this_set ws)))
 
--- KEY is missing in a sorted set, or there in another
+-- KEY is missing in a sorted set, or present in another
 abbrev pub is_key_wrong : List Labelled → Bool
 is_key_wrong ws = if list_any (is role.KeyItem) (this_member ws) then not (list_any (is role.Sorted) (this_set ws)) else list_any (is role.Sorted) (this_set ws)
 
--- a key of the set has another picture than this member's
+-- a key of the set has a different picture from this member's
 abbrev pub has_other_key : List Labelled → Bool
 has_other_key ws = list_any (λ m. unequal (key_picture ws m) (key_picture ws (this_member ws))) (entries role.MemberEntry (this_set ws))
 
@@ -122,11 +122,11 @@ member_end ws =
     ++ when (is_key_wrong ws) (fault KeyMisplaced (line_of (this_member ws)))
     ++ when (has_other_key ws) (fault KeyPicturesDiffer (line_of (this_member ws)))
 
--- has an area, a record type or a set this name?
+-- an area, a record type or a set has this name already
 abbrev pub is_taken : List ℕ → List Labelled → Bool
 is_taken n ws = among n (named role.AreaName ws) || among n (named role.RecordName ws) || among n (named role.SetName ws)
 
--- what is wrong with a word that stands where the grammar wants it, for what it says
+-- what is wrong with a word that the grammar wants, for what it says
 abbrev pub said : List Labelled → Labelled → Role → List Fault
 said ws w role.AreaName = when (is_taken w.word.text ws) (fault NameTaken w.word.line)
 said ws w role.RecordName = when (is_taken w.word.text ws) (fault NameTaken w.word.line)
@@ -145,7 +145,7 @@ ended ws role.RecordEntry = record_end (open_record ws)
 ended ws role.SetEntry = record_end (open_record ws)
 ended ws _ = []
 
--- the faults at a word that the grammar wants, behind the words ws
+-- the faults at a word that the grammar wants, after the words ws
 abbrev pub at_word : List Labelled → Labelled → List Fault
 at_word ws w = ended ws w.role ++ when (is_surplus ws w.role) (fault OverLimit w.word.line) ++ said ws w w.role
 
@@ -173,11 +173,11 @@ wants_name ss = list_any (λ s. is_name_kind s.kind) ss
 abbrev pub wants_picture : List Start → Bool
 wants_picture ss = list_any (λ s. is_picture_kind s.kind) ss
 
--- one more CALC item could stand here
+-- one more CALC item could come here
 abbrev pub wants_calc : List Start → Bool
 wants_calc ss = list_any (λ s. number s.role == number role.CalcItem) ss
 
--- the faults at a word that the grammar does not want, behind the words ws
+-- the faults at a word that the grammar does not want, after the words ws
 abbrev pub at_other : List Labelled → List Start → Word → List Fault
 at_other ws wanted w =
     let a_word = not (bytes_eq w.text (codes ".")) in
@@ -187,7 +187,7 @@ at_other ws wanted w =
     else (if a_word && wants_picture wanted then fault NotAPicture w.line
     else fault UnexpectedWord w.line)) ∷ []
 
--- the sets behind VIA that are not there
+-- the sets after VIA that do not exist
 abbrev pub unknown_vias : List Labelled → List Labelled → List Fault
 unknown_vias ws [] = []
 unknown_vias ws (w ∷ rest) = when (is role.ViaSet w && not (among w.word.text (named role.SetName ws))) (fault UnknownSet w.word.line) ++ unknown_vias ws rest

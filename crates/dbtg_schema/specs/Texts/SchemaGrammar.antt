@@ -32,7 +32,7 @@ Start = forms.Start Kind Role
 abbrev pub Labelled : Type 0
 Labelled = forms.Labelled Word Role
 
--- a word that says no more than that it stands there
+-- a word without any further meaning
 abbrev pub say : List ℕ → Form
 say w = one (key w) role.Plain
 

@@ -63,11 +63,11 @@ record_type_from areas e = record {
   calc = calc_from (items_from e) e;
 }
 
--- record types stand in front of the sets
+-- record types stand before the sets
 abbrev pub types_from : List Area → List Labelled → List RecordType
 types_from areas ws = map (record_type_from areas) (entries role.RecordEntry (until role.SetEntry ws))
 
--- what becomes of equal sort keys
+-- what happens to equal sort keys
 abbrev pub duplicates_from : List Labelled → Duplicates
 duplicates_from e = if has role.DuplicatesFirst e then duplicates.First else (if has role.DuplicatesLast e then duplicates.Last else duplicates.NotAllowed)
 
@@ -86,7 +86,7 @@ class_from e =
     if has role.Mandatory e then (if has role.Automatic e then MandatoryAutomatic else MandatoryManual)
     else (if has role.Automatic e then OptionalAutomatic else OptionalManual)
 
--- the items of the record type of this number
+-- the items of the record type with this number
 abbrev pub items_at : List RecordType → ℕ → List Item
 items_at types t = unwrap_or (option_map (λ r. r.items) (slice_get types t)) []
 
@@ -123,7 +123,7 @@ set_from types e = record {
 abbrev pub sets_from : List RecordType → List Labelled → List SetType
 sets_from types ws = map (set_from types) (entries role.SetEntry ws)
 
--- the lists of a schema whose words these are
+-- the lists of the schema that these words describe
 abbrev pub schema_of : List Labelled → Lists
 schema_of ws = record {
   name = first_named role.SchemaName ws;

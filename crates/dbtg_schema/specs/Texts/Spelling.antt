@@ -10,7 +10,7 @@ use Rattle.dbtg_schema.specs.declared.shape.Picture.TheVariants.{Number, Text}
 abbrev pub among : List ℕ → List (List ℕ) → Bool
 among w ws = list_any (bytes_eq w) ws
 
--- the words that are no names
+-- reserved words, which cannot be names
 abbrev pub reserved : List (List ℕ)
 reserved =
     codes "SCHEMA" ∷ codes "NAME" ∷ codes "AREA" ∷ codes "RECORD" ∷ codes "LOCATION" ∷ codes "MODE" ∷ codes "CALC" ∷ codes "USING" ∷ codes "DUPLICATES" ∷ codes "NOT"

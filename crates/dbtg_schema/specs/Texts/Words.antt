@@ -15,11 +15,11 @@ is_gap b = b == 32 || b == 9 || b == 13 || b == 10 || b == 44 || b == 59
 abbrev pub is_letter : ℕ → Bool
 is_letter b = not (is_gap b) && not (b == 46)
 
--- the line behind a byte
+-- the line after a byte
 abbrev pub line_after : ℕ → ℕ → ℕ
 line_after b line = if b == 10 then line + 1 else line
 
--- the byte goes onto the word that follows it directly, else it is a word
+-- the byte belongs to the word that follows it directly, otherwise it is a word
 unfoldable pub onto : ℕ → ℕ → List ℕ → List Word → List Word
 onto b line [] ws = record { text = b ∷ []; line = line } ∷ ws
 onto b line (c ∷ cs) [] = record { text = b ∷ []; line = line } ∷ []
@@ -34,7 +34,7 @@ words line (b ∷ bs) =
     else (if b == 46 then record { text = 46 ∷ []; line = line } ∷ words line bs
     else onto b line bs (words line bs))
 
--- IS and ARE say nothing
+-- IS and ARE have no meaning
 abbrev pub is_noise : Word → Bool
 is_noise w = bytes_eq w.text (codes "IS") || bytes_eq w.text (codes "ARE")
 

@@ -1,8 +1,7 @@
 -- With every area and every cell in hand a statement needs nothing more, and what it makes of its cells is its effect on the whole database.
-use Rattle.std.proofs.Common.{ℕ, zero, suc, ◌+◌, ◌-◌, ◌<◌, ◌≡◌, ◌^◌, Bool, true, false, cond, not, ◌&&◌, ◌||◌, List, [], ◌∷◌, ◌++◌, length, map, replicate, Option, Some, None, ◌⊎◌, inl, inr, slice_get, slice_set, refl, sym, ap, ◌∙◌, subst, arith}
+use Rattle.std.proofs.Common.{ℕ, zero, suc, ◌+◌, ◌-◌, ◌<◌, ◌≡◌, ◌≢◌, ◌^◌, Bool, true, false, cond, not, ◌&&◌, ◌||◌, List, [], ◌∷◌, ◌++◌, length, map, replicate, Option, Some, None, ◌⊎◌, inl, inr, slice_get, slice_set, refl, sym, ap, ◌∙◌, subst, arith}
 use Rattle.std.specs.Prelude.{IfOk, OnErr, Result, Ok, Err, is_some, option_map, if◌then◌else◌, ◌==◌}
 use Rattle.std.specs.List.{list_any, list_all, find, range_with_len}
-use Rattle.std.specs.Option.{option_or}
 use Rattle.std.proofs.lemmas.Bool.{and_from, cases_Bool, eq-eqb, false≢true}
 use Rattle.std.proofs.lemmas.List.{length-map, length-set}
 use Rattle.std.proofs.lemmas.List.FromFn.{length-range_with_len}
@@ -52,8 +51,7 @@ use Rattle.dbtg_step.proofs.Network.CellsExist.{cells_exist, has_ring}
 use Rattle.dbtg_step.proofs.TheCore.DrawnShown.{versions_next}
 use Rattle.dbtg_step.proofs.Network.NeededCells.{not_beyond}
 use Rattle.dbtg_step.proofs.TheCore.ImagesRead.{ShowsCell, read_is_image}
-use Rattle.dbtg_step.proofs.Network.NeededCellsExist.{none_guessed, stale_have_rings}
-use Rattle.dbtg_step.proofs.TheCore.NeedsShown.{need_owners_fit}
+use Rattle.dbtg_step.proofs.Network.NeededCellsExist.{none_guessed, turned_have_rings}
 use Rattle.dbtg_step.proofs.TheCore.RangePushes.{range_pushed_behind}
 use Rattle.dbtg_step.proofs.Network.TurnsBack.{not_stale_again}
 use Rattle.dbtg_step.proofs.EachEvent.UnitLists.{set_same_at}
@@ -116,15 +114,6 @@ none_found p xs h = by (find p xs) refl
     by None e = e
     by (Some x) e = let f = find_element p xs x e in absurd (false≢true (sym (h x f.0) ∙ f.1))
 
-nones_noted : (n : ℕ) (owners : List (Option Owner)) → length owners ≡ n → with_owners (replicate n None) owners ≡ owners
-nones_noted zero owners e = refl
-nones_noted (suc n) [] e = absurd (omega (arith, e))
-nones_noted (suc n) (o ∷ owners) e = λ i. first o i ∷ nones_noted n owners (omega (arith, e)) i
-  where
-    first : (o : Option Owner) → option_or o None ≡ o
-    first None = refl
-    first (Some o) = refl
-
 module _ (schema : Lists) (capacity : ℕ) (sound : IsSound schema) (db : Database) (unit : Unit) (x : Statement) (hands : Hands) (all : HoldsAll schema capacity hands)
     (fit : fits schema x ≡ true) (of : IsUnitOf schema unit) (within : IsWithin capacity unit) (agrees : Agrees schema capacity db hands unit) (rings : (s : ℕ) → has_ring schema capacity s (at hands.guesses s) ≡ true) where
   abbrev refuses : Bool
@@ -140,23 +129,22 @@ module _ (schema : Lists) (capacity : ℕ) (sound : IsSound schema) (db : Databa
       let exist = cells_exist schema capacity sound db agrees.legal unit of within hands.guesses rings x fit (not_beyond schema capacity unit x r) in
       ap not (cell_held schema capacity hands all c (all_at (is_cell schema capacity) c (cells_of schema capacity db unit hands.guesses x) exist i))
 
-  needs : (r : Bool) → refuses ≡ r → need schema capacity db unit hands x ≡ (if r then Ready else next_of None None (is_stale schema capacity db unit hands.guesses x) (stale_owners schema capacity db unit hands.guesses x))
+  needs : (r : Bool) → refuses ≡ r → need schema capacity db unit hands x ≡ (if r then Ready else next_of None None (is_stale schema capacity db unit hands.guesses x))
   unfolding need
   needs true e = ap (λ b. if b then Ready else need_of_cells schema capacity db unit hands x) e
   needs false e =
       (λ i. if e i then Ready else next_of
       (none_found (λ a. not (list_any (λ b. b == a) hands.areas)) (areas_in_order schema unit x) area_held i)
       (none_found (λ c. not (list_any (λ (e : CellName × Cell). name_eq c e.0) hands.cells)) (cells_of schema capacity db unit hands.guesses x) (cells_held e) i)
-      (is_stale schema capacity db unit hands.guesses x)
-      (stale_owners schema capacity db unit hands.guesses x))
+      (is_stale schema capacity db unit hands.guesses x))
 
   -- a guess is wrong, or nothing more is needed
-  pub ready_or_stale : (need schema capacity db unit hands x ≡ Ready) ⊎ ((refuses ≡ false) × (need schema capacity db unit hands x ≡ Stale (stale_owners schema capacity db unit hands.guesses x)))
+  pub ready_or_stale : (need schema capacity db unit hands x ≡ Ready) ⊎ ((refuses ≡ false) × (need schema capacity db unit hands x ≡ Stale))
   ready_or_stale = elim (cases_Bool refuses) [
     | inl r ↦ inl (needs true r)
     | inr r ↦ elim (cases_Bool (is_stale schema capacity db unit hands.guesses x)) [
-      | inl s ↦ inr (r, needs false r ∙ ap (λ b. next_of None None b (stale_owners schema capacity db unit hands.guesses x)) s)
-      | inr s ↦ inl (needs false r ∙ ap (λ b. next_of None None b (stale_owners schema capacity db unit hands.guesses x)) s)
+      | inl s ↦ inr (r, needs false r ∙ ap (next_of None None) s)
+      | inr s ↦ inl (needs false r ∙ ap (next_of None None) s)
     ]
   ]
 
@@ -164,7 +152,7 @@ module _ (schema : Lists) (capacity : ℕ) (sound : IsSound schema) (db : Databa
   pub ready_now : is_stale schema capacity db unit hands.guesses x ≡ false → need schema capacity db unit hands x ≡ Ready
   ready_now s = elim (cases_Bool refuses) [
     | inl r ↦ needs true r
-    | inr r ↦ needs false r ∙ ap (λ b. next_of None None b (stale_owners schema capacity db unit hands.guesses x)) s
+    | inr r ↦ needs false r ∙ ap (next_of None None) s
   ]
 
 -- THE GUESSES
@@ -232,33 +220,24 @@ module _ (schema : Lists) (capacity : ℕ) (sound : IsSound schema) (unit : Unit
   }
 
   module _ (n : Need) (is : (db : Database) → Agrees schema capacity db (guessing nones) unit → n ≡ need schema capacity db unit (guessing nones) x) where
-    pub guessed_nothing : ((owners : List (Option Owner)) → n ≡ Stale owners → ⊥) → IsGuessed schema capacity unit x old (guessing nones)
+    pub guessed_nothing : (n ≢ Stale) → IsGuessed schema capacity unit x old (guessing nones)
     guessed_nothing other = record {
       rest = refl;
       ready = λ db a. elim (ready_or_stale schema capacity sound db unit x (guessing nones) (holds nones) fit of within a (none_guessed schema capacity (length schema.sets))) [
         | inl r ↦ r
-        | inr s ↦ absurd (other _ (is db a ∙ s.1))
+        | inr s ↦ absurd (other (is db a ∙ s.1))
       ];
     }
 
-    module _ (owners : List (Option Owner)) (stale : n ≡ Stale owners) where
-      stale_are : (db : Database) → Agrees schema capacity db (guessing nones) unit → owners ≡ stale_owners schema capacity db unit nones x
-      stale_are db a =
-          let e : Stale owners ≡ need schema capacity db unit (guessing nones) x = sym stale ∙ is db a in
-          elim (ready_or_stale schema capacity sound db unit x (guessing nones) (holds nones) fit of within a (none_guessed schema capacity (length schema.sets))) [
-            | inl r ↦ let q = e ∙ r in absurd (cc (q))
-            | inr s ↦ let q = e ∙ s.1 in let same : owners ≡ stale_owners schema capacity db unit nones x = cc (q) in same
-          ]
-
+    module _ (stale : n ≡ Stale) (owners : List (Option Owner))
+        (are : (db : Database) → Agrees schema capacity db (guessing nones) unit → need schema capacity db unit (guessing nones) x ≡ Stale → owners ≡ with_owners nones (stale_owners schema capacity db unit nones x)) where
       ready_then : (db : Database) → Agrees schema capacity db (guessing owners) unit → need schema capacity db unit (guessing owners) x ≡ Ready
       ready_then db a =
           let b = also db owners nones a in
-          let are = stale_are db b in
-          let long : length owners ≡ length schema.sets = need_owners_fit schema capacity db unit x (guessing nones) (Stale owners) (sym stale ∙ is db b) in
-          let noted : with_owners nones (stale_owners schema capacity db unit nones x) ≡ owners = ap (with_owners nones) (sym are) ∙ nones_noted (length schema.sets) owners long in
+          let noted = are db b (sym (is db b) ∙ stale) in
           ready_now schema capacity sound db unit x (guessing owners) (holds owners) fit of within a
-          (λ s. subst (λ g. has_ring schema capacity s (at g s) ≡ true) (sym are) (stale_have_rings schema capacity db a.legal unit nones x s))
-          (ap (λ g. is_stale schema capacity db unit g x) (sym noted) ∙ not_stale_again schema capacity db unit x fit nones)
+          (λ s. subst (λ g. has_ring schema capacity s (at g s) ≡ true) (sym noted) (turned_have_rings schema capacity db a.legal unit nones x (none_guessed schema capacity (length schema.sets)) s))
+          (ap (λ g. is_stale schema capacity db unit g x) noted ∙ not_stale_again schema capacity db unit x fit nones)
 
       pub guessed_owners : IsGuessed schema capacity unit x old (guessing owners)
       guessed_owners = record { rest = refl; ready = ready_then }

@@ -22,7 +22,7 @@ use Rattle.dbtg_unit.specs.Database.Statements.Checks.{checks_at_once, is_beyond
 use Rattle.dbtg_unit.specs.Hands.Needs.{need}
 use Rattle.dbtg_unit.proofs.Public.{In as Element, area_held, first_check_passes}
 use Rattle.dbtg_step.specs.Machine.SequentialDatabase.{HeldCell, NeedsCell, In, MayMake, unit_at}
-use Rattle.dbtg_step.specs.Machine.Network.{holding, network}
+use Rattle.dbtg_step.specs.Machine.Network.{holding, network, noted_owners}
 use Rattle.dbtg_step.proofs.Network.NetworkNeeds.{takes_cell}
 
 -- where no check refuses, each was passed
@@ -55,4 +55,4 @@ module _ (schema : Lists) (capacity : ℕ) where
       MayMake (network schema capacity) db units u unit x → (network schema capacity).need db unit x g areas cells ≡ NeedsCell c → In (area_of_cell schema c) areas
   needed_in_area sound db units u unit x g areas cells c may e =
       number_in (area_of_cell schema c) areas
-      (area_held schema capacity db unit (holding g areas cells) x sound may.legal.legal (unit_of_schema db units u unit may.legal may.found) may.fits c (takes_cell g (need schema capacity db unit (holding g areas cells) x) c e))
+      (area_held schema capacity db unit (holding g areas cells) x sound may.legal.legal (unit_of_schema db units u unit may.legal may.found) may.fits c (takes_cell (noted_owners schema capacity db unit x g) (need schema capacity db unit (holding g areas cells) x) c e))

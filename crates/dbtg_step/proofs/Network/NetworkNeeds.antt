@@ -17,10 +17,10 @@ use Rattle.dbtg_unit.specs.declared.held.Need.TheVariants.{Area, Take, Stale, Re
 use Rattle.dbtg_unit.specs.Database.State.Base.{Database}
 use Rattle.dbtg_unit.specs.Database.Statements.Checks.{refused_at_once}
 use Rattle.dbtg_unit.specs.Hands.Hands.{Hands}
-use Rattle.dbtg_unit.specs.Hands.Needs.{need, next_of, areas_in_order, cells_of, is_stale, stale_owners}
+use Rattle.dbtg_unit.specs.Hands.Needs.{need, next_of, areas_in_order, cells_of, is_stale}
 use Rattle.dbtg_unit.proofs.Public.{In as InKeys, chose_take, find_element}
 use Rattle.dbtg_step.specs.Machine.SequentialDatabase.{HeldCell, NeedsArea, NeedsCell, In, NotAmong, NamesCells}
-use Rattle.dbtg_step.specs.Machine.Network.{network, holding, next_need_of}
+use Rattle.dbtg_step.specs.Machine.Network.{network, holding, next_need_of, noted_owners}
 
 -- the cell is none of these
 abbrev pub is_not_held : List (HeldCell CellName CellValue) → CellName → Bool
@@ -33,21 +33,21 @@ is_area_left areas a = not (list_any (λ b. eqb b a) areas)
 pub takes_cell : (g : List (Option Owner)) (n : Need) (c : CellName) → next_need_of g n ≡ NeedsCell c → n ≡ Take c
 takes_cell g (Area a) c e = absurd (cc (e))
 takes_cell g (Take d) c e = let q : d ≡ c = cc in ap Take q
-takes_cell g (Stale owners) c e = absurd (cc (e))
+takes_cell g Stale c e = absurd (cc (e))
 takes_cell g Ready c e = absurd (cc (e))
 
 -- of a choice that was made, what decided it
-pub chose_cell : (g : List (Option Owner)) (r : Bool) (oa : Option ℕ) (oc : Option CellName) (stale : Bool) (owners : List (Option Owner)) (c : CellName) →
-    next_need_of g (if r then Ready else next_of oa oc stale owners) ≡ NeedsCell c → (r ≡ false) × (oa ≡ None) × (oc ≡ Some c)
-chose_cell g r oa oc stale owners c e = chose_take r oa oc stale owners c (takes_cell g (if r then Ready else next_of oa oc stale owners) c e)
+pub chose_cell : (g : List (Option Owner)) (r : Bool) (oa : Option ℕ) (oc : Option CellName) (stale : Bool) (c : CellName) →
+    next_need_of g (if r then Ready else next_of oa oc stale) ≡ NeedsCell c → (r ≡ false) × (oa ≡ None) × (oc ≡ Some c)
+chose_cell g r oa oc stale c e = chose_take r oa oc stale c (takes_cell g (if r then Ready else next_of oa oc stale) c e)
 
-pub chose_area : (g : List (Option Owner)) (r : Bool) (oa : Option ℕ) (oc : Option CellName) (stale : Bool) (owners : List (Option Owner)) (a : ℕ) →
-    next_need_of g (if r then Ready else next_of oa oc stale owners) ≡ NeedsArea a → (r ≡ false) × (oa ≡ Some a)
-chose_area g true oa oc stale owners a e = absurd (cc (e))
-chose_area g false (Some b) oc stale owners a e = (refl, (let q : b ≡ a = cc in ap Some q))
-chose_area g false None (Some d) stale owners a e = absurd (cc (e))
-chose_area g false None None true owners a e = absurd (cc (e))
-chose_area g false None None false owners a e = absurd (cc (e))
+pub chose_area : (g : List (Option Owner)) (r : Bool) (oa : Option ℕ) (oc : Option CellName) (stale : Bool) (a : ℕ) →
+    next_need_of g (if r then Ready else next_of oa oc stale) ≡ NeedsArea a → (r ≡ false) × (oa ≡ Some a)
+chose_area g true oa oc stale a e = absurd (cc (e))
+chose_area g false (Some b) oc stale a e = (refl, (let q : b ≡ a = cc in ap Some q))
+chose_area g false None (Some d) stale a e = absurd (cc (e))
+chose_area g false None None true a e = absurd (cc (e))
+chose_area g false None None false a e = absurd (cc (e))
 
 pub held_name : (cells : List (HeldCell CellName CellValue)) (h : HeldCell CellName CellValue) (c : CellName) → In h cells → name_eq c h.name ≡ true → list_any (λ (e : CellName × Cell). name_eq c e.0) (holding [] [] cells).cells ≡ true
 held_name [] h c i e = absurd i
@@ -58,12 +58,12 @@ module _ (schema : Lists) (capacity : ℕ) (db : Database) (unit : Unit) (x : St
   pub reads_cell : (c : CellName) → (network schema capacity).need db unit x g areas cells ≡ NeedsCell c →
       (is_some (refused_at_once schema capacity unit x) ≡ false) × (find (is_area_left areas) (areas_in_order schema unit x) ≡ None) × (find (is_not_held cells) (cells_of schema capacity db unit g x) ≡ Some c)
   unfolding need
-  reads_cell c e = chose_cell g (is_some (refused_at_once schema capacity unit x)) (find (is_area_left areas) (areas_in_order schema unit x)) (find (is_not_held cells) (cells_of schema capacity db unit g x)) (is_stale schema capacity db unit g x) (stale_owners schema capacity db unit g x) c e
+  reads_cell c e = chose_cell (noted_owners schema capacity db unit x g) (is_some (refused_at_once schema capacity unit x)) (find (is_area_left areas) (areas_in_order schema unit x)) (find (is_not_held cells) (cells_of schema capacity db unit g x)) (is_stale schema capacity db unit g x) c e
 
   pub reads_area : (a : ℕ) → (network schema capacity).need db unit x g areas cells ≡ NeedsArea a →
       (is_some (refused_at_once schema capacity unit x) ≡ false) × (find (is_area_left areas) (areas_in_order schema unit x) ≡ Some a)
   unfolding need
-  reads_area a e = chose_area g (is_some (refused_at_once schema capacity unit x)) (find (is_area_left areas) (areas_in_order schema unit x)) (find (is_not_held cells) (cells_of schema capacity db unit g x)) (is_stale schema capacity db unit g x) (stale_owners schema capacity db unit g x) a e
+  reads_area a e = chose_area (noted_owners schema capacity db unit x g) (is_some (refused_at_once schema capacity unit x)) (find (is_area_left areas) (areas_in_order schema unit x)) (find (is_not_held cells) (cells_of schema capacity db unit g x)) (is_stale schema capacity db unit g x) a e
 
   -- a cell that is needed isn't held
   pub needed_is_fresh : (c : CellName) → (network schema capacity).need db unit x g areas cells ≡ NeedsCell c → NotAmong (network schema capacity) c cells
@@ -83,7 +83,7 @@ module _ (schema : Lists) (capacity : ℕ) (db : Database) (unit : Unit) (hands 
   unfolding need
   cell_wanted c e =
       let free = λ (d : CellName). not (list_any (λ (f : CellName × Cell). name_eq d f.0) hands.cells) in
-      let chosen = chose_cell [] (is_some (refused_at_once schema capacity unit x)) (find (λ a. not (list_any (λ b. b == a) hands.areas)) (areas_in_order schema unit x)) (find free (cells_of schema capacity db unit hands.guesses x)) (is_stale schema capacity db unit hands.guesses x) (stale_owners schema capacity db unit hands.guesses x) c (ap (next_need_of []) (sym e)) in
+      let chosen = chose_cell [] (is_some (refused_at_once schema capacity unit x)) (find (λ a. not (list_any (λ b. b == a) hands.areas)) (areas_in_order schema unit x)) (find free (cells_of schema capacity db unit hands.guesses x)) (is_stale schema capacity db unit hands.guesses x) c (ap (next_need_of []) (sym e)) in
       let is = find_element free (cells_of schema capacity db unit hands.guesses x) c chosen.2 in
       (chosen.0, is.0, not-true _ is.1)
 

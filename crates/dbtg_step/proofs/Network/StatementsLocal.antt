@@ -21,11 +21,11 @@ use Rattle.dbtg_unit.specs.Database.State.Base.{Database}
 use Rattle.dbtg_unit.specs.Database.Statements.Checks.{refused_at_once}
 use Rattle.dbtg_unit.specs.Hands.Hands.{Hands}
 use Rattle.dbtg_unit.specs.Hands.Local.{Agrees as AgreesInHand, AllAgree, holds}
-use Rattle.dbtg_unit.specs.Hands.Needs.{areas_in_order, cells_of, is_stale, need, next_of, stale_owners}
+use Rattle.dbtg_unit.specs.Hands.Needs.{areas_in_order, cells_of, is_stale, need, next_of}
 use Rattle.dbtg_unit.proofs.Public.{changes_only_its_cells, effect_keeps_legal}
 use Rattle.dbtg_step.specs.Machine.SequentialDatabase.{HeldCell, Agrees, MayMake, NeedsNothing, NotAmong, unit_at, with_unit_at}
 use Rattle.dbtg_step.specs.Inside.SequentialDatabase.{IsLocal}
-use Rattle.dbtg_step.specs.Machine.Network.{network, holding, next_need_of}
+use Rattle.dbtg_step.specs.Machine.Network.{network, holding, next_need_of, noted_owners}
 use Rattle.dbtg_step.proofs.EachEvent.Premises.{StatementsAreLocal}
 
 -- CELLS IN HAND
@@ -67,7 +67,7 @@ not_in_hand schema capacity (h ∷ hs) c free =
 needs_nothing : (guesses : List (Option Owner)) (n : Need) → next_need_of guesses n ≡ NeedsNothing → n ≡ Ready
 needs_nothing guesses (Area a) e = absurd (cc (e))
 needs_nothing guesses (Take c) e = absurd (cc (e))
-needs_nothing guesses (Stale owners) e = absurd (cc (e))
+needs_nothing guesses Stale e = absurd (cc (e))
 needs_nothing guesses Ready e = refl
 
 -- A STATEMENT THAT NEEDS NOTHING MORE
@@ -80,7 +80,7 @@ module _ (schema : Lists) (capacity : ℕ) (sound : IsSound schema) (db : Databa
       if is_some (refused_at_once schema capacity unit x) then Ready
       else next_of (find (λ a. not (list_any (λ b. eqb b a) areas)) (areas_in_order schema unit x))
       (find (λ c. not (same_held cells c i)) (cells_of schema capacity db unit guesses x))
-      (is_stale schema capacity db unit guesses x) (stale_owners schema capacity db unit guesses x)
+      (is_stale schema capacity db unit guesses x)
 
   local_at : (u : ℕ) (guesses : List (Option Owner)) (areas : List ℕ) (cells : List (HeldCell CellName CellValue)) → MayMake (network schema capacity) db units u unit x → Agrees (network schema capacity) db cells
       → (network schema capacity).need db unit x guesses areas cells ≡ NeedsNothing → IsLocal (network schema capacity) db units u unit x cells
@@ -92,7 +92,7 @@ module _ (schema : Lists) (capacity : ℕ) (sound : IsSound schema) (db : Databa
       let after = effect_keeps_legal schema capacity db units n unit x sound may.legal may.found may.fits in
       let hands : Hands = record { areas = areas; cells = cells_showing cells; guesses = guesses } in
       let in_hand : AgreesInHand schema capacity db hands unit = record { legal = may.legal.legal; cells = all_agree schema capacity db cells agrees; usage = (may.legal.each n unit may.found).usage } in
-      let ready = same_need guesses areas cells ∙ needs_nothing guesses (need schema capacity db unit (holding guesses areas cells) x) e in
+      let ready = same_need guesses areas cells ∙ needs_nothing (noted_owners schema capacity db unit x guesses) (need schema capacity db unit (holding guesses areas cells) x) e in
       record {
         legal = after;
         others = λ c free. changes_only_its_cells schema capacity db unit hands x in_hand ready after.legal c (not_in_hand schema capacity cells c free);

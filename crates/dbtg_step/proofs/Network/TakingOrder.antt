@@ -15,10 +15,10 @@ use Rattle.dbtg_unit.specs.declared.held.Need.TheVariants.{Ready}
 use Rattle.dbtg_unit.specs.Database.State.Base.{Database}
 use Rattle.dbtg_unit.specs.Database.Statements.Checks.{areas_of, refused_at_once}
 use Rattle.dbtg_unit.specs.Database.State.Legal.{pairwise}
-use Rattle.dbtg_unit.specs.Hands.Needs.{need, next_of, areas_in_order, cells_of, is_stale, stale_owners}
+use Rattle.dbtg_unit.specs.Hands.Needs.{need, next_of, areas_in_order, cells_of, is_stale}
 use Rattle.dbtg_step.specs.Machine.SequentialDatabase.{HeldCell, NeedsArea, NeedsCell, In, Agrees}
 use Rattle.dbtg_step.specs.Machine.NeverStuck.{MayGoOn, NeedsInOrder, TakenInTurn, NoneYet, AreaNext, CellNext}
-use Rattle.dbtg_step.specs.Machine.Network.{network, holding, is_delete, next_need_of}
+use Rattle.dbtg_step.specs.Machine.Network.{network, holding, is_delete, next_need_of, noted_owners}
 use Rattle.dbtg_step.proofs.Network.Ascending.{IsClosed, above_held, closed_on}
 use Rattle.dbtg_step.proofs.Network.NameOrder.{name_chain, name_never, name_total, number_chain, number_never, number_total}
 use Rattle.dbtg_step.proofs.Network.NetworkNeeds.{held_name, is_area_left, is_not_held, reads_area, reads_cell}
@@ -67,7 +67,7 @@ module _ (schema : Lists) (capacity : ℕ) (unit : Unit) (x : Statement) where
   makes_area : (db : Database) (g : List (Option Owner)) (areas : List ℕ) (a : ℕ) → is_some (refused_at_once schema capacity unit x) ≡ false → find (is_area_left areas) (areas_in_order schema unit x) ≡ Some a → (network schema capacity).need db unit x g areas [] ≡ NeedsArea a
   unfolding need
   makes_area db g areas a r e =
-      let f : (b : Bool) (o : Option ℕ) → b ≡ false → o ≡ Some a → next_need_of g (if b then Ready else next_of o (find (is_not_held []) (cells_of schema capacity db unit g x)) (is_stale schema capacity db unit g x) (stale_owners schema capacity db unit g x)) ≡ NeedsArea a
+      let f : (b : Bool) (o : Option ℕ) → b ≡ false → o ≡ Some a → next_need_of (noted_owners schema capacity db unit x g) (if b then Ready else next_of o (find (is_not_held []) (cells_of schema capacity db unit g x)) (is_stale schema capacity db unit g x)) ≡ NeedsArea a
       = λ b o p q. rw (p, q) refl in
       f _ _ r e
 

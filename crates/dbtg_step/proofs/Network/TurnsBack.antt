@@ -26,7 +26,7 @@ use Rattle.dbtg_unit.specs.Hands.Needs.{need, next_of, areas_in_order, cells_of,
 use Rattle.dbtg_unit.proofs.Public.{In, any_element, any_in, find_element, of_filter, of_range}
 use Rattle.dbtg_step.specs.Machine.SequentialDatabase.{HeldCell, NeedsArea, NeedsCell, StaleGuesses}
 use Rattle.dbtg_unit.specs.Hands.Guesses.{with_owners}
-use Rattle.dbtg_step.specs.Machine.Network.{network, holding, next_need_of}
+use Rattle.dbtg_step.specs.Machine.Network.{network, holding, next_need_of, noted_owners}
 use Rattle.dbtg_step.specs.Machine.TurningBack.{NeedsComeToAnEnd, count, holds_area, holds_cell, needs_left}
 use Rattle.dbtg_step.proofs.Network.NetworkNeeds.{is_area_left, is_not_held, reads_area, reads_cell}
 
@@ -155,14 +155,14 @@ module _ (schema : Lists) (capacity : ℕ) (db : Database) (unit : Unit) (x : St
   -- what decided for a turn back
   pub reads_stale : (others : List (Option Owner)) → (network schema capacity).need db unit x g areas cells ≡ StaleGuesses others → (is_stale schema capacity db unit g x ≡ true) × (with_owners g (stale_owners schema capacity db unit g x) ≡ others)
   unfolding need
-  reads_stale others e = chose (is_some (refused_at_once schema capacity unit x)) (find (is_area_left areas) (areas_in_order schema unit x)) (find (is_not_held cells) (cells_of schema capacity db unit g x)) (is_stale schema capacity db unit g x) (stale_owners schema capacity db unit g x) e
+  reads_stale others e = chose (is_some (refused_at_once schema capacity unit x)) (find (is_area_left areas) (areas_in_order schema unit x)) (find (is_not_held cells) (cells_of schema capacity db unit g x)) (is_stale schema capacity db unit g x) e
     where
-      chose : (r : Bool) (oa : Option ℕ) (oc : Option CellName) (stale : Bool) (owners : List (Option Owner)) → next_need_of g (if r then Ready else next_of oa oc stale owners) ≡ StaleGuesses others → (stale ≡ true) × (with_owners g owners ≡ others)
-      chose true oa oc stale owners e = absurd (cc (e))
-      chose false (Some a) oc stale owners e = absurd (cc (e))
-      chose false None (Some c) stale owners e = absurd (cc (e))
-      chose false None None true owners e = (refl, (let q : with_owners g owners ≡ others = cc (e) in q))
-      chose false None None false owners e = absurd (cc (e))
+      chose : (r : Bool) (oa : Option ℕ) (oc : Option CellName) (stale : Bool) → next_need_of (noted_owners schema capacity db unit x g) (if r then Ready else next_of oa oc stale) ≡ StaleGuesses others → (stale ≡ true) × (noted_owners schema capacity db unit x g ≡ others)
+      chose true oa oc stale e = absurd (cc (e))
+      chose false (Some a) oc stale e = absurd (cc (e))
+      chose false None (Some c) stale e = absurd (cc (e))
+      chose false None None true e = (refl, (let q : noted_owners schema capacity db unit x g ≡ others = cc (e) in q))
+      chose false None None false e = absurd (cc (e))
 
   pub turn_falls : (others : List (Option Owner)) → fits schema x ≡ true → (network schema capacity).need db unit x g areas cells ≡ StaleGuesses others → needs_left schema capacity db unit x others areas [] < needs_left schema capacity db unit x g areas cells
   turn_falls others fit e =

@@ -15,7 +15,7 @@ use Rattle.dbtg_unit.specs.declared.unit.Unit.{Unit}
 use Rattle.dbtg_unit.specs.Database.State.Base.{Database}
 use Rattle.dbtg_unit.specs.Database.Statements.Checks.{refused_at_once}
 use Rattle.dbtg_unit.specs.Hands.Hands.{Hands}
-use Rattle.dbtg_unit.specs.Hands.Needs.{areas_in_order, cells_of, is_stale, need, need_of_cells, next_of, stale_owners}
+use Rattle.dbtg_unit.specs.Hands.Needs.{areas_in_order, cells_of, is_stale, need, need_of_cells, next_of}
 use Rattle.dbtg_cells.specs.Names.{name_eq}
 use Rattle.dbtg_erase.specs.declared.course.Course.{Course as CellCourse}
 use Rattle.dbtg_erase.proofs.Public.{kept_stays, nothing_kept, one_more_cell, same_cells}
@@ -109,5 +109,5 @@ module _ (schema : Lists) (capacity : ℕ) (db : Database) (hands : Hands) (unit
   area_needed a passes areas =
       sym (
       ap (λ (o : Option Cause). if is_some o then Ready else need_of_cells schema capacity db unit hands x) passes
-      ∙ ap (λ o. next_of o (find (λ c. not (list_any (λ (e : CellName × Cell). name_eq c e.0) hands.cells)) (cells_of schema capacity db unit hands.guesses x)) (is_stale schema capacity db unit hands.guesses x) (stale_owners schema capacity db unit hands.guesses x)) areas
+      ∙ ap (λ o. next_of o (find (λ c. not (list_any (λ (e : CellName × Cell). name_eq c e.0) hands.cells)) (cells_of schema capacity db unit hands.guesses x)) (is_stale schema capacity db unit hands.guesses x)) areas
       )

@@ -4,7 +4,7 @@ use Rattle.std.specs.Prelude.{nat_lt, IfNone, ◌⊎◌}
 use Rattle.std.proofs.lemmas.Bool.{le-ltb, lt-ltb}
 use Rattle.std.proofs.lemmas.List.{length-append, length-map, length-reverse, nil_from_length, length-set}
 use Rattle.std.specs.Option.{option_to_list}
-use Rattle.std.proofs.lemmas.Option.{slice_get_past}
+use Rattle.std.proofs.lemmas.Option.{same_Some, slice_get_past}
 use Rattle.dbtg_schema.specs.Lists.{Lists}
 use Rattle.dbtg_cells.specs.declared.cell.Cell.{Cell}
 use Rattle.dbtg_cells.specs.declared.name.CellName.{CellName}
@@ -308,3 +308,9 @@ module _ (schema : Lists) (capacity u : ℕ) (old : Parts) (well : IsWell schema
   -- a statement that a unit makes is one of its script
   pub has_statement : (r : Runner) → 0 < u → slice_get old.runners.items (u - 1) ≡ Some r → HasStatement r
   has_statement r numbered at w e t = let m = well.in_turn.each u (unit_state_of schema capacity r) (shown_progress schema capacity r.held w) (found schema capacity u old r well numbered at) (ap (progress_of schema capacity r.held) e) t in left_of_drop r.script r.next m.x m.xs m.remaining
+
+-- a unit that stands so stands so with the progress that it has
+pub stands_so : {old r : Runner} {p : StatementProgress} (Stands : Runner → StatementProgress → Type 0) → ((x : Runner) (w : StatementProgress) → Stands x w → x.progress ≡ Some w) → old ≡ r
+    → (w : StatementProgress) × Stands old w → old.progress ≡ Some p → Stands r p
+stands_so {old} {r} {p} Stands its same stands is =
+    subst (λ (t : Runner × StatementProgress). Stands t.0 t.1) (λ i. (same i, same_Some stands.0 p (sym (its old stands.0 stands.1) ∙ is) i)) stands.1

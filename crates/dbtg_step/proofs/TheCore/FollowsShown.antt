@@ -1,11 +1,14 @@
 -- What a statement does before its ticket is what the machine's unit does.
 use Rattle.std.proofs.Common.{ℕ, zero, suc, ◌≡◌, ◌≢◌, ◌<◌, ◌-◌, Bool, true, false, eqb, ◌&&◌, ◌||◌, List, [], ◌∷◌, ◌++◌, Option, Some, None, drop, take, map, length, reverse, slice_get, slice_set, refl, sym, ap, ◌∙◌, subst, arith}
-use Rattle.std.specs.Prelude.{nat_lt}
+use Rattle.std.specs.Prelude.{nat_lt, option_map, unwrap_or}
 use Rattle.std.specs.List.{list_any}
 use Rattle.std.proofs.lemmas.Bool.Decides.{nat_tests}
 use Rattle.std.proofs.lemmas.Option.{slice_get_within}
-use Rattle.std.proofs.lemmas.List.{length-set}
+use Rattle.std.proofs.lemmas.List.{length-map, length-set}
+use Rattle.std.proofs.lemmas.List.FromFn.{length-range_with_len}
 use Rattle.dbtg_schema.specs.Lists.{Lists}
+use Rattle.dbtg_schema.specs.Structure.{set_numbers}
+use Rattle.dbtg_cells.specs.declared.key.DbKey.{DbKey}
 use Rattle.dbtg_cells.specs.declared.key.Owner.{Owner}
 use Rattle.dbtg_cells.specs.declared.name.CellName.{CellName}
 use Rattle.dbtg_cells.specs.CellNumbers.{cell_number}
@@ -13,8 +16,11 @@ use Rattle.dbtg_cells.proofs.Public.{reverse_more, there_is}
 use Rattle.dbtg_unit.specs.declared.held.Need.{Need}
 use Rattle.dbtg_unit.specs.declared.held.Need.TheVariants.{Area, Take, Stale}
 use Rattle.dbtg_unit.specs.declared.statement.Statement.{Statement}
+use Rattle.dbtg_unit.specs.declared.unit.Unit.{Unit}
+use Rattle.dbtg_unit.specs.Database.State.Base.{Database}
 use Rattle.dbtg_unit.specs.Hands.Guesses.{with_owners}
 use Rattle.dbtg_unit.specs.Hands.Hands.{Hands}
+use Rattle.dbtg_unit.specs.Hands.Needs.{guessed_sets, wrong_owner}
 use Rattle.dbtg_step.specs.declared.parts.Parts.{Parts}
 use Rattle.dbtg_step.specs.declared.parts.CellLocation.{CellLocation}
 use Rattle.dbtg_step.specs.declared.parts.CellLocation.TheVariants.{Home as AtHome, HeldBy as WithUnit}
@@ -25,14 +31,14 @@ use Rattle.dbtg_unit.specs.declared.moves.Stepped.TheVariants.{Moved, Blocked, I
 use Rattle.dbtg_step.specs.Machine.SequentialDatabase.{NextNeed, NeedsArea, NeedsCell, StaleGuesses}
 use Rattle.dbtg_step.specs.Machine.Machine.{HeldBy, State, held_areas, holds_exclusively, relocated}
 use Rattle.dbtg_step.specs.Machine.Step.{any_but, any_other, conflicts, follows_need, is_nonempty, next_need, step, takes_area, takes_cell, IsBlocked, MovedTo}
-use Rattle.dbtg_step.specs.Machine.Network.{network, next_need_of}
+use Rattle.dbtg_step.specs.Machine.Network.{network, next_need_of, noted_owners}
 use Rattle.dbtg_step.specs.Inside.Courses.{HasMore}
 use Rattle.dbtg_step.specs.Core.Courses.{IsCourseKept}
 use Rattle.dbtg_step.specs.Core.Parts.{held_cells_of, held_of, location_at, location_of, note_of, progress_of, shown_progress, state_from, unit_state_of}
 use Rattle.dbtg_step.specs.Inside.Parts.{state_of}
 use Rattle.dbtg_step.specs.Inside.Stands.{holds_against, StandsNeeding, progress_holds_against}
 use Rattle.dbtg_step.specs.Inside.Leaves.{IsTaken}
-use Rattle.dbtg_step.specs.Inside.Events.{IsStepped, IsWell, NeedsNext, RunnerFits, RunnersFit, opening_for}
+use Rattle.dbtg_step.specs.Inside.Events.{IsStepped, IsWell, NeedsNext, RunnerFits, RunnersFit, database_of, noted_now, opening_for}
 use Rattle.dbtg_step.specs.Core.Events.{WantsMemory}
 use Rattle.dbtg_step.proofs.TheCore.CoursesKept.{course_stays, more_by_area, more_by_cell, no_course}
 use Rattle.dbtg_step.proofs.TheCore.EventsShown.{drop_found, found, length_held, moved_is, nonempty_length, staged_fits, unit_there, unit_written, written_fit}
@@ -84,6 +90,20 @@ merged_length [] (o ∷ os) l = absurd (omega arith)
 merged_length (g ∷ gs) [] l = refl
 merged_length (g ∷ gs) (o ∷ os) l = ap suc (merged_length gs os (omega arith))
 
+-- after a turn back there is a guess for each set, as there was
+pub noted_length : (schema : Lists) (capacity : ℕ) (db : Database) (unit : Unit) (x : Statement) (g : List (Option Owner)) → length g ≡ length schema.sets → length (noted_owners schema capacity db unit x g) ≡ length schema.sets
+noted_length schema capacity db unit x g e = go unit.currency.run_unit
+  where
+    none_noted : (gs : List (Option Owner)) → length (with_owners gs []) ≡ length gs
+    none_noted [] = refl
+    none_noted (g ∷ gs) = refl
+
+    go : (o : Option DbKey) → length (with_owners g (unwrap_or (option_map (λ k. map (wrong_owner schema capacity db g (guessed_sets schema unit x) k) (set_numbers schema)) o) [])) ≡ length schema.sets
+    go None = none_noted g ∙ e
+    go (Some k) =
+        let each = length-map (set_numbers schema) (wrong_owner schema capacity db g (guessed_sets schema unit x) k) ∙ length-range_with_len 0 (length schema.sets) in
+        merged_length g _ (e ∙ sym each) ∙ e
+
 pub set_same : {X : Type 0} (xs : List X) (i : ℕ) (x : X) → slice_get xs i ≡ Some x → slice_set xs i x ≡ xs
 set_same [] i x e = refl
 set_same (z ∷ xs) zero x e = let same : x ≡ z = cc (e) in ap (λ v. v ∷ xs) same
@@ -96,10 +116,10 @@ module _ (schema : Lists) (capacity u : ℕ) (old : Parts) (r : Runner) (well : 
   statement = there_is r.script r.next s.before.left
 
   pub follows : (n : Need) → NeedsNext schema capacity old u w n →
-      step (network schema capacity) (opening_for schema capacity old) (state_of schema capacity old) u ≡ follows_need (network schema capacity) (opening_for schema capacity old) (state_of schema capacity old) u (unit_state_of schema capacity r) (shown_progress schema capacity r.held w) statement.0 (drop (suc r.next) r.script) (next_need_of r.held.guesses n)
+      step (network schema capacity) (opening_for schema capacity old) (state_of schema capacity old) u ≡ follows_need (network schema capacity) (opening_for schema capacity old) (state_of schema capacity old) u (unit_state_of schema capacity r) (shown_progress schema capacity r.held w) statement.0 (drop (suc r.next) r.script) (next_need_of (noted_now schema capacity old r statement.0) n)
   follows n needs =
       step_follows (network schema capacity) (opening_for schema capacity old) (state_of schema capacity old) u (unit_state_of schema capacity r) (found schema capacity u old r well numbered at) (shown_progress schema capacity r.held w) (ap (progress_of schema capacity r.held) s.before.progress) statement.0 (drop (suc r.next) r.script) s.before.ticket (drop_found r.script r.next statement.0 statement.1)
-      (λ t. ap held_cells_of (s.turned t)) (next_need_of r.held.guesses n) (needs r statement.0 at statement.1).is
+      (λ t. ap held_cells_of (s.turned t)) (next_need_of (noted_now schema capacity old r statement.0) n) (needs r statement.0 at statement.1).is
 
   -- where the step is an event and no turn back, memory may be refused in its place
   pub wants : (after : State (network schema capacity)) → step (network schema capacity) (opening_for schema capacity old) (state_of schema capacity old) u ≡ MovedTo after
@@ -202,17 +222,14 @@ module _ (schema : Lists) (capacity u : ℕ) (old : Parts) (r : Runner) (well : 
     cell_followed new n mid Idle m h runners is = absurd m
 
   -- a turn back
-  module _ (owners : List (Option Owner)) (needs : NeedsNext schema capacity old u w (Stale owners)) where
-    pub owners_count : length r.held.guesses ≡ length owners
-    owners_count = (well.runners (u - 1) r at).guesses ∙ sym (needs r statement.0 at statement.1).owners
-
+  module _ (needs : NeedsNext schema capacity old u w Stale) (guesses : List (Option Owner)) (noted : guesses ≡ noted_now schema capacity old r statement.0) where
     pub owners_noted : (new : Parts) (n : Runner) → new.table.items ≡ old.table.items → new.history.items ≡ old.history.items → new.runners.items ≡ slice_set old.runners.items (u - 1) n →
-        n ≡ record r { held = record r.held { guesses = with_owners r.held.guesses owners }; progress = Some (record w { turning_back = nat_lt 0 (length r.held.cells) }); course = None } → IsStepped schema capacity u Moved old new
+        n ≡ record r { held = record r.held { guesses = guesses }; progress = Some (record w { turning_back = nat_lt 0 (length r.held.cells) }); course = None } → IsStepped schema capacity u Moved old new
     unfolding follows_need state_from
     owners_noted new n t h runners is =
         let turning : nat_lt 0 (length r.held.cells) ≡ is_nonempty (held_cells_of r.held.cells) = ap (nat_lt 0) (sym (length_held r.held.cells)) ∙ sym (nonempty_length (held_cells_of r.held.cells)) in
-        moved_is schema capacity u old r well numbered at new n h runners (location_at schema capacity old.table.items) (with_owners r.held.guesses owners)
+        moved_is schema capacity u old r well numbered at new n h runners (location_at schema capacity old.table.items) guesses
         (Some (record (shown_progress schema capacity r.held w) { turning_back = is_nonempty (held_cells_of r.held.cells) }))
-        (follows (Stale owners) needs) (ap length t) (ap (location_at schema capacity) t)
-        (ap (unit_state_of schema capacity) is ∙ (λ i. record { unit = r.unit; guesses = with_owners r.held.guesses owners; script = r.script; remaining = drop r.next r.script; progress = Some (record (shown_progress schema capacity r.held w) { turning_back = turning i }) }))
-        (subst (RunnerFits schema capacity) (sym is) (record { settled = λ q. absurd (cc (q)); guesses = merged_length r.held.guesses owners owners_count ∙ (well.runners (u - 1) r at).guesses; course = λ v q t x e. no_course schema capacity r.held r.unit x }))
+        (follows Stale needs ∙ ap (λ g. follows_need (network schema capacity) (opening_for schema capacity old) (state_of schema capacity old) u (unit_state_of schema capacity r) (shown_progress schema capacity r.held w) statement.0 (drop (suc r.next) r.script) (StaleGuesses g)) (sym noted)) (ap length t) (ap (location_at schema capacity) t)
+        (ap (unit_state_of schema capacity) is ∙ (λ i. record { unit = r.unit; guesses = guesses; script = r.script; remaining = drop r.next r.script; progress = Some (record (shown_progress schema capacity r.held w) { turning_back = turning i }) }))
+        (subst (RunnerFits schema capacity) (sym is) (record { settled = λ q. absurd (cc (q)); guesses = ap length noted ∙ noted_length schema capacity (database_of schema capacity old) r.unit statement.0 r.held.guesses (well.runners (u - 1) r at).guesses; course = λ v q t x e. no_course schema capacity r.held r.unit x }))

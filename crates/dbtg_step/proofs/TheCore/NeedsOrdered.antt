@@ -16,7 +16,7 @@ use Rattle.dbtg_unit.specs.Hands.Local.{Agrees}
 use Rattle.dbtg_unit.specs.Hands.Needs.{need}
 use Rattle.dbtg_unit.specs.Database.State.CellNames.{area_of_cell}
 use Rattle.dbtg_step.specs.Machine.SequentialDatabase.{In}
-use Rattle.dbtg_step.specs.Machine.Network.{network, next_need_of}
+use Rattle.dbtg_step.specs.Machine.Network.{network, next_need_of, noted_owners}
 use Rattle.dbtg_step.specs.Core.Parts.{held_cells_of, held_of}
 use Rattle.dbtg_step.specs.Machine.NeedOrder.{AreCellsOf, IsAboveHands, LiesInHeldArea, WasTakenInTurn}
 use Rattle.dbtg_step.proofs.Network.NeededCells.{needed_in_area, unit_is_in}
@@ -42,15 +42,15 @@ module _ (schema : Lists) (capacity : ℕ) (unit : Unit) (x : Statement) (hands 
     usage = (unit_is_in schema capacity db m.units m.u unit m.may.legal m.may.found).usage;
   }
 
-  needed : (k : Need) → n ≡ k → (network schema capacity).need db unit x hands.guesses (reverse hands.areas) (held_cells_of hands.cells) ≡ next_need_of hands.guesses k
-  needed k e = ap (next_need_of hands.guesses) (need_of_holding schema capacity db unit x hands ∙ (sym (is db agrees) ∙ e))
+  needed : (k : Need) → n ≡ k → (network schema capacity).need db unit x hands.guesses (reverse hands.areas) (held_cells_of hands.cells) ≡ next_need_of (noted_owners schema capacity db unit x hands.guesses) k
+  needed k e = ap (next_need_of (noted_owners schema capacity db unit x hands.guesses)) (need_of_holding schema capacity db unit x hands ∙ (sym (is db agrees) ∙ e))
 
   is_above : WasTakenInTurn schema capacity unit x hands → (k : Need) → n ≡ k → IsAboveHands x hands k
   is_above taken (Area a) e =
       let above = (needs_in_order schema capacity sound).area_above db unit x hands.guesses (reverse hands.areas) (held_cells_of hands.cells) a taken (needed (Area a) e) in
       ((λ b i. above.0 b (in_reverse b hands.areas i)), none_held hands.cells above.1)
   is_above taken (Take c) e = λ shared f i. (needs_in_order schema capacity sound).cell_above db unit x hands.guesses (reverse hands.areas) (held_cells_of hands.cells) c shared taken m (needed (Take c) e) (held_of f) (in_held hands.cells f i)
-  is_above taken (Stale owners) e = tt
+  is_above taken Stale e = tt
   is_above taken Ready e = tt
 
   lies_in_area : (k : Need) → n ≡ k → LiesInHeldArea schema hands k
@@ -59,7 +59,7 @@ module _ (schema : Lists) (capacity : ℕ) (unit : Unit) (x : Statement) (hands 
     (λ f i. needed_is_fresh schema capacity db unit x hands.guesses (reverse hands.areas) (held_cells_of hands.cells) c (needed (Take c) e) (held_of f) (in_held hands.cells f i)),
     in_turned (area_of_cell schema c) hands.areas (needed_in_area schema capacity sound db m.units m.u unit x hands.guesses (reverse hands.areas) (held_cells_of hands.cells) c m.may (needed (Take c) e)),
   )
-  lies_in_area (Stale owners) e = tt
+  lies_in_area Stale e = tt
   lies_in_area Ready e = tt
 
 module _ (schema : Lists) (capacity : ℕ) (unit : Unit) (x : Statement) (hands : Hands) where

@@ -22,7 +22,7 @@ use Rattle.dbtg_unit.specs.declared.moves.Stepped.TheVariants.{NoMemory}
 use Rattle.dbtg_unit.specs.Database.State.Base.{Database, is_live, owner_of}
 use Rattle.dbtg_unit.specs.Database.Statements.Checks.{refused_at_once}
 use Rattle.dbtg_unit.specs.Hands.Hands.{Hands}
-use Rattle.dbtg_unit.specs.Hands.Needs.{areas_in_order, cells_of, is_stale, is_wrong_guess, need, next_of, stale_owners}
+use Rattle.dbtg_unit.specs.Hands.Needs.{areas_in_order, cells_of, is_stale, is_wrong_guess, need, next_of}
 use Rattle.dbtg_step.specs.declared.parts.Parts.{Parts}
 use Rattle.dbtg_step.specs.declared.parts.Runner.{Runner}
 use Rattle.dbtg_step.specs.declared.parts.StatementProgress.{StatementProgress}
@@ -35,7 +35,7 @@ use Rattle.dbtg_step.specs.Core.Parts.{held_cells_of, progress_of, shown_progres
 use Rattle.dbtg_step.specs.Inside.Parts.{state_of}
 use Rattle.dbtg_step.specs.Machine.NeedOrder.{HasItsAreas}
 use Rattle.dbtg_step.specs.Inside.Stands.{StandsNeeding}
-use Rattle.dbtg_step.specs.Inside.Events.{IsStepped, IsWell, NeedsNext, opening_for}
+use Rattle.dbtg_step.specs.Inside.Events.{IsStepped, IsWell, NeedsNext, noted_now, opening_for}
 use Rattle.dbtg_step.proofs.TheCore.EventsShown.{drop_found, found}
 use Rattle.dbtg_step.proofs.TheCore.FollowsShown.{refused_is, statement, wants}
 use Rattle.dbtg_step.proofs.Network.NameOrder.{names_are_ordered}
@@ -48,12 +48,12 @@ use Rattle.dbtg_step.proofs.Runs.Waiting.{exclusive_moves}
 use Rattle.dbtg_step.proofs.EachEvent.UnitLists.{set_same_at}
 
 -- with all areas in hand none is needed
-no_area_needed : (schema : Lists) (capacity : ℕ) (db : Database) (unit : Unit) (hands : Hands) (x : Statement) → HasItsAreas schema unit hands x → (a : ℕ) → next_need_of hands.guesses (need schema capacity db unit hands x) ≡ NeedsArea a → ⊥
+no_area_needed : (schema : Lists) (capacity : ℕ) (db : Database) (unit : Unit) (hands : Hands) (x : Statement) → HasItsAreas schema unit hands x → (others : List (Option Owner)) (a : ℕ) → next_need_of others (need schema capacity db unit hands x) ≡ NeedsArea a → ⊥
 unfolding need
-no_area_needed schema capacity db unit hands x has a e =
+no_area_needed schema capacity db unit hands x has others a e =
     let first = find (λ b. not (list_any (λ c. c == b) hands.areas)) (areas_in_order schema unit x) in
     let wanted : first ≡ Some a =
-    (chose_area hands.guesses (is_some (refused_at_once schema capacity unit x)) first (find (λ c. not (list_any (λ (f : CellName × Cell). name_eq c f.0) hands.cells)) (cells_of schema capacity db unit hands.guesses x)) (is_stale schema capacity db unit hands.guesses x) (stale_owners schema capacity db unit hands.guesses x) a e).1 in
+    (chose_area others (is_some (refused_at_once schema capacity unit x)) first (find (λ c. not (list_any (λ (f : CellName × Cell). name_eq c f.0) hands.cells)) (cells_of schema capacity db unit hands.guesses x)) (is_stale schema capacity db unit hands.guesses x) a e).1 in
     none-some a (sym has.areas ∙ wanted)
 
 -- a DELETE goes by no guesses
@@ -76,18 +76,18 @@ module _ (schema : Lists) (capacity : ℕ) (db : Database) (unit : Unit) (guesse
   delete_is_not_stale (Free all) e = absurd (cc (e))
 
 -- so it doesn't turn back
-not_stale_choice : (guesses others : List (Option Owner)) (b : Bool) (oa : Option ℕ) (oc : Option CellName) (stale : Bool) (owners : List (Option Owner)) → stale ≡ false → next_need_of guesses (if b then Ready else next_of oa oc stale owners) ≢ StaleGuesses others
-not_stale_choice guesses others true oa oc stale owners f e = absurd (cc (e))
-not_stale_choice guesses others false (Some a) oc stale owners f e = absurd (cc (e))
-not_stale_choice guesses others false None (Some c) stale owners f e = absurd (cc (e))
-not_stale_choice guesses others false None None true owners f e = absurd (cc (f))
-not_stale_choice guesses others false None None false owners f e = absurd (cc (e))
+not_stale_choice : (guesses others : List (Option Owner)) (b : Bool) (oa : Option ℕ) (oc : Option CellName) (stale : Bool) → stale ≡ false → next_need_of guesses (if b then Ready else next_of oa oc stale) ≢ StaleGuesses others
+not_stale_choice guesses others true oa oc stale f e = absurd (cc (e))
+not_stale_choice guesses others false (Some a) oc stale f e = absurd (cc (e))
+not_stale_choice guesses others false None (Some c) stale f e = absurd (cc (e))
+not_stale_choice guesses others false None None true f e = absurd (cc (f))
+not_stale_choice guesses others false None None false f e = absurd (cc (e))
 
-delete_goes_onward : (schema : Lists) (capacity : ℕ) (db : Database) (unit : Unit) (hands : Hands) (x : Statement) → is_delete x ≡ true → (others : List (Option Owner)) → next_need_of hands.guesses (need schema capacity db unit hands x) ≢ StaleGuesses others
+delete_goes_onward : (schema : Lists) (capacity : ℕ) (db : Database) (unit : Unit) (hands : Hands) (x : Statement) → is_delete x ≡ true → (guesses others : List (Option Owner)) → next_need_of guesses (need schema capacity db unit hands x) ≢ StaleGuesses others
 unfolding need
-delete_goes_onward schema capacity db unit hands x deletes others =
-    not_stale_choice hands.guesses others (is_some (refused_at_once schema capacity unit x)) (find (λ a. not (list_any (λ b. b == a) hands.areas)) (areas_in_order schema unit x)) (find (λ c. not (list_any (λ (f : CellName × Cell). name_eq c f.0) hands.cells)) (cells_of schema capacity db unit hands.guesses x))
-    (is_stale schema capacity db unit hands.guesses x) (stale_owners schema capacity db unit hands.guesses x) (delete_is_not_stale schema capacity db unit hands.guesses x deletes)
+delete_goes_onward schema capacity db unit hands x deletes guesses others =
+    not_stale_choice guesses others (is_some (refused_at_once schema capacity unit x)) (find (λ a. not (list_any (λ b. b == a) hands.areas)) (areas_in_order schema unit x)) (find (λ c. not (list_any (λ (f : CellName × Cell). name_eq c f.0) hands.cells)) (cells_of schema capacity db unit hands.guesses x))
+    (is_stale schema capacity db unit hands.guesses x) (delete_is_not_stale schema capacity db unit hands.guesses x deletes)
 
 module _ (schema : Lists) (capacity u : ℕ) (old : Parts) (r : Runner) (well : IsWell schema capacity old) (numbered : 0 < u) (at : slice_get old.runners.items (u - 1) ≡ Some r) (w : StatementProgress) (s : StandsNeeding r w) where
   -- a DELETE that has its areas waits for nobody
@@ -109,7 +109,7 @@ module _ (schema : Lists) (capacity u : ℕ) (old : Parts) (r : Runner) (well : 
       let alone : w.exclusive ≡ true = turn.exclusive ∙ (ap is_delete same ∙ has.deletes) in
       let db = database_now schema capacity u old r well numbered at in
       let moves = exclusive_moves (network schema capacity) (network_is_sequential schema capacity well.sound) opening name_below names_are_ordered (state_of schema capacity old) well.lawful order u state progress here is x.0 (drop (suc r.next) r.script)
-      s.before.ticket remaining (λ t. ap held_cells_of (s.turned t)) alone (next_need_of r.held.guesses (need schema capacity db r.unit r.held x.0)) (ap (next_need_of r.held.guesses) (need_of_holding schema capacity db r.unit x.0 r.held)) (no_area_needed schema capacity db r.unit r.held x.0 has) in
+      s.before.ticket remaining (λ t. ap held_cells_of (s.turned t)) alone (next_need_of (noted_now schema capacity old r x.0) (need schema capacity db r.unit r.held x.0)) (ap (next_need_of (noted_now schema capacity old r x.0)) (need_of_holding schema capacity db r.unit x.0 r.held)) (no_area_needed schema capacity db r.unit r.held x.0 has (noted_now schema capacity old r x.0)) in
       (moves.after, moves.event)
 
   pub need_refused : ((x : Statement) → slice_get r.script r.next ≡ Some x → HasItsAreas schema r.unit r.held x) → IsStepped schema capacity u NoMemory old old
@@ -119,7 +119,7 @@ module _ (schema : Lists) (capacity u : ℕ) (old : Parts) (r : Runner) (well : 
       let has = f x.0 x.1 in
       let db = database_now schema capacity u old r well numbered at in
       let moves = delete_moves f in
-      let wanting = wants schema capacity u old r well numbered at w s moves.0 moves.1 (next_need_of r.held.guesses (need schema capacity db r.unit r.held x.0)) (ap (next_need_of r.held.guesses) (need_of_holding schema capacity db r.unit x.0 r.held)) (delete_goes_onward schema capacity db r.unit r.held x.0 has.deletes) in
+      let wanting = wants schema capacity u old r well numbered at w s moves.0 moves.1 (next_need_of (noted_now schema capacity old r x.0) (need schema capacity db r.unit r.held x.0)) (ap (next_need_of (noted_now schema capacity old r x.0)) (need_of_holding schema capacity db r.unit x.0 r.held)) (delete_goes_onward schema capacity db r.unit r.held x.0 has.deletes (noted_now schema capacity old r x.0)) in
       refused_is schema capacity u old r well numbered at w s wanting old r refl refl (sym (set_same_at old.runners.items (u - 1) r at)) refl (well.runners (u - 1) r at)
 
 -- what follows from what an Err has

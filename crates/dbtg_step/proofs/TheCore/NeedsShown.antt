@@ -1,37 +1,32 @@
 -- What the statements need is what the machine's units need.
-use Rattle.std.proofs.Common.{ℕ, zero, suc, ◌≡◌, ◌≢◌, ◌<◌, ◌-◌, Bool, true, false, not, eqb, ◌&&◌, ◌||◌, List, [], ◌∷◌, ◌++◌, Option, Some, None, map, length, reverse, slice_get, refl, sym, ap, ◌∙◌, subst, inl, inr}
-use Rattle.std.specs.Prelude.{is_some, option_map, unwrap_or, if◌then◌else◌, IfOk, Result, Ok, Err}
+use Rattle.std.proofs.Common.{ℕ, zero, suc, ◌≡◌, ◌≢◌, ◌<◌, ◌-◌, Bool, true, false, not, eqb, ◌||◌, List, [], ◌∷◌, ◌++◌, Option, Some, None, map, reverse, slice_get, refl, sym, ap, ◌∙◌, subst, inl, inr}
+use Rattle.std.specs.Prelude.{is_some, if◌then◌else◌, IfOk, Result, Ok, Err}
 use Rattle.std.specs.List.{list_all, list_any, find}
 use Rattle.std.proofs.lemmas.Bool.{and_from}
 use Rattle.std.proofs.lemmas.Option.{slice_get_within}
 use Rattle.dbtg_unit.specs.Database.State.Legal.{pairwise}
 use Rattle.dbtg_step.specs.Machine.Lawful.{AreDistinct}
-use Rattle.std.proofs.lemmas.List.{length-map, reverse-append}
-use Rattle.std.proofs.lemmas.List.FromFn.{length-range_with_len}
+use Rattle.std.proofs.lemmas.List.{reverse-append}
 use Rattle.std.proofs.lemmas.List.Folds.{list_any-append}
 use Rattle.dbtg_schema.specs.Lists.{Lists}
 use Rattle.dbtg_cells.specs.declared.cell.Cell.{Cell}
 use Rattle.dbtg_cells.specs.declared.cell.Cell.TheVariants.{Slot as SlotCell}
-use Rattle.dbtg_cells.specs.declared.key.Owner.{Owner}
 use Rattle.dbtg_cells.specs.declared.name.CellName.{CellName}
 use Rattle.dbtg_cells.specs.Cells.{shown}
 use Rattle.dbtg_cells.specs.Names.{name_eq}
 use Rattle.dbtg_cells.specs.Shown.{CellValue}
 use Rattle.dbtg_unit.specs.declared.held.Need.{Need}
-use Rattle.dbtg_unit.specs.declared.held.Need.TheVariants.{Area, Take, Stale, Ready}
-use Rattle.dbtg_cells.specs.declared.key.DbKey.{DbKey}
+use Rattle.dbtg_unit.specs.declared.held.Need.TheVariants.{Ready}
 use Rattle.dbtg_unit.specs.declared.statement.Statement.{Statement}
 use Rattle.dbtg_unit.specs.declared.unit.Unit.{Unit}
-use Rattle.dbtg_unit.specs.Database.State.Base.{Database, is_live, owner_of}
+use Rattle.dbtg_unit.specs.Database.State.Base.{Database}
 use Rattle.dbtg_unit.specs.Database.State.Cells.{cell}
 use Rattle.dbtg_unit.specs.Database.Statements.Checks.{refused_at_once}
 use Rattle.dbtg_unit.specs.Database.Statements.Fits.{fits}
 use Rattle.dbtg_unit.specs.Hands.Hands.{Hands}
 use Rattle.dbtg_unit.specs.Database.State.LegalWith.{IsUnitIn, LegalWith}
 use Rattle.dbtg_unit.specs.Hands.Local.{Agrees, AllAgree}
-use Rattle.dbtg_unit.specs.Hands.Needs.{areas_in_order, cells_of, guessed_sets, is_stale, is_wrong_guess, need, next_of, stale_owners, wrong_owner}
-use Rattle.dbtg_schema.specs.Lookups.{at, some_and}
-use Rattle.dbtg_schema.specs.Structure.{set_numbers}
+use Rattle.dbtg_unit.specs.Hands.Needs.{areas_in_order, cells_of, is_stale, need, next_of}
 use Rattle.dbtg_cells.proofs.Public.{or_nothing, same_name}
 use Rattle.dbtg_unit.proofs.Public.{any_mapped}
 use Rattle.dbtg_step.specs.declared.parts.Parts.{Parts}
@@ -45,7 +40,7 @@ use Rattle.dbtg_step.specs.Machine.Network.{holding, network, next_need_of}
 use Rattle.dbtg_step.specs.Core.Parts.{held_cells_of, held_of, progress_of, state_from, unit_state_of}
 use Rattle.dbtg_step.specs.Inside.Parts.{state_of}
 use Rattle.dbtg_step.specs.Inside.Stands.{HasPlace, HavePlaces}
-use Rattle.dbtg_step.specs.Inside.Events.{IsNext, IsWell, NeedsNext, owners_fit, opening_for}
+use Rattle.dbtg_step.specs.Inside.Events.{IsNext, IsWell, NeedsNext, noted_now, opening_for}
 use Rattle.dbtg_step.proofs.TheCore.EventsShown.{found, slice_get_in}
 use Rattle.dbtg_step.proofs.TheCore.PlacesOfCells.{held_is_placed}
 use Rattle.dbtg_step.proofs.EachEvent.UnitFacts.{unit_found}
@@ -107,31 +102,6 @@ module _ (schema : Lists) (capacity : ℕ) (db : Database) (unit : Unit) (x : St
       (find (λ a. not (areas_same a i)) (areas_in_order schema unit x))
       (find (λ c. not (cells_same c i)) (cells_of schema capacity db unit hands.guesses x))
       (is_stale schema capacity db unit hands.guesses x)
-      (stale_owners schema capacity db unit hands.guesses x)
-
--- of a choice that was stale, what decided it
-chose_stale : (b : Bool) (oa : Option ℕ) (oc : Option CellName) (stale : Bool) (owners others : List (Option Owner)) → (if b then Ready else next_of oa oc stale owners) ≡ Stale others → (stale ≡ true) × (owners ≡ others)
-chose_stale true oa oc stale owners others e = absurd (cc (e))
-chose_stale false (Some a) oc stale owners others e = absurd (cc (e))
-chose_stale false None (Some c) stale owners others e = absurd (cc (e))
-chose_stale false None None true owners others e = (refl, (let q : owners ≡ others = cc (e) in q))
-chose_stale false None None false owners others e = absurd (cc (e))
-
-module _ (schema : Lists) (capacity : ℕ) (db : Database) (unit : Unit) (x : Statement) (hands : Hands) where
-  stale_length : (o : Option DbKey) → unit.currency.run_unit ≡ o → is_stale schema capacity db unit hands.guesses x ≡ true → length (stale_owners schema capacity db unit hands.guesses x) ≡ length schema.sets
-  stale_length None e s = absurd (cc (sym s ∙ ap (some_and (λ k. is_live db k && list_any (λ t. is_wrong_guess (owner_of schema capacity db t k) (at hands.guesses t)) (guessed_sets schema unit x))) e))
-  stale_length (Some k) e s =
-      ap (λ o. length (unwrap_or (option_map (λ k. map (wrong_owner schema capacity db hands.guesses (guessed_sets schema unit x) k) (set_numbers schema)) o) [])) e
-      ∙ length-map (set_numbers schema) (wrong_owner schema capacity db hands.guesses (guessed_sets schema unit x) k) ∙ length-range_with_len 0 (length schema.sets)
-
-  pub need_owners_fit : (n : Need) → n ≡ need schema capacity db unit hands x → owners_fit schema n
-  unfolding need
-  need_owners_fit (Area a) e = tt
-  need_owners_fit (Take c) e = tt
-  need_owners_fit (Stale owners) e =
-      let c = chose_stale (is_some (refused_at_once schema capacity unit x)) (find (λ a. not (list_any (λ b. eqb b a) hands.areas)) (areas_in_order schema unit x)) (find (λ c. not (list_any (λ (f : CellName × Cell). name_eq c f.0) hands.cells)) (cells_of schema capacity db unit hands.guesses x)) (is_stale schema capacity db unit hands.guesses x) (stale_owners schema capacity db unit hands.guesses x) owners (sym e) in
-      ap length (sym c.1) ∙ stale_length unit.currency.run_unit refl c.0
-  need_owners_fit Ready e = tt
 
 -- NO CELL IS HELD TWICE
 
@@ -229,8 +199,7 @@ module _ (schema : Lists) (capacity u : ℕ) (parts : Parts) (r : Runner) (well 
   pub need_is : (w : StatementProgress) (x : Statement) (n : Need) → ((db : Database) → Agrees schema capacity db r.held r.unit → n ≡ need schema capacity db r.unit r.held x) → IsNext schema capacity parts r x w n
   unfolding next_need
   need_is w x n h = record {
-    is = ap (next_need_of r.held.guesses) (need_of_holding schema capacity database_now r.unit x r.held ∙ sym (h database_now agrees_now));
-    owners = need_owners_fit schema capacity database_now r.unit x r.held n (h database_now agrees_now);
+    is = ap (next_need_of (noted_now schema capacity parts r x)) (need_of_holding schema capacity database_now r.unit x r.held ∙ sym (h database_now agrees_now));
     everywhere = h;
   }
 

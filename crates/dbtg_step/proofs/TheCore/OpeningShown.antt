@@ -1,9 +1,9 @@
 -- The core before its first step is the machine before its scripts.
-use Rattle.std.proofs.Common.{ℕ, zero, suc, ◌≡◌, ◌+◌, ◌<◌, ◌||◌, Bool, true, false, ◌&&◌, List, [], ◌∷◌, ◌++◌, Option, Some, None, map, length, replicate, slice_get, refl, sym, ap, ◌∙◌, subst, arith, append_assoc}
+use Rattle.std.proofs.Common.{ℕ, zero, suc, ◌≡◌, ◌+◌, Bool, true, false, ◌&&◌, List, [], ◌∷◌, ◌++◌, Option, Some, None, map, length, replicate, slice_get, refl, sym, ap, ◌∙◌, subst, arith, append_assoc}
 use Rattle.std.specs.Prelude.{is_some, option_map, if◌then◌else◌}
-use Rattle.std.specs.List.{range_with_len, list_any}
+use Rattle.std.specs.List.{range_with_len, zip}
 use Rattle.std.proofs.lemmas.List.{length-map, length-replicate}
-use Rattle.std.proofs.lemmas.Option.{same_Some, slice_get-map}
+use Rattle.std.proofs.lemmas.Option.{slice_get-map}
 use Rattle.dbtg_schema.specs.Lists.{Lists}
 use Rattle.dbtg_schema.specs.Sound.{IsSound}
 use Rattle.dbtg_schema.specs.Structure.{is_system}
@@ -15,8 +15,8 @@ use Rattle.dbtg_cells.specs.declared.name.CellName.{CellName}
 use Rattle.dbtg_cells.specs.declared.name.CellName.TheVariants.{Usage, Extent, Ring, Slot}
 use Rattle.dbtg_cells.specs.Cells.{shown}
 use Rattle.dbtg_cells.specs.Shown.{UsageValue, ExtentValue, RingValue, SlotValue}
-use Rattle.dbtg_cells.specs.Names.{name_eq, name_below}
-use Rattle.dbtg_cells.proofs.Public.{at_left, get_behind, numbered_at, same_name, stands_at}
+use Rattle.dbtg_cells.specs.Names.{name_below}
+use Rattle.dbtg_cells.proofs.Public.{stands_at}
 use Rattle.dbtg_cells.specs.CellNumbers.{cell_count, cell_number, cells_in_order}
 use Rattle.dbtg_unit.specs.declared.statement.Statement.{Statement}
 use Rattle.dbtg_unit.specs.Database.State.Base.{opening}
@@ -33,7 +33,7 @@ use Rattle.dbtg_step.specs.Inside.NeverStuck.{AllInTurn}
 use Rattle.dbtg_step.specs.Inside.Parts.{core_of, state_of}
 use Rattle.dbtg_step.specs.Core.Parts.{found_location, location_at, location_in, location_of, note_of, state_from, unit_state_of}
 use Rattle.dbtg_step.specs.Inside.Events.{HaveRings, IsWell, RunnerFits, RunnersFit}
-use Rattle.dbtg_step.specs.Core.Openings.{homes_of}
+use Rattle.dbtg_step.specs.Core.Openings.{homes_of, homes_shown}
 use Rattle.dbtg_step.specs.Inside.Openings.{locations_of, opening_runner, runners_from}
 use Rattle.dbtg_step.proofs.Runs.Headlines.{machine_is_opening}
 use Rattle.dbtg_step.proofs.Runs.EveryRun.{start_in_turn}
@@ -91,10 +91,22 @@ module _ (schema : Lists) (capacity : ℕ) where
 
   -- THE CELLS
 
-  -- one cell more is in hand
-  pub agree_more : (cells : List (CellName × Cell)) (c : CellName) (x : Cell) → shown x ≡ cell schema capacity (opening schema) c → AllAgree schema capacity (opening schema) cells → AllAgree schema capacity (opening schema) (cells ++ (c, x) ∷ [])
-  agree_more [] c x e a = (e, tt)
-  agree_more (d ∷ cells) c x e a = (a.0, agree_more cells c x e a.1)
+  -- cells beside their names, as the opening database has them
+  pub agree_beside : (names : List CellName) (cells : List Cell) → homes_shown cells ≡ homes_of schema capacity names → AllAgree schema capacity (opening schema) (zip names cells)
+  agree_beside [] cells e = tt
+  agree_beside (n ∷ names) [] e = tt
+  agree_beside (n ∷ names) (x ∷ cells) e =
+      let rest : homes_shown cells ≡ homes_of schema capacity names = cc (e) in
+      (cc (e), agree_beside names cells rest)
+
+  pub as_many : (names : List CellName) (cells : List Cell) → homes_shown cells ≡ homes_of schema capacity names → length cells ≡ length names
+  as_many names cells e = sym (length-map cells (λ x. Home (shown x))) ∙ ap length e ∙ length-map names (λ c. Home (cell schema capacity (opening schema) c))
+
+  -- the names beside as many cells
+  pub names_beside : (names : List CellName) (cells : List Cell) → length cells ≡ length names → names_of (zip names cells) ≡ names
+  names_beside [] cells h = refl
+  names_beside (n ∷ names) [] h = absurd (omega arith)
+  names_beside (n ∷ names) (x ∷ cells) h = ap (λ ns. n ∷ ns) (names_beside names cells (omega arith))
 
   -- the four kinds of names one after another
   pub all_names : (usages extents rings slots a b c d : List CellName) → a ≡ [] ++ usages → b ≡ a ++ extents → c ≡ b ++ rings → d ≡ c ++ slots → d ≡ usages ++ (extents ++ (rings ++ slots))
@@ -164,31 +176,3 @@ module _ (schema : Lists) (capacity : ℕ) where
           in_turn = subst (AllInTurn (network schema capacity) name_below) (sym opens_state) in_turn;
           guesses = guessed.each;
         }
-
--- EACH CELL ONCE
-
-stands_among : (c : CellName) (cells : List (CellName × Cell)) → list_any (λ (e : CellName × Cell). name_eq c e.0) cells ≡ true → (j : ℕ) × (j < length cells) × (slice_get (names_of cells) j ≡ Some c)
-stands_among c [] h = absurd (cc (h))
-stands_among c (e ∷ es) h = by (name_eq c e.0) refl h (stands_among c es)
-  where
-    by : (b : Bool) → name_eq c e.0 ≡ b → b || list_any (λ (f : CellName × Cell). name_eq c f.0) es ≡ true
-        → (list_any (λ (f : CellName × Cell). name_eq c f.0) es ≡ true → (j : ℕ) × (j < length es) × (slice_get (names_of es) j ≡ Some c))
-        → (j : ℕ) × (j < length (e ∷ es)) × (slice_get (names_of (e ∷ es)) j ≡ Some c)
-    by true q h later = (0, omega arith, ap Some (sym (same_name c e.0 q)))
-    by false q h later = let r = later h in let within = r.1 in (suc r.0, omega (arith, within), r.2)
-
--- of the cells in their order the next is none of those before it
-pub not_yet : (schema : Lists) (capacity : ℕ) (cells : List (CellName × Cell)) (c : CellName) (rest : List CellName) → names_of cells ++ c ∷ rest ≡ cells_in_order schema capacity → list_any (λ (e : CellName × Cell). name_eq c e.0) cells ≡ false
-not_yet schema capacity cells c rest order = by (list_any (λ (e : CellName × Cell). name_eq c e.0) cells) refl
-  where
-    here : cell_number schema capacity c ≡ Some (length (names_of cells))
-    here = numbered_at schema capacity (length (names_of cells)) c (subst (λ ns. slice_get ns (length (names_of cells)) ≡ Some c) order (get_behind (names_of cells) c rest))
-
-    by : (b : Bool) → list_any (λ (e : CellName × Cell). name_eq c e.0) cells ≡ b → b ≡ false
-    by false q = refl
-    by true q =
-        let before = stands_among c cells q in
-        let there = numbered_at schema capacity before.0 c (subst (λ ns. slice_get ns before.0 ≡ Some c) order (at_left (names_of cells) (c ∷ rest) before.0 c before.2)) in
-        let same = same_Some before.0 (length (names_of cells)) (sym there ∙ here) in
-        let within = before.1 in
-        absurd (omega (arith, same, within, length-map cells (λ (e : CellName × Cell). e.0)))

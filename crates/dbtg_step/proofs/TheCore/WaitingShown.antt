@@ -4,7 +4,6 @@ use Rattle.std.specs.Prelude.{◌⊎◌, ◌==◌, if◌then◌else◌, is_some,
 use Rattle.std.specs.List.{list_any}
 use Rattle.dbtg_schema.specs.Lists.{Lists}
 use Rattle.dbtg_cells.specs.declared.cell.Cell.{Cell as CellHeld}
-use Rattle.dbtg_cells.specs.declared.key.Owner.{Owner}
 use Rattle.dbtg_cells.specs.declared.name.CellName.{CellName}
 use Rattle.dbtg_cells.specs.Names.{name_eq}
 use Rattle.dbtg_cells.specs.Shown.{CellValue}
@@ -29,7 +28,7 @@ use Rattle.dbtg_step.specs.Machine.Network.{network, next_need_of}
 use Rattle.dbtg_step.specs.Machine.NeedOrder.{HasItsAreas}
 use Rattle.dbtg_step.specs.Core.Parts.{CoreState, held_cells_of, held_of, location_at, progress_of, shown_progress, state_from, unit_state_of}
 use Rattle.dbtg_step.specs.Core.Waiting.{awaited, awaited_of, blocking_of, has_in_hand, holders_from, taken_next, taken_next_by, where_blocked}
-use Rattle.dbtg_step.specs.Inside.Events.{IsWell, NeedsNext, opening_for}
+use Rattle.dbtg_step.specs.Inside.Events.{IsWell, NeedsNext, noted_now, opening_for}
 use Rattle.dbtg_step.specs.Inside.Parts.{core_of, state_of}
 use Rattle.dbtg_step.specs.Inside.Stands.{StandsBetween, StandsNeeding, StandsOver, StandsTicketed, StandsTurning, holds_against}
 use Rattle.dbtg_step.specs.Inside.Waiting.{IsAwaited, has_awaited, is_with_unit, numbers_from}
@@ -114,14 +113,14 @@ module _ (schema : Lists) (capacity u : ℕ) (old : Parts) (well : IsWell schema
     ticketed_waits w s = moves_on _ (step_after_ticket (network schema capacity) (opening_for schema capacity old) (state_of schema capacity old) u (unit_state_of schema capacity r) (found schema capacity u old r well numbered at) (shown_progress schema capacity r.held w) (ap (progress_of schema capacity r.held) s.progress) s.ticket s.has)
 
     module _ (w : StatementProgress) (s : StandsNeeding r w) where
-      next_is : (n : Need) → NeedsNext schema capacity old u w n → taken_next_by (core_of schema capacity old) (unit_at (state_of schema capacity old).units u) ≡ awaited_of w.exclusive (next_need_of r.held.guesses n)
+      next_is : (n : Need) → NeedsNext schema capacity old u w n → taken_next_by (core_of schema capacity old) (unit_at (state_of schema capacity old).units u) ≡ awaited_of w.exclusive (next_need_of (noted_now schema capacity old r (statement schema capacity u old r well numbered at w s).0) n)
       next_is n needs =
           let x = statement schema capacity u old r well numbered at w s in
           ap (taken_next_by (core_of schema capacity old)) (found schema capacity u old r well numbered at)
           ∙ (λ i. taken_next (core_of schema capacity old) (unit_state_of schema capacity r) (progress_of schema capacity r.held (s.before.progress i)) (drop_found r.script r.next x.0 x.1 i))
           ∙ ap (awaited_of w.exclusive) (needs r x.0 at x.1).is
 
-      waits_as : (n : Need) → NeedsNext schema capacity old u w n → (t : Transition (network schema capacity)) → step (network schema capacity) (opening_for schema capacity old) (state_of schema capacity old) u ≡ t → awaited (core_of schema capacity old) u ≡ where_blocked (core_of schema capacity old) t (awaited_of w.exclusive (next_need_of r.held.guesses n))
+      waits_as : (n : Need) → NeedsNext schema capacity old u w n → (t : Transition (network schema capacity)) → step (network schema capacity) (opening_for schema capacity old) (state_of schema capacity old) u ≡ t → awaited (core_of schema capacity old) u ≡ where_blocked (core_of schema capacity old) t (awaited_of w.exclusive (next_need_of (noted_now schema capacity old r (statement schema capacity u old r well numbered at w s).0) n))
       waits_as n needs t e = λ i. where_blocked (core_of schema capacity old) (e i) (next_is n needs i)
 
       -- another unit has the area
@@ -171,9 +170,9 @@ module _ (schema : Lists) (capacity u : ℕ) (old : Parts) (well : IsWell schema
           by false (Home v) e h = moves_on _ (cell_step c needs (Home v) e)
           by false (HeldBy v) e h = absurd (cc (h))
 
-      pub stale_goes_on : {owners : List (Option Owner)} → NeedsNext schema capacity old u w (Stale owners) → IsAwaited (core_of schema capacity old) u None
+      pub stale_goes_on : NeedsNext schema capacity old u w Stale → IsAwaited (core_of schema capacity old) u None
       unfolding follows_need
-      stale_goes_on {owners} needs = moves_on _ (follows schema capacity u old r well numbered at w s (Stale owners) needs)
+      stale_goes_on needs = moves_on _ (follows schema capacity u old r well numbered at w s Stale needs)
 
       pub ready_goes_on : NeedsNext schema capacity old u w Ready → IsAwaited (core_of schema capacity old) u None
       unfolding follows_need

@@ -22,7 +22,7 @@ pub record MayBeHistory (schema : Lists) (units : ℕ) (history : List Entry) : 
   pub numbered : list_all (λ e. nat_lt 0 e.unit && nat_le e.unit units) history ≡ true
   pub fitting : list_all (λ e. fits schema e.statement) history ≡ true
 
--- where the list is such a history, what it leads to; none just where it is not
+-- what the list leads to, if it is such a history; none exactly if it is not
 abbrev pub IsAudited : Lists → ℕ → ℕ → List Entry → Option (Image × List Unit) → Type 0
 IsAudited schema capacity units history None = IsHistoryOf schema capacity units history → ⊥
 IsAudited schema capacity units history (Some found) = LeadsTo schema capacity units history found.0 found.1

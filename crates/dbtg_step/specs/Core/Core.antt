@@ -1,4 +1,4 @@
--- What every core is: all that a caller may rely on between two steps, without the machine of events.
+-- What every core satisfies: everything on which a caller may rely between two steps, without the machine of events.
 -- u and w are numbers of units, r and q units with their scripts and what they hold, c the name of a cell, x a cell, a an area.
 use Rattle.std.specs.Prelude.{ℕ, ◌≡◌, ◌≢◌, Bool, false, [], ◌++◌, Some, None, drop, length, map, slice_get}
 use Rattle.std.specs.Option.{option_map_or}
@@ -42,19 +42,19 @@ IsAt core c p = (n : ℕ) × (cell_number core.schema core.capacity c ≡ Some n
 abbrev pub is_alone : Runner → Bool
 is_alone r = option_map_or (λ progress. progress.exclusive) r.progress false
 
--- what unit u has in hand: each cell was taken from its place, lies in an area in hand, and is as the database has it, also where its
--- new value, behind the ticket, is not given back yet; between statements nothing is in hand
+-- what unit u holds: each cell was taken from its place, lies in a held area, and is as the database has it, also where its
+-- new value, after the ticket, is not given back yet; between statements nothing is held
 pub record HandsFit (core : CoreParts) (u : ℕ) (r : Runner) : Type 0 where
   pub taken : (e : CellName × Cell) → In e r.held.cells → IsAt core e.0 (HeldBy u)
   pub values : (e : CellName × Cell) → In e r.held.cells → HasNow core e.0 e.1
   pub in_area : (e : CellName × Cell) → In e r.held.cells → In (area_of_cell core.schema e.0) r.held.areas
   pub settled : r.progress ≡ None → (r.held.areas ≡ []) × (r.held.cells ≡ [])
 
--- two units that have an area in hand share it
+-- two units that hold an area share it
 abbrev pub AreasShared : Runner → Runner → Type 0
 AreasShared r q = (a : ℕ) → In a r.held.areas → In a q.held.areas → (is_alone r ≡ false) × (is_alone q ≡ false)
 
--- a unit has this cell in hand
+-- a unit holds this cell
 pub record IsInHandsOf (core : CoreParts) (u : ℕ) (c : CellName) : Type 0 where
   pub who : Runner
   pub is : IsRunner core u who
@@ -71,7 +71,7 @@ pub record IsCore (core : CoreParts) : Type 0 where
   pub legal : LegalWith core.schema core.capacity (state_now core).database (state_now core).units
   -- a unit's entries are the beginning of its script, and the rest is still to be made
   pub scripts : (u : ℕ) (r : Runner) → IsRunner core u r → map (λ e. e.statement) (entries_of u core.history) ++ drop r.next r.script ≡ r.script
-  -- each cell of the schema has a place: there it is as the database has it, or one unit has it in hand
+  -- each cell of the schema has a place: there it is as the database has it, or one unit holds it
   pub places : length core.table ≡ cell_count core.schema core.capacity
   pub home : (c : CellName) (x : Cell) → IsAt core c (Home x) → HasNow core c x
   pub holder : (c : CellName) (u : ℕ) → IsAt core c (HeldBy u) → IsInHandsOf core u c

@@ -1,4 +1,4 @@
--- What a step and a quit of the core come to.
+-- The results of a step and a quit of the core.
 use Rattle.std.specs.Prelude.{ℕ, ◌≡◌}
 use Rattle.dbtg_unit.specs.declared.moves.Move.{Move}
 use Rattle.dbtg_unit.specs.declared.moves.Stepped.{Stepped}
@@ -18,22 +18,22 @@ step_of c u = step (network c.schema c.capacity) c.opening c.state u
 abbrev pub quit_of : (c : CoreState) → ℕ → Transition (network c.schema c.capacity)
 quit_of c u = quit (network c.schema c.capacity) c.state u
 
--- Moved just where the machine moves, to its next state; Blocked and Idle just where it is; want of memory only in the place
--- of an event before a ticket that is no turn back. What isn't moved isn't changed
+-- Moved exactly if the machine moves, to its next state; Blocked and Idle exactly if it is; memory is refused only in place
+-- of an event before a ticket that is not a turn back. Without Moved nothing changes
 abbrev pub IsStep : CoreState → ℕ → Stepped → CoreState → Type 0
 IsStep old u Moved new = (t : State (network old.schema old.capacity)) × (step_of old u ≡ MovedTo t) × (new ≡ with_state old t)
 IsStep old u Blocked new = (step_of old u ≡ IsBlocked) × (new ≡ old)
 IsStep old u Idle new = (step_of old u ≡ IsIdle) × (new ≡ old)
 IsStep old u NoMemory new = WantsMemory old.opening old.state u × (new ≡ old)
 
--- Moved just where the machine's quit is an event, else Idle
+-- Moved exactly if the machine's quit is an event, otherwise Idle
 abbrev pub IsQuitStep : CoreState → ℕ → Stepped → CoreState → Type 0
 IsQuitStep old u Moved new = (t : State (network old.schema old.capacity)) × (quit_of old u ≡ MovedTo t) × (new ≡ with_state old t)
 IsQuitStep old u Blocked new = ⊥
 IsQuitStep old u Idle new = (quit_of old u ≡ IsIdle) × (new ≡ old)
 IsQuitStep old u NoMemory new = ⊥
 
--- where a unit is in mid-statement, some unit's next step is an event
+-- if a unit is in mid-statement, some unit's next step is an event
 abbrev pub IsNeverStuck : CoreState → Type 0
 IsNeverStuck c = IsNotStuck (network c.schema c.capacity) c.opening c.state
 
@@ -41,7 +41,7 @@ IsNeverStuck c = IsNotStuck (network c.schema c.capacity) c.opening c.state
 abbrev pub transition_of : (c : CoreState) → Move → Transition (network c.schema c.capacity)
 transition_of c m = transition (network c.schema c.capacity) c.opening c.state m
 
--- what a move comes to, and the machine after it
+-- the result of a move, and the machine after it
 abbrev pub result_of_move : CoreState → Move → Stepped
 result_of_move c m = result_of (network c.schema c.capacity) (transition_of c m)
 

@@ -1,4 +1,4 @@
--- What is kept of a statement's needs from one need to the next: what is settled of them, as asking from the beginning would settle it.
+-- What is kept of a statement's needs from one need to the next: what is settled about them, as asking from the beginning would settle it.
 use Rattle.std.specs.Prelude.{ℕ, ◌≡◌, not, ◌==◌, true, false, Option, Some, None, is_some, ⊤}
 use Rattle.std.specs.List.{find, list_any}
 use Rattle.dbtg_schema.specs.Lists.{Lists}
@@ -13,22 +13,22 @@ use Rattle.dbtg_erase.specs.declared.course.Course.{Course as CellCourse}
 use Rattle.dbtg_step.specs.declared.course.Course.{Course}
 use Rattle.dbtg_step.specs.declared.course.Course.TheVariants.{Refused, Wants, HasAreas}
 
--- how far a DELETE has come with its cells fits what is in hand; nothing is asked of other statements
+-- how far a DELETE has come with its cells fits what is held; for other statements nothing is required
 abbrev pub AreCellsKept : Lists → ℕ → Hands → Unit → Statement → Option CellCourse → Type 0
 AreCellsKept schema capacity hands unit (Delete option) course = IsKept schema capacity hands unit option course
 AreCellsKept schema capacity hands unit _ course = ⊤
 
--- no check without cells refuses the statement, and as long as area a is not in hand, it is the first that is not
+-- no check without cells refuses the statement, and until area a is held, it is the first that is not
 pub record IsWanted (schema : Lists) (capacity : ℕ) (hands : Hands) (unit : Unit) (x : Statement) (a : ℕ) : Type 0 where
   pub passed : refused_at_once schema capacity unit x ≡ None
   pub next : list_any (λ b. b == a) hands.areas ≡ false → find (λ c. not (list_any (λ b. b == c) hands.areas)) (areas_in_order schema unit x) ≡ Some a
 
--- no check without cells refuses the statement, and all its areas are in hand
+-- no check without cells refuses the statement, and all its areas are held
 pub record IsAtCells (schema : Lists) (capacity : ℕ) (hands : Hands) (unit : Unit) (x : Statement) : Type 0 where
   pub passed : refused_at_once schema capacity unit x ≡ None
   pub areas : find (λ a. not (list_any (λ b. b == a) hands.areas)) (areas_in_order schema unit x) ≡ None
 
--- what is kept fits what is in hand; nothing kept always does
+-- what is kept fits what is held; nothing kept always does
 abbrev pub IsCourseKept : Lists → ℕ → Hands → Unit → Statement → Option Course → Type 0
 IsCourseKept schema capacity hands unit x None = ⊤
 IsCourseKept schema capacity hands unit x (Some Refused) = is_some (refused_at_once schema capacity unit x) ≡ true

@@ -1,4 +1,4 @@
--- What a step wants memory for.
+-- When a step takes memory.
 use Rattle.std.specs.Prelude.{ℕ, ◌≡◌, ◌≢◌, ◌<◌, true, List, [], ◌∷◌, Option, Some, None, length}
 use Rattle.dbtg_schema.specs.Lists.{Lists}
 use Rattle.dbtg_cells.specs.declared.key.Owner.{Owner}
@@ -8,7 +8,7 @@ use Rattle.dbtg_step.specs.Machine.Machine.{Progress, UnitState, State, Sequenti
 use Rattle.dbtg_step.specs.Machine.Step.{next_need, step, MovedTo}
 use Rattle.dbtg_step.specs.Machine.Network.{network}
 
--- WHAT A STEP COMES TO
+-- WHAT A STEP GIVES
 
 -- unit u is in mid-statement without a ticket, and takes what it needs
 pub record IsBeforeTicket {schema : Lists} {capacity : ℕ} (s : State (network schema capacity)) (u : ℕ) : Type 0 where
@@ -20,7 +20,7 @@ pub record IsBeforeTicket {schema : Lists} {capacity : ℕ} (s : State (network 
   pub turned : w.turning_back ≡ true → w.cells ≡ []
   pub left : 0 < length state.remaining
 
--- where it wants memory, its step is an event in which it takes something or draws its ticket: a turn back takes no memory
+-- a step takes memory only if it is an event in which the unit takes something or draws its ticket: a turn back takes none
 pub record WantsMemory {schema : Lists} {capacity : ℕ} (opening : SequentialState (network schema capacity)) (s : State (network schema capacity)) (u : ℕ) : Type 0 where
   pub before : IsBeforeTicket s u
   pub after : State (network schema capacity)

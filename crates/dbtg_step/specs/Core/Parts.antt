@@ -26,12 +26,12 @@ abbrev pub location_of : CellLocation → Location CellValue
 location_of (AtHome x) = Home (shown x)
 location_of (WithUnit u) = HeldBy u
 
--- a cell that the table has not is at home as the opening database shows it
+-- a cell that the table does not have is at home as the opening database shows it
 abbrev pub found_location : Lists → ℕ → CellName → Option CellLocation → Location CellValue
 found_location schema capacity c None = Home (cell schema capacity (opening schema) c)
 found_location schema capacity c (Some p) = location_of p
 
--- where the table has cell c, by its number; one that the schema has not is at home
+-- where the table has cell c, by its number; one that the schema does not have is at home
 abbrev pub location_in : Lists → ℕ → List CellLocation → CellName → Option ℕ → Location CellValue
 location_in schema capacity table c None = Home (cell schema capacity (opening schema) c)
 location_in schema capacity table c (Some n) = found_location schema capacity c (slice_get table n)
@@ -42,7 +42,7 @@ location_at schema capacity table c = location_in schema capacity table c (cell_
 
 -- THE UNITS
 
--- a cell in hand as the machine has it
+-- a held cell as the machine has it
 abbrev pub held_of : CellName × Cell → HeldCell CellName CellValue
 held_of e = record { name = e.0; value = shown e.1 }
 
@@ -61,7 +61,7 @@ shown_progress schema capacity hands progress = record {
   linked = progress.linked;
 }
 
--- the same of a unit that may be between statements
+-- the same for a unit that may be between statements
 abbrev pub progress_of : (schema : Lists) (capacity : ℕ) → Hands → Option StatementProgress → Option (Progress (network schema capacity))
 progress_of schema capacity hands None = None
 progress_of schema capacity hands (Some progress) = Some (shown_progress schema capacity hands progress)

@@ -1,4 +1,4 @@
--- Where a unit is, as one sees it from outside.
+-- Where a unit is, as seen from outside.
 use Rattle.std.specs.Prelude.{ℕ, ◌-◌, Option, is_some, length, option_map}
 use Rattle.dbtg_step.specs.declared.watching.Position.{Position}
 use Rattle.dbtg_step.specs.declared.watching.Progress.{Progress as Shown}

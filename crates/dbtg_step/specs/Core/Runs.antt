@@ -1,4 +1,4 @@
--- What a core hands out at its end.
+-- What a core hands out at the end.
 use Rattle.std.specs.Prelude.{◌≡◌, List, map, length}
 use Rattle.dbtg_unit.specs.Database.State.Image.{image_of}
 use Rattle.dbtg_unit.specs.Database.Laws.Replay.{opening_state, replay}

@@ -20,16 +20,16 @@ abbrev pub in_turn_from : ℕ → List (List Statement) → List (ℕ × Stateme
 in_turn_from u [] = []
 in_turn_from u (script ∷ scripts) = map (λ x. (u, x)) script ++ in_turn_from (suc u) scripts
 
--- every statement of every script is made, unit 1's before unit 2's and so on; and with it what the headline says
+-- every statement of every script is made, unit 1's before unit 2's and so on; and with it the headline holds
 pub record IsSerialRun (schema : Lists) (capacity : ℕ) (scripts : List (List Statement)) (history : List Entry) (image : Image) (units : List Unit) : Type 0 where
   pub in_turn : statements_of history ≡ in_turn_from 1 scripts
   pub sequential : IsSequential schema capacity scripts history image units
 
--- the same of a run as it is handed out, which has no results
+-- the same for a run as it is handed out, which has no results
 abbrev pub SerialRunIs : Lists → ℕ → List (List Statement) → Run → Type 0
 SerialRunIs schema capacity scripts given = (given.results ≡ []) × IsSerialRun schema capacity scripts given.history given.image given.units
 
--- WHAT THE MACHINE COMES TO
+-- WHAT THE MACHINE DOES
 
 module _ (D : SequentialDatabase) where
   -- unit u is stepped, each step an event, until its next step is idle: from s to r

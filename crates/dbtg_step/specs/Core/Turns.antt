@@ -17,7 +17,7 @@ use Rattle.dbtg_step.specs.Core.Parts.{CoreState, with_state}
 
 -- WHAT TURNS STAND FOR
 
--- the turns in which a statement is made: all but those of a unit that has none left. `left` has the number that each unit has left
+-- the turns in which a statement is made: all except those of a unit that has none left. `left` has the number that each unit has left
 unfoldable pub made_turns : List ℕ → List ℕ → List ℕ
 made_turns left [] = []
 made_turns left (u ∷ us) = cond (nat_lt 0 (unwrap_or (unit_at left u) 0)) (u ∷ made_turns (with_unit_at left u (unwrap_or (unit_at left u) 0 - 1)) us) (made_turns left us)
@@ -35,12 +35,12 @@ module _ (D : SequentialDatabase) where
     pub between : state.progress ≡ None
     pub left : state.remaining ≡ xs
 
-  -- what a unit has left of its script; one that is not there has nothing
+  -- what a unit has left of its script; one that does not exist has nothing
   abbrev pub left_of : Option (UnitState D) → List D.Statement
   left_of None = []
   left_of (Some state) = state.remaining
 
-  -- the turn of a unit that has these statements left: its events up to the last of the next one, and nothing where none is left
+  -- the turn of a unit that has these statements left: its events up to the last of the next one; nothing if none is left
   abbrev pub IsTurnOf : SequentialState D → ℕ → List D.Statement → State D → List Move → State D → Type 0
   IsTurnOf opening u [] s moves t = (moves ≡ []) × (t ≡ s)
   IsTurnOf opening u (x ∷ xs) s moves t = AreEvents opening u s moves t × IsBefore u xs t
@@ -61,7 +61,7 @@ module _ (D : SequentialDatabase) where
 -- WHAT THEY GIVE
 
 -- what a run by turns gives, where they stand for these moves: each unit is between statements, the history is that of the
--- moves and has an entry for each turn in which a statement is made, and with it what the headline says. It has no results
+-- moves and has an entry for each turn in which a statement is made, and the headline holds. Moves have no results
 pub record IsRunByTurns (schema : Lists) (capacity : ℕ) (scripts : List (List Statement)) (turns : List ℕ) (moves : List Move) (given : Run) : Type 0 where
   pub results_are : given.results ≡ []
   pub moves_are : AreTurns (network schema capacity) (opening_of schema capacity (length scripts)) turns (machine_of schema capacity scripts) moves (machine_after schema capacity scripts moves)
@@ -70,7 +70,7 @@ pub record IsRunByTurns (schema : Lists) (capacity : ℕ) (scripts : List (List 
   pub in_turn : map (λ e. e.unit) given.history ≡ made_turns (map length scripts) turns
   pub sequential : IsSequential schema capacity scripts given.history given.image given.units
 
--- these moves, where they are no more than the limit; none just where they are more
+-- these moves, if they are no more than the limit; none exactly if they are more
 abbrev pub AreGiven : ℕ → List Move → Option (List Move) → Type 0
 AreGiven limit moves None = limit < length moves
 AreGiven limit moves (Some given) = (given ≡ moves) × (length moves ≤ limit)

@@ -1,4 +1,4 @@
--- For what a unit waits whose step is blocked, and which other units have that in hand.
+-- What a unit waits for when its step is blocked, and which other units have it.
 -- c is a core, u the number of a unit, w how far it is with its statement, a what it waits for.
 use Rattle.std.specs.Prelude.{ℕ, ◌≢◌, ◌+◌, ◌==◌, ◌&&◌, Bool, not, List, [], ◌∷◌, Option, Some, None, if◌then◌else◌, option_map}
 use Rattle.std.specs.List.{list_any}
@@ -28,12 +28,12 @@ abbrev pub taken_next : (c : CoreState) → UnitState (network c.schema c.capaci
 taken_next c state (Some w) (x ∷ xs) = awaited_of w.exclusive (next_need (network c.schema c.capacity) c.opening c.state state w x)
 taken_next c state _ _ = None
 
--- the same of a unit that may not be there
+-- the same for a unit that may not be there
 abbrev pub taken_next_by : (c : CoreState) → Option (UnitState (network c.schema c.capacity)) → Option Awaited
 taken_next_by c None = None
 taken_next_by c (Some state) = taken_next c state state.progress state.remaining
 
--- it is waited for where the step is blocked, and nowhere else
+-- it is waited for exactly if the step is blocked
 abbrev pub where_blocked : (c : CoreState) → Transition (network c.schema c.capacity) → Option Awaited → Option Awaited
 where_blocked c IsBlocked next = next
 where_blocked c (MovedTo s) next = None
@@ -43,12 +43,12 @@ where_blocked c IsIdle next = None
 abbrev pub awaited : CoreState → ℕ → Option Awaited
 awaited c u = where_blocked c (step_of c u) (taken_next_by c (unit_at c.state.units u))
 
--- a unit has it in hand: an area in a way that conflicts, or a cell
+-- a unit has it: an area in a conflicting way, or a cell
 abbrev pub has_in_hand : (c : CoreState) → Awaited → UnitState (network c.schema c.capacity) → Bool
 has_in_hand c (Area a exclusive) state = conflicts (network c.schema c.capacity) exclusive a state
 has_in_hand c (Cell x) state = list_any (λ h. name_eq x h.name) (held_cells (network c.schema c.capacity) state.progress)
 
--- the numbers of the units other than u that have it, where the first of these units has the number n
+-- the numbers of the units other than u that have it, if the first of these units has the number n
 abbrev pub holders_from : (c : CoreState) → ℕ → Awaited → ℕ → List (UnitState (network c.schema c.capacity)) → List ℕ
 holders_from c u a n [] = []
 holders_from c u a n (s ∷ ss) = if not (n == u) && has_in_hand c a s then n ∷ holders_from c u a (n + 1) ss else holders_from c u a (n + 1) ss
@@ -57,7 +57,7 @@ holders_from c u a n (s ∷ ss) = if not (n == u) && has_in_hand c a s then n �
 abbrev pub blocking_of : CoreState → ℕ → Option Blocking
 blocking_of c u = option_map (λ a. record { awaited = a; holders = holders_from c u a 1 c.state.units }) (awaited c u)
 
--- where nothing is told its step is not blocked, and what it waits for another unit has
+-- if nothing is reported its step is not blocked; otherwise another unit has what it waits for
 abbrev pub TellsOfBlocked : CoreState → ℕ → Option Blocking → Type 0
 TellsOfBlocked c u None = step_of c u ≢ IsBlocked
 TellsOfBlocked c u (Some b) = b.holders ≢ []

@@ -1,8 +1,8 @@
--- The parts between events: in a lawful state, with what a unit needs next there; and what a step or a quit of a unit comes to.
+-- The parts between events: in a lawful state, with what a unit needs next there; and the result of a step or a quit of a unit.
 -- `Stands` has what an event finds, and `Leaves` what it leaves.
 -- r is a runner, w a progress, u the number of a unit, x a statement, n a need.
 use Rattle.std.specs.List.{list_all}
-use Rattle.std.specs.Prelude.{ℕ, ◌≡◌, ◌-◌, true, List, [], Option, Some, None, length, slice_get, slice_set, ⊤}
+use Rattle.std.specs.Prelude.{ℕ, ◌≡◌, ◌-◌, true, List, [], Option, Some, None, length, slice_get, slice_set}
 use Rattle.dbtg_schema.specs.Lists.{Lists}
 use Rattle.dbtg_schema.specs.Lookups.{at}
 use Rattle.dbtg_schema.specs.Sound.{IsSound}
@@ -11,7 +11,6 @@ use Rattle.dbtg_cells.specs.Names.{name_below}
 use Rattle.dbtg_cells.specs.declared.key.Owner.{Owner}
 use Rattle.dbtg_cells.specs.declared.name.CellName.{CellName}
 use Rattle.dbtg_unit.specs.declared.held.Need.{Need}
-use Rattle.dbtg_unit.specs.declared.held.Need.TheVariants.{Stale}
 use Rattle.dbtg_unit.specs.declared.statement.Statement.{Statement}
 use Rattle.dbtg_unit.specs.Database.State.Base.{Database}
 use Rattle.dbtg_unit.specs.Hands.Local.{Agrees}
@@ -27,14 +26,14 @@ use Rattle.dbtg_step.specs.Machine.Machine.{UnitState, State, SequentialState, r
 use Rattle.dbtg_step.specs.Machine.Step.{next_need, quit, step, MovedTo, IsBlocked, IsIdle}
 use Rattle.dbtg_step.specs.Machine.Lawful.{Lawful}
 use Rattle.dbtg_step.specs.Inside.NeverStuck.{AllInTurn}
-use Rattle.dbtg_step.specs.Machine.Network.{network, next_need_of}
+use Rattle.dbtg_step.specs.Machine.Network.{network, next_need_of, noted_owners}
 use Rattle.dbtg_step.specs.Machine.Headline.{opening_of}
 use Rattle.dbtg_step.specs.Core.Courses.{IsCourseKept}
 use Rattle.dbtg_step.specs.Core.Parts.{shown_progress, unit_state_of}
 use Rattle.dbtg_step.specs.Inside.Parts.{state_of}
 use Rattle.dbtg_step.specs.Core.Events.{WantsMemory}
 
--- while its statement has no ticket, what a runner keeps of the statement's needs is right of what it has in hand
+-- while its statement has no ticket, what a runner keeps of the statement's needs is right of what it holds
 abbrev pub CourseFits : Lists → ℕ → Runner → Type 0
 CourseFits schema capacity r =
     (w : StatementProgress) → r.progress ≡ Some w → w.ticket ≡ None
@@ -47,7 +46,7 @@ pub record RunnerFits (schema : Lists) (capacity : ℕ) (r : Runner) : Type 0 wh
   pub guesses : length r.held.guesses ≡ length schema.sets
   pub course : CourseFits schema capacity r
 
--- so it is with each of these units
+-- the same for each of these units
 abbrev pub RunnersFit : Lists → ℕ → List Runner → Type 0
 RunnersFit schema capacity runners = (i : ℕ) (r : Runner) → slice_get runners i ≡ Some r → RunnerFits schema capacity r
 
@@ -72,21 +71,19 @@ pub record IsWell (schema : Lists) (capacity : ℕ) (parts : Parts) : Type 0 whe
   pub in_turn : AllInTurn (network schema capacity) name_below (state_of schema capacity parts)
   pub guesses : (u : ℕ) (state : UnitState (network schema capacity)) → unit_at (state_of schema capacity parts).units u ≡ Some state → HaveRings schema capacity state.guesses
 
--- owners against which guesses stand have an entry for each set
-abbrev pub owners_fit : Lists → Need → Type 0
-owners_fit schema (Stale owners) = length owners ≡ length schema.sets
-owners_fit schema _ = ⊤
-
 -- what the machine says that this runner needs next, with the statement x in this progress
 abbrev pub machine_need : (schema : Lists) (capacity : ℕ) → Parts → Runner → Statement → StatementProgress → NextNeed CellName (List (Option Owner))
 machine_need schema capacity parts r x w =
     let D = network schema capacity in
     next_need D (opening_for schema capacity parts) (state_of schema capacity parts) (unit_state_of schema capacity r) (shown_progress schema capacity r.held w) x
 
+-- the guesses with which this runner goes on that turns back with the statement x
+abbrev pub noted_now : (schema : Lists) (capacity : ℕ) → Parts → Runner → Statement → List (Option Owner)
+noted_now schema capacity parts r x = noted_owners schema capacity (database_of schema capacity parts) r.unit x r.held.guesses
+
 -- the runner needs n next, with the statement x in this progress: so says the machine, on the database of the history
 pub record IsNext (schema : Lists) (capacity : ℕ) (parts : Parts) (r : Runner) (x : Statement) (w : StatementProgress) (n : Need) : Type 0 where
-  pub is : machine_need schema capacity parts r x w ≡ next_need_of r.held.guesses n
-  pub owners : owners_fit schema n
+  pub is : machine_need schema capacity parts r x w ≡ next_need_of (noted_now schema capacity parts r x) n
   -- and on every other that agrees with what is held
   pub everywhere : (db : Database) → Agrees schema capacity db r.held r.unit → n ≡ need schema capacity db r.unit r.held x
 
@@ -95,13 +92,13 @@ abbrev pub NeedsNext : (schema : Lists) (capacity : ℕ) → Parts → ℕ → S
 NeedsNext schema capacity parts u w n =
     (r : Runner) (x : Statement) → slice_get parts.runners.items (u - 1) ≡ Some r → slice_get r.script r.next ≡ Some x → IsNext schema capacity parts r x w n
 
--- all is as it was but how far the statement of unit u has come
+-- everything is as it was except how far the statement of unit u has come
 pub record ChangesCourseAlone (u : ℕ) (old new : Parts) : Type 0 where
   pub table : new.table.items ≡ old.table.items
   pub history : new.history.items ≡ old.history.items
   pub runners : (r : Runner) → slice_get old.runners.items (u - 1) ≡ Some r → (course : Option Course) × (new.runners.items ≡ slice_set old.runners.items (u - 1) (record r { course = course }))
 
--- the machine's step; or, in the place of an event before a ticket that is no turn back, want of memory, which changes nothing
+-- the machine's step; or, in place of an event before a ticket that is not a turn back, a refusal of memory, which changes nothing
 abbrev pub Tells : (schema : Lists) (capacity : ℕ) → SequentialState (network schema capacity) → ℕ → Stepped → State (network schema capacity) → State (network schema capacity) → Type 0
 Tells schema capacity opening u Moved old new = step (network schema capacity) opening old u ≡ MovedTo new
 Tells schema capacity opening u Blocked old new = (step (network schema capacity) opening old u ≡ IsBlocked) × (new ≡ old)

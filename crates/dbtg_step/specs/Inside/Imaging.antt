@@ -1,4 +1,4 @@
--- The image of a database as it is read off its cells.
+-- The image of a database as it is read from its cells.
 -- found has each cell by its name; t is a record type, n a number, s a set, a an area.
 use Rattle.std.specs.Prelude.{ℕ, List, [], ◌∷◌, Option, Some, None, map, length, option_and_then, slice_get, unwrap_or}
 use Rattle.std.specs.List.{flat_map, range_with_len}
@@ -36,11 +36,11 @@ abbrev pub cell_in : List Runner → CellName → CellLocation → Option Cell
 cell_in runners c (AtHome x) = Some x
 cell_in runners c (WithUnit u) = option_and_then (λ r. cell_of c r.held.cells) (unit_at runners u)
 
--- the cell of this name, where it is
+-- the cell with this name, where it is
 abbrev pub found_cell : Lists → ℕ → Parts → CellName → Option Cell
 found_cell schema capacity parts c = option_and_then (λ n. option_and_then (cell_in parts.runners.items c) (slice_get parts.table.items n)) (cell_number schema capacity c)
 
--- the cell of this name, in a core or in these hands
+-- the cell with this name, in a core or in these hands
 abbrev pub found_in : Lists → ℕ → CellSource → CellName → Option Cell
 found_in schema capacity (InParts parts) c = found_cell schema capacity parts.now c
 found_in schema capacity (InHands held) c = cell_of c held.now.cells

@@ -60,11 +60,11 @@ IsTaken u n c table after old new Idle = ⊥
 abbrev pub answer_of : Lists → ℕ → Database → Unit → Statement → Answer
 answer_of schema capacity db unit x = (effect schema capacity db unit x).answer
 
--- the progress behind ticket t, before the first link
+-- the progress after ticket t, before the first link
 abbrev pub ticketed : StatementProgress → ℕ → StatementProgress
 ticketed w t = record { exclusive = w.exclusive; turning_back = false; ticket = Some t; linked = 0 }
 
--- the runner behind ticket t, with this unit and these hands: its next statement is due, and nothing is kept of the needs. It is
+-- the runner after ticket t, with this unit and these hands: its next statement is due, and nothing is kept of the needs. It is
 -- in mid-statement while it holds anything
 abbrev pub behind_ticket : Runner → StatementProgress → ℕ → Unit → Hands → Runner
 behind_ticket old w t unit hands = record {
@@ -82,7 +82,7 @@ pub record IsDrawn (schema : Lists) (capacity : ℕ) (db : Database) (x : Statem
   pub made : IsMadeOn schema capacity db old.unit old.held x (seen (answer_of schema capacity db old.unit x) new.unit new.held)
   pub rest : new ≡ behind_ticket old w (length history) new.unit new.held
 
--- no ticket was drawn, for want of memory: what the unit holds shows the same, and nothing is kept of how far the statement had come
+-- no ticket was drawn, as memory was refused: what the unit holds shows the same, and nothing is kept of how far the statement had come
 pub record IsUnmade (old new : Runner) : Type 0 where
   pub rest : new ≡ record old { held = new.held; course = None }
   pub shows : ShowsTheSame old.held new.held

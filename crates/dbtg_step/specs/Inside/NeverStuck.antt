@@ -25,7 +25,7 @@ module _ (D : SequentialDatabase) (below : D.Cell → D.Cell → Bool) where
   wanted_by_need (StaleGuesses g) = None
   wanted_by_need NeedsNothing = None
 
-  -- what the statement needs next, but nothing while the unit turns back with cells in hand
+  -- what the statement needs next, but nothing while the unit turns back and holds cells
   unfoldable pub wanted_unless_turning : SequentialState D → State D → UnitState D → Progress D → D.Statement → Bool → HeldCells D → Option (Wanted D.Cell)
   wanted_unless_turning opening s state w x true (h ∷ hs) = None
   wanted_unless_turning opening s state w x turning_back cells = wanted_by_need (next_need D opening s state w x)
@@ -45,13 +45,13 @@ module _ (D : SequentialDatabase) (below : D.Cell → D.Cell → Bool) where
   unfoldable pub wanted : SequentialState D → State D → UnitState D → Option (Wanted D.Cell)
   wanted opening s state = wanted_in_progress opening s state state.progress
 
-  -- what a unit in mid-statement wants keeps to the order of areas and cells
+  -- what a unit in mid-statement wants respects the order of areas and cells
   pub record UnitInOrder (opening : SequentialState D) (s : State D) (state : UnitState D) (w : Progress D) : Type 0 where
     -- in mid-statement without a ticket there is the statement
     pub busy : w.ticket ≡ None → (x : D.Statement) × (xs : List D.Statement) × (state.remaining ≡ x ∷ xs)
     -- an area that is wanted is above all that are held, and no cell is held
     pub areas : (a : ℕ) → wanted opening s state ≡ Some (AnArea a) → ((b : ℕ) → In b w.areas → b < a) × (w.cells ≡ [])
-    -- a cell that is wanted isn't held, and lies in an area that is held; it is above all that are held, or the areas are held exclusively
+    -- a cell that is wanted is not held, and lies in an area that is held; it is above all that are held, or the areas are held exclusively
     pub fresh : (c : D.Cell) → wanted opening s state ≡ Some (ACell c) → NotAmong D c w.cells × In (D.area c) w.areas
     pub cells : (c : D.Cell) → wanted opening s state ≡ Some (ACell c) → (w.exclusive ≡ true) ⊎ ((h : HeldCell D.Cell D.Value) → In h w.cells → below h.name c ≡ true)
 

@@ -1,4 +1,4 @@
--- What moves make of a core.
+-- What moves do to a core.
 use Rattle.std.specs.Prelude.{List}
 use Rattle.dbtg_unit.specs.declared.moves.Move.{Move}
 use Rattle.dbtg_unit.specs.declared.moves.Stepped.{Stepped}
@@ -10,6 +10,6 @@ use Rattle.dbtg_step.specs.Core.Parts.{CoreState, with_state}
 abbrev pub after_moves : CoreState → List Move → CoreState
 after_moves c moves = with_state c (run (network c.schema c.capacity) c.opening c.state moves)
 
--- what each of them comes to
+-- the result of each of them
 abbrev pub results_of_moves : CoreState → List Move → List Stepped
 results_of_moves c moves = results (network c.schema c.capacity) c.opening c.state moves

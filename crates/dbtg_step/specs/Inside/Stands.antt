@@ -1,4 +1,4 @@
--- What an event finds: where a unit stands with its statement; what it holds in the way of others; and that the table has a place for
+-- What an event finds: how far a unit is with its statement; what it holds in the way of others; and that the table has a place for
 -- a cell.
 -- r is a runner, w its progress, a an area, c the name of a cell.
 use Rattle.std.specs.List.{list_any}
@@ -34,7 +34,7 @@ pub record StandsBefore (r : Runner) (w : StatementProgress) : Type 0 where
   pub progress : r.progress ≡ Some w
   pub ticket : w.ticket ≡ None
 
--- turning back with cells still in hand
+-- turning back, with cells still held
 pub record StandsTurning (r : Runner) (w : StatementProgress) : Type 0 where
   pub before : StandsBefore r w
   pub turning : w.turning_back ≡ true
@@ -57,20 +57,20 @@ pub record StandsUnticketed (r : Runner) : Type 0 where
   pub progress : r.progress ≡ Some w
   pub ticket : w.ticket ≡ None
 
--- what each answer to where a unit stands says of it
+-- what each answer says about the phase of a unit
 abbrev pub IsStanding : Runner → Phase → Type 0
 IsStanding r Over = StandsOver r
 IsStanding r Between = StandsBetween r
-IsStanding r (TurningBack w) = StandsTurning r w
-IsStanding r (Needing w) = StandsNeeding r w
-IsStanding r (Ticketed w) = StandsTicketed r w
+IsStanding r TurningBack = (w : StatementProgress) × StandsTurning r w
+IsStanding r Needing = (w : StatementProgress) × StandsNeeding r w
+IsStanding r Ticketed = (w : StatementProgress) × StandsTicketed r w
 
--- in this progress area a, if it is among these areas, is held in a way that conflicts
+-- in this progress area a, if it is among these areas, is held in a conflicting way
 abbrev pub progress_holds_against : Bool → ℕ → List ℕ → Option StatementProgress → Bool
 progress_holds_against exclusive a areas None = false
 progress_holds_against exclusive a areas (Some w) = list_any (λ b. b == a) areas && (exclusive || w.exclusive)
 
--- the unit holds area a in a way that conflicts
+-- the unit holds area a in a conflicting way
 abbrev pub holds_against : Bool → ℕ → Runner → Bool
 holds_against exclusive a r = progress_holds_against exclusive a r.held.areas r.progress
 

@@ -37,24 +37,18 @@ pub record IsWhole (schema : Lists) (capacity : ℕ) (hands : Hands) (units : Li
   pub all : HoldsAll schema capacity hands
   pub cells : AllAgree schema capacity (replay schema capacity (opening_state schema (length units)) history).database hands.cells
 
--- cells of these names are taken in hand, behind the others, as the opening database has them
-pub record HasTaken (schema : Lists) (capacity : ℕ) (names : List CellName) (old new : Hands) : Type 0 where
-  pub areas : new.areas ≡ old.areas
-  pub names_are : names_of new.cells ≡ names_of old.cells ++ names
-  pub agree : AllAgree schema capacity (opening schema) old.cells → AllAgree schema capacity (opening schema) new.cells
-
 -- the statement goes by owners that a unit guesses; all others find theirs among the currents
 abbrev pub goes_by_guesses : Statement → Bool
 goes_by_guesses (Remove s) = true
 goes_by_guesses (Modify t changes) = true
 goes_by_guesses _ = false
 
--- the guesses in hand are such that the statement needs nothing more; the rest is as it was
+-- the guesses are such that the statement needs nothing more; the rest is as it was
 pub record IsGuessed (schema : Lists) (capacity : ℕ) (unit : Unit) (x : Statement) (old new : Hands) : Type 0 where
   pub rest : new ≡ record old { guesses = new.guesses }
   pub ready : IsReady schema capacity unit new x
 
--- the statement's effect on the database: its answer, its unit, and the cells in hand
+-- the statement's effect on the database: its answer, its unit, and the held cells
 pub record IsEffect (schema : Lists) (capacity : ℕ) (db : Database) (x : Statement) (unit unit' : Unit) (new : Hands) (answer : Answer) : Type 0 where
   pub answer_is : answer ≡ (effect schema capacity db unit x).answer
   pub unit_is : unit' ≡ (effect schema capacity db unit x).unit

@@ -5,7 +5,7 @@ use Rattle.dbtg_step.specs.Machine.Machine.{Home, Progress, UnitState, State, Se
 use Rattle.dbtg_step.specs.Machine.Step.{any_other, conflicts, step, MovedTo}
 
 module _ (D : SequentialDatabase) where
-  -- the progress of unit u, where it is in mid-statement
+  -- the progress of unit u, if it is in mid-statement
   abbrev pub progress_of : State D → ℕ → Option (Progress D)
   progress_of s u = option_and_then (λ (state : UnitState D). state.progress) (unit_at s.units u)
 
@@ -19,7 +19,7 @@ module _ (D : SequentialDatabase) where
   HasEvents opening u zero s = ⊥
   HasEvents opening u (suc n) s = (t : State D) × (step D opening s u ≡ MovedTo t) × IsOverAfter opening u n t
 
-  -- what statement x of a unit needs next in this state, with these areas and cells in hand
+  -- what statement x of a unit needs next in this state, if it holds these areas and cells
   abbrev pub needs_with : SequentialState D → State D → UnitState D → D.Statement → List ℕ → HeldCells D → NextNeed D.Cell D.Guesses
   needs_with opening s state x areas cells = D.need (replay D opening s.history).database state.unit x state.guesses areas cells
 
@@ -33,7 +33,7 @@ module _ (D : SequentialDatabase) where
         needs_with opening s state x areas cells ≡ NeedsCell h.name → s.location h.name ≡ Home h.value →
         TakesAlone opening s u state x areas (h ∷ cells)
 
-  -- where unit u is between statements and is never blocked, its next statement with a areas and c cells has 2 + 2a + 3c events
+  -- if unit u is between statements and is never blocked, its next statement with a areas and c cells has 2 + 2a + 3c events
   abbrev pub EventsAreCounted : SequentialState D → State D → Type 0
   EventsAreCounted opening s =
       (u : ℕ) (state : UnitState D) (x : D.Statement) (xs : List D.Statement) (areas : List ℕ) (cells : HeldCells D) →

@@ -1,4 +1,4 @@
--- What a run of moves gives: the history is the sequential database's, and so is all that a run shows.
+-- What a run of moves gives: the history is the sequential database's, and so is everything that a run shows.
 use Rattle.std.specs.Prelude.{ℕ, suc, ◌≡◌, ◌++◌, List, [], ◌∷◌, map, replicate, length, Some, None}
 use Rattle.std.specs.List.{range_with_len}
 use Rattle.dbtg_schema.specs.Lists.{Lists}
@@ -18,7 +18,7 @@ use Rattle.dbtg_step.specs.Machine.Machine.{Home, UnitState, HistoryEntry, State
 use Rattle.dbtg_step.specs.Machine.Step.{results, run}
 use Rattle.dbtg_step.specs.Machine.Network.{network}
 
--- units that stand before their scripts, the first of them with number n
+-- units before their scripts, the first of them with number n
 abbrev pub units_from : (schema : Lists) (capacity : ℕ) → ℕ → List (List Statement) → List (UnitState (network schema capacity))
 units_from schema capacity n [] = []
 units_from schema capacity n (script ∷ scripts) =
@@ -46,7 +46,7 @@ entry_of e = record { ticket = e.ticket; unit = e.unit; statement = e.statement;
 unfoldable pub machine_after : (schema : Lists) (capacity : ℕ) → List (List Statement) → List Move → State (network schema capacity)
 machine_after schema capacity scripts moves = run (network schema capacity) (opening_of schema capacity (length scripts)) (machine_of schema capacity scripts) moves
 
--- what each of the moves comes to
+-- the result of each of the moves
 unfoldable pub machine_results : (schema : Lists) (capacity : ℕ) → List (List Statement) → List Move → List Stepped
 machine_results schema capacity scripts moves = results (network schema capacity) (opening_of schema capacity (length scripts)) (machine_of schema capacity scripts) moves
 
@@ -66,6 +66,6 @@ pub record IsRun (schema : Lists) (capacity : ℕ) (scripts : List (List Stateme
   pub history_is : history ≡ map entry_of (machine_after schema capacity scripts moves).history
   pub sequential : IsSequential schema capacity scripts history image units
 
--- the same of a run as it is handed out
+-- the same for a run as it is handed out
 abbrev pub RunIs : Lists → ℕ → List (List Statement) → List Move → Run → Type 0
 RunIs schema capacity scripts moves given = IsRun schema capacity scripts moves given.results given.history given.image given.units

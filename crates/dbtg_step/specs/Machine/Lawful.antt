@@ -15,7 +15,7 @@ module _ (D : SequentialDatabase) where
     pub values : Agrees D (replay D opening past).database (held_cells D progress)
     pub in_area : (h : HeldCell D.Cell D.Value) → In h (held_cells D progress) → In (D.area h.name) (held_areas D progress)
     pub distinct : AreDistinct (held_cells D progress)
-    -- a ticket is in the history, and the held cells have what is due: their values after the history up to the ticket
+    -- a ticket is in the history, and the held cells have their new values: those after the history up to the ticket
     pub ticket : (t : ℕ) → ticket_of D progress ≡ Some t → t < length past
     pub due : (t : ℕ) → ticket_of D progress ≡ Some t → Agrees D (replay D opening (take (suc t) past)).database (held_cells D progress)
 
@@ -57,7 +57,7 @@ module _ (D : SequentialDatabase) where
     pub home : (c : D.Cell) (v : D.Value) → s.location c ≡ Home v → v ≡ D.cell (replay D opening s.history).database c
     pub holder : (c : D.Cell) (u : ℕ) → s.location c ≡ HeldBy u → IsHolder s.units u c
 
-  -- what a held cell shows: without a ticket what was taken; with one what is due, its value after the history up to the ticket
+  -- what a held cell shows: without a ticket what was taken; with one its new value, after the history up to the ticket
   unfoldable pub ShownAs : SequentialState D → List (HistoryEntry D) → Option ℕ → HeldCell D.Cell D.Value → D.Value → Type 0
   ShownAs opening past None h v = v ≡ h.value
   ShownAs opening past (Some t) h v = v ≡ D.cell (replay D opening (take (suc t) past)).database h.name
@@ -74,7 +74,7 @@ module _ (D : SequentialDatabase) where
   abbrev pub ImageHas : SequentialState D → State D → D.Cell → D.Value → Type 0
   ImageHas opening s c v = (s.location c ≡ Home v) ⊎ ShownByHolder opening s c v
 
-  -- nothing has happened yet: all cells are at home, all units stand before their scripts, which fit
+  -- nothing has happened yet: all cells are at home, all units are before their scripts, which fit
   pub record IsOpening (opening : SequentialState D) (s : State D) : Type 0 where
     pub location : (c : D.Cell) → s.location c ≡ Home (D.cell opening.database c)
     pub history : s.history ≡ []

@@ -8,7 +8,7 @@ pub data Location (V : Type 0) : Type 0 where
   HeldBy : ℕ → Location V
 
 module _ (D : SequentialDatabase) where
-  -- how far a unit is with its statement. Areas and cells stand with the newest first; `linked` counts the cells that are
+  -- how far a unit is with its statement. Areas and cells are listed with the newest first; `linked` counts the cells that are
   -- linked after the ticket, in the order of taking
   pub record Progress : Type 0 where
     pub exclusive : Bool
@@ -34,7 +34,7 @@ module _ (D : SequentialDatabase) where
     pub statement : D.Statement
     pub answer : D.Answer
 
-  -- a state of the machine. The latch of an area is no part of it: it says which units hold the area
+  -- a state of the machine. The latch of an area is not a part of it: it says which units hold the area
   pub record State : Type 0 where
     pub location : D.Cell → Location D.Value
     pub history : List HistoryEntry
@@ -46,7 +46,7 @@ module _ (D : SequentialDatabase) where
     pub database : D.Db
     pub units : List D.Unit
 
-  -- the sequential state after statement x of unit u; as it was where there is no such unit
+  -- the sequential state after statement x of unit u; as it was if there is no such unit
   unfoldable pub with_effect : SequentialState → ℕ → D.Statement → Option D.Unit → SequentialState
   with_effect q u x None = q
   with_effect q u x (Some unit) = record { database = (D.effect q.database unit x).database; units = with_unit_at q.units u (D.effect q.database unit x).unit }
@@ -103,7 +103,7 @@ module _ (D : SequentialDatabase) where
   holds_exclusively None = false
   holds_exclusively (Some w) = w.exclusive
 
-  -- its ticket, where it has one
+  -- its ticket, if it has one
   unfoldable pub ticket_of : Option Progress → Option ℕ
   ticket_of None = None
   ticket_of (Some w) = w.ticket

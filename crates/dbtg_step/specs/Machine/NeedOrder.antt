@@ -1,4 +1,4 @@
--- What a statement needs next, against what it has in hand: it is above that, where that was taken in turn.
+-- What a statement needs next, compared with what it holds: it is above that, if that was taken in turn.
 -- x is a statement, e a cell with its name, db a database.
 use Rattle.std.specs.Prelude.{ℕ, ◌≡◌, ◌≢◌, ◌<◌, not, ◌==◌, true, false, [], None, reverse, ⊤}
 use Rattle.std.specs.List.{find, list_any}
@@ -19,30 +19,30 @@ use Rattle.dbtg_step.specs.Machine.NeverStuck.{MayGoOn, TakenInTurn}
 use Rattle.dbtg_step.specs.Machine.Network.{is_delete, network}
 use Rattle.dbtg_step.specs.Core.Parts.{held_cells_of}
 
--- the cells in hand are those of this database, legal with a unit that may make the statement
+-- the held cells are those of this database, legal with a unit that may make the statement
 abbrev pub AreCellsOf : Lists → ℕ → Database → Unit → Statement → Hands → Type 0
 AreCellsOf schema capacity db unit x hands = MayGoOn (network schema capacity) name_below db unit x (held_cells_of hands.cells)
 
--- each area and cell in hand was what the statement needed next, one after another, and the cells in hand are as they were
+-- each area and cell that is held was what the statement needed next, one after another, and the held cells are as they were
 abbrev pub WasTakenInTurn : Lists → ℕ → Unit → Statement → Hands → Type 0
 WasTakenInTurn schema capacity unit x hands = TakenInTurn (network schema capacity) name_below unit x hands.guesses (reverse hands.areas) (held_cells_of hands.cells)
 
--- an area that is needed is above all areas in hand, and no cell is in hand; a cell is above all cells in hand, those of a
+-- an area that is needed is above all held areas, and no cell is held; a cell is above all held cells, those of a
 -- DELETE apart
 abbrev pub IsAboveHands : Statement → Hands → Need → Type 0
 IsAboveHands x hands (Area a) = ((b : ℕ) → In b hands.areas → b < a) × (hands.cells ≡ [])
 IsAboveHands x hands (Take c) = is_delete x ≡ false → (e : CellName × Cell) → In e hands.cells → name_below e.0 c ≡ true
-IsAboveHands x hands (Stale owners) = ⊤
+IsAboveHands x hands Stale = ⊤
 IsAboveHands x hands Ready = ⊤
 
--- a cell that is needed isn't in hand, and lies in an area in hand
+-- a cell that is needed is not held, and lies in a held area
 abbrev pub LiesInHeldArea : Lists → Hands → Need → Type 0
 LiesInHeldArea schema hands (Take c) = ((e : CellName × Cell) → In e hands.cells → e.0 ≢ c) × In (area_of_cell schema c) hands.areas
 LiesInHeldArea schema hands (Area a) = ⊤
-LiesInHeldArea schema hands (Stale owners) = ⊤
+LiesInHeldArea schema hands Stale = ⊤
 LiesInHeldArea schema hands Ready = ⊤
 
--- a DELETE with all its areas in hand: it alone takes memory to find what it needs next
+-- a DELETE that holds all its areas: only it takes memory to find what it needs next
 pub record HasItsAreas (schema : Lists) (unit : Unit) (hands : Hands) (x : Statement) : Type 0 where
   pub deletes : is_delete x ≡ true
   pub areas : find (λ a. not (list_any (λ b. b == a) hands.areas)) (areas_in_order schema unit x) ≡ None

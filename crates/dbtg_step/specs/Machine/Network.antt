@@ -20,19 +20,23 @@ pub use Rattle.dbtg_unit.specs.Hands.EditsOf.{is_delete}
 use Rattle.dbtg_unit.specs.Hands.Guesses.{guesses_after, with_owners}
 use Rattle.dbtg_unit.specs.Hands.Hands.{Hands}
 use Rattle.dbtg_unit.specs.Database.State.LegalWith.{LegalWith}
-use Rattle.dbtg_unit.specs.Hands.Needs.{need}
+use Rattle.dbtg_unit.specs.Hands.Needs.{need, stale_owners}
 use Rattle.dbtg_step.specs.Machine.SequentialDatabase.{HeldCell, NextNeed, NeedsArea, NeedsCell, StaleGuesses, NeedsNothing, Effect, SequentialDatabase}
 
 -- what a unit holds, for `need`, which looks at the names of cells alone
 abbrev pub holding : List (Option Owner) → List ℕ → List (HeldCell CellName CellValue) → Hands
 holding guesses areas cells = record { areas = areas; cells = map (λ h. (h.name, SlotCell None)) cells; guesses = guesses }
 
--- a need as the machine has it: to turn back is to go on with other guesses
+-- a need as the machine has it: turning back is going on with other guesses
 abbrev pub next_need_of : List (Option Owner) → Need → NextNeed CellName (List (Option Owner))
-next_need_of guesses (Area a) = NeedsArea a
-next_need_of guesses (Take c) = NeedsCell c
-next_need_of guesses (Stale owners) = StaleGuesses (with_owners guesses owners)
-next_need_of guesses Ready = NeedsNothing
+next_need_of others (Area a) = NeedsArea a
+next_need_of others (Take c) = NeedsCell c
+next_need_of others Stale = StaleGuesses others
+next_need_of others Ready = NeedsNothing
+
+-- the guesses that a turn back notes
+abbrev pub noted_owners : Lists → ℕ → Database → Unit → Statement → List (Option Owner) → List (Option Owner)
+noted_owners schema capacity db unit statement guesses = with_owners guesses (stale_owners schema capacity db unit guesses statement)
 
 -- what a statement gives, as the machine has it
 abbrev pub effect_of : Outcome → Effect Database Unit Answer
@@ -53,8 +57,8 @@ network schema capacity = record {
   cell = cell schema capacity;
   effect = λ db unit statement. effect_of (effect schema capacity db unit statement);
   guesses_after = λ db unit statement guesses. guesses_after schema capacity statement guesses (effect schema capacity db unit statement);
-  need = λ db unit statement guesses areas cells. next_need_of guesses (need schema capacity db unit (holding guesses areas cells) statement);
-  -- a DELETE alone takes its areas exclusively
+  need = λ db unit statement guesses areas cells. next_need_of (noted_owners schema capacity db unit statement guesses) (need schema capacity db unit (holding guesses areas cells) statement);
+  -- only a DELETE takes its areas exclusively
   is_exclusive = is_delete;
   Fits = λ statement. fits schema statement ≡ true;
   Legal = LegalWith schema capacity;

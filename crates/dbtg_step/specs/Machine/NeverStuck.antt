@@ -11,7 +11,7 @@ module _ (D : SequentialDatabase) where
     pub after : State D
     pub moves : step D opening s who ≡ MovedTo after
 
-  -- where a unit is in mid-statement, some unit's next step is an event
+  -- if a unit is in mid-statement, some unit's next step is an event
   abbrev pub IsNotStuck : SequentialState D → State D → Type 0
   IsNotStuck opening s = (u : ℕ) (state : UnitState D) (w : Progress D) → unit_at s.units u ≡ Some state → state.progress ≡ Some w → SomeUnitMoves opening s
 
@@ -34,13 +34,13 @@ module _ (D : SequentialDatabase) (below : D.Cell → D.Cell → Bool) where
 
   -- what `need` has to promise
   pub record NeedsInOrder : Type 0 where
-    -- where all was taken in turn, an area that is needed is above all that are held, and no cell is held
+    -- if everything was taken in turn, an area that is needed is above all that are held, and no cell is held
     pub area_above : (db : D.Db) (unit : D.Unit) (x : D.Statement) (g : D.Guesses) (areas : List ℕ) (cells : HeldCells D) (a : ℕ) →
         TakenInTurn unit x g areas cells → D.need db unit x g areas cells ≡ NeedsArea a → ((b : ℕ) → In b areas → b < a) × (cells ≡ [])
     -- and a cell that is needed is above all that are held, unless the areas are held exclusively
     pub cell_above : (db : D.Db) (unit : D.Unit) (x : D.Statement) (g : D.Guesses) (areas : List ℕ) (cells : HeldCells D) (c : D.Cell) →
         D.is_exclusive x ≡ false → TakenInTurn unit x g areas cells → MayGoOn db unit x cells → D.need db unit x g areas cells ≡ NeedsCell c →
         (h : HeldCell D.Cell D.Value) → In h cells → below h.name c ≡ true
-    -- the areas don't depend on the guesses
+    -- the areas do not depend on the guesses
     pub areas_stay : (unit : D.Unit) (x : D.Statement) (g g' : D.Guesses) (areas : List ℕ) (cells : HeldCells D) →
         TakenInTurn unit x g areas cells → TakenInTurn unit x g' areas []

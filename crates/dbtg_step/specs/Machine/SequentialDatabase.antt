@@ -2,7 +2,7 @@
 -- has to hold. The network database is an instance (Network.antt).
 use Rattle.std.specs.Prelude.{ℕ, zero, suc, ◌≡◌, ◌≢◌, Bool, true, List, [], ◌∷◌, Option, Some, None, slice_get, slice_set, ◌⊎◌}
 
--- a cell that a unit holds: before its ticket with the value as taken, from the ticket on with the value that is due
+-- a cell that a unit holds: before its ticket with the value as taken, from the ticket on with its new value
 pub record HeldCell (C V : Type 0) : Type 0 where
   pub name : C
   pub value : V
@@ -20,7 +20,7 @@ pub record Effect (D U A : Type 0) : Type 0 where
   pub unit : U
   pub answer : A
 
--- x stands in the list
+-- x is in the list
 abbrev pub In : {X : Type 0} → X → List X → Type 0
 In x [] = ⊥
 In x (y ∷ ys) = (x ≡ y) ⊎ In x ys
@@ -44,13 +44,13 @@ pub record SequentialDatabase : Type 1 where
   pub Statement : Type 0
   pub Answer : Type 0
   pub Guesses : Type 0
-  -- two names are one
+  -- two names are equal
   pub same_name : Cell → Cell → Bool
   -- the area in which a cell lies
   pub area : Cell → ℕ
   -- what a cell holds
   pub cell : Db → Cell → Value
-  -- what the statement makes of the database and the unit, and its answer
+  -- what the statement does to the database and the unit, and its answer
   pub effect : Db → Unit → Statement → Effect Db Unit Answer
   -- the guesses once the statement has its ticket
   pub guesses_after : Db → Unit → Statement → Guesses → Guesses

@@ -8,13 +8,13 @@ use Rattle.dbtg_unit.specs.declared.moves.Stepped.TheVariants.{Moved, Blocked, I
 use Rattle.dbtg_step.specs.Machine.SequentialDatabase.{HeldCells, NextNeed, NeedsArea, NeedsCell, StaleGuesses, NeedsNothing, SequentialDatabase, unit_at, with_unit_at}
 use Rattle.dbtg_step.specs.Machine.Machine.{Location, Home, HeldBy, Progress, UnitState, State, SequentialState, replay, relocated, all_home, begun, unless_over, held_areas, holds_exclusively}
 
--- some element passes, beside the one at index i
+-- some element other than the one at index i passes
 unfoldable pub any_but : {X : Type 0} → (X → Bool) → ℕ → List X → Bool
 any_but p i [] = false
 any_but p zero (x ∷ xs) = list_any p xs
 any_but p (suc i) (x ∷ xs) = p x || any_but p i xs
 
--- some unit passes, beside the one with number u
+-- some unit other than the one with number u passes
 unfoldable pub any_other : {X : Type 0} → (X → Bool) → ℕ → List X → Bool
 any_other p zero xs = list_any p xs
 any_other p (suc i) xs = any_but p i xs
@@ -25,7 +25,7 @@ is_nonempty [] = false
 is_nonempty (x ∷ xs) = true
 
 module _ (D : SequentialDatabase) where
-  -- what a move comes to: the state after one event, or no event
+  -- the result of a move: the state after one event, or no event
   pub data Transition : Type 0 where
     MovedTo : State D → Transition
     IsBlocked : Transition
@@ -53,7 +53,7 @@ module _ (D : SequentialDatabase) where
   due_cells db [] = []
   due_cells db (h ∷ hs) = record { name = h.name; value = D.cell db h.name } ∷ due_cells db hs
 
-  -- after the ticket: the entry joins the history, the unit is the sequential database's, what is due stands in the held cells
+  -- after the ticket: the entry joins the history, the unit is the sequential database's, the held cells have their new values
   unfoldable pub with_ticket : SequentialState D → State D → ℕ → UnitState D → Progress D → D.Statement → List D.Statement → State D
   with_ticket opening s u state w x xs =
       let db = (replay D opening s.history).database in
@@ -83,7 +83,7 @@ module _ (D : SequentialDatabase) where
   takes_area s u state w a true = IsBlocked
   takes_area s u state w a false = MovedTo (updated s u state s.location state.guesses (Some (record w { areas = a ∷ w.areas })))
 
-  -- a cell is taken where it is at home
+  -- a cell is taken if it is at home
   unfoldable pub takes_cell : State D → ℕ → UnitState D → Progress D → D.Cell → Location D.Value → Transition
   takes_cell s u state w c (HeldBy other) = IsBlocked
   takes_cell s u state w c (Home v) = MovedTo (updated s u state (relocated D s.location c (HeldBy u)) state.guesses (Some (record w { cells = record { name = c; value = v } ∷ w.cells })))
@@ -116,7 +116,7 @@ module _ (D : SequentialDatabase) where
   step_of_unit opening s u state None (x ∷ xs) = MovedTo (updated s u state s.location state.guesses (Some (begun D x)))
   step_of_unit opening s u state None [] = IsIdle
 
-  -- idle where there is no such unit
+  -- idle if there is no such unit
   unfoldable pub step_if_unit : SequentialState D → State D → ℕ → Option (UnitState D) → Transition
   step_if_unit opening s u None = IsIdle
   step_if_unit opening s u (Some state) = step_of_unit opening s u state state.progress state.remaining
@@ -125,7 +125,7 @@ module _ (D : SequentialDatabase) where
   unfoldable pub step : SequentialState D → State D → ℕ → Transition
   step opening s u = step_if_unit opening s u (unit_at s.units u)
 
-  -- the quit of a unit in mid-statement: idle with a ticket, and else all cells go home
+  -- the quit of a unit in mid-statement: idle with a ticket; otherwise all cells go home
   unfoldable pub quit_unless_ticket : State D → ℕ → UnitState D → Progress D → Option ℕ → Transition
   quit_unless_ticket s u state w (Some t) = IsIdle
   quit_unless_ticket s u state w None = MovedTo (updated s u state (all_home D s.location w.cells) state.guesses None)
@@ -135,7 +135,7 @@ module _ (D : SequentialDatabase) where
   quit_of_unit s u state None = IsIdle
   quit_of_unit s u state (Some w) = quit_unless_ticket s u state w w.ticket
 
-  -- idle where there is no such unit
+  -- idle if there is no such unit
   unfoldable pub quit_if_unit : State D → ℕ → Option (UnitState D) → Transition
   quit_if_unit s u None = IsIdle
   quit_if_unit s u (Some state) = quit_of_unit s u state state.progress
@@ -144,7 +144,7 @@ module _ (D : SequentialDatabase) where
   unfoldable pub quit : State D → ℕ → Transition
   quit s u = quit_if_unit s u (unit_at s.units u)
 
-  -- what a move comes to
+  -- the result of a move
   unfoldable pub transition : SequentialState D → State D → Move → Transition
   transition opening s (Step u) = step opening s u
   transition opening s (Quit u) = quit s u
@@ -160,13 +160,13 @@ module _ (D : SequentialDatabase) where
   run opening s [] = s
   run opening s (m ∷ ms) = run opening (state_after s (transition opening s m)) ms
 
-  -- what is told of a move
+  -- what is reported of a move
   unfoldable pub result_of : Transition → Stepped
   result_of (MovedTo s) = Moved
   result_of IsBlocked = Blocked
   result_of IsIdle = Idle
 
-  -- what each move of a list comes to
+  -- the result of each move of a list
   unfoldable pub results : SequentialState D → State D → List Move → List Stepped
   results opening s [] = []
   results opening s (m ∷ ms) = result_of (transition opening s m) ∷ results opening (state_after s (transition opening s m)) ms

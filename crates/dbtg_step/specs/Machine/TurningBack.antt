@@ -1,4 +1,4 @@
--- A turn back is for good, and each need that is met brings the ticket nearer.
+-- On one database a unit turns back at most once, and each need that is met brings the ticket nearer.
 use Rattle.std.specs.Prelude.{ℕ, suc, ◌+◌, ◌≡◌, ◌<◌, Bool, true, false, cond, not, eqb, List, [], ◌∷◌, Option, length}
 use Rattle.std.specs.List.{list_any}
 use Rattle.dbtg_schema.specs.Lists.{Lists}
@@ -10,10 +10,9 @@ use Rattle.dbtg_unit.specs.declared.statement.Statement.{Statement}
 use Rattle.dbtg_unit.specs.declared.unit.Unit.{Unit}
 use Rattle.dbtg_unit.specs.Database.State.Base.{Database}
 use Rattle.dbtg_unit.specs.Database.Statements.Fits.{fits}
-use Rattle.dbtg_unit.specs.Hands.Needs.{areas_in_order, cells_of, is_stale, stale_owners}
+use Rattle.dbtg_unit.specs.Hands.Needs.{areas_in_order, cells_of, is_stale}
 use Rattle.dbtg_step.specs.Machine.SequentialDatabase.{HeldCell, NeedsArea, NeedsCell, StaleGuesses}
-use Rattle.dbtg_unit.specs.Hands.Guesses.{with_owners}
-use Rattle.dbtg_step.specs.Machine.Network.{network}
+use Rattle.dbtg_step.specs.Machine.Network.{network, noted_owners}
 
 -- how many pass
 abbrev pub count : {X : Type 0} → (X → Bool) → List X → ℕ
@@ -32,11 +31,7 @@ holds_area areas a = list_any (λ b. eqb b a) areas
 abbrev pub holds_cell : Held → CellName → Bool
 holds_cell cells c = list_any (λ (h : HeldCell CellName CellValue). name_eq c h.name) cells
 
--- the owners that a turn back notes
-abbrev pub noted_owners : Lists → ℕ → Database → Unit → Statement → List (Option Owner) → List (Option Owner)
-noted_owners schema capacity db unit statement guesses = with_owners guesses (stale_owners schema capacity db unit guesses statement)
-
--- the areas and cells of the statement that aren't held, and, where a guess is stale, all cells that it has with the true
+-- the areas and cells of the statement that are not held, and, if a guess is stale, all cells that it has with the true
 -- owners, and the turn back
 abbrev pub needs_left : Lists → ℕ → Database → Unit → Statement → List (Option Owner) → List ℕ → Held → ℕ
 needs_left schema capacity db unit statement guesses areas cells =
@@ -46,7 +41,7 @@ needs_left schema capacity db unit statement guesses areas cells =
     (suc (length (cells_of schema capacity db unit (noted_owners schema capacity db unit statement guesses) statement)))
     0
 
--- on one database: with the true owners noted no guess is stale; and what is left falls with each need that is met, an area
+-- on one database: once the true owners are noted no guess is stale; and what is left falls with each need that is met: an area
 -- or cell that is taken, or a turn back, after which no cell is held
 pub record NeedsComeToAnEnd (schema : Lists) (capacity : ℕ) : Type 0 where
   pub not_stale_again : (db : Database) (unit : Unit) (statement : Statement) (guesses : List (Option Owner)) →

@@ -11,6 +11,7 @@ pub mod NoCalcKey
 pub mod Openings
 pub mod OwnersFound
 pub mod SameItems
+pub mod SetsSeen
 pub mod SortKeysCompare
 pub mod UnitsOfSchema
 pub mod ValueOrder

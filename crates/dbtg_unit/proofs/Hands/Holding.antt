@@ -3,6 +3,7 @@
 -- Promises: a cell in hand is found by its name, and what is held shows the same while room is made.
 pub mod IndexOfNames
 pub mod NamesAndCells
+pub mod NumberedNames
 pub mod RoomMade
 pub mod TrueOwners
 pub mod WhileEditing

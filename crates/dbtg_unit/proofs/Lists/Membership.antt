@@ -1,6 +1,6 @@
 -- What a list contains, what comes from it, and what is found in it.
 use Rattle.std.proofs.Common.{◌≡◌, refl, sym, ◌∙◌, ap, subst, ℕ, zero, suc, ◌+◌, ◌<◌, ◌≤◌, Bool, true, false, cond, List, [], ◌∷◌, ◌++◌, Option, Some, None, arith, inl, inr, ⊎_elim, ◌⊎◌, map}
-use Rattle.std.specs.Prelude.{filter}
+use Rattle.std.specs.Prelude.{filter, slice_get}
 use Rattle.std.specs.List.{list_any, list_all, find, range_with_len, flat_map}
 use Rattle.std.proofs.lemmas.Bool.{and_parts, or_cases, or_left, or_right, cases_Bool, false≢true, false_from_ne_true, cases_eq}
 use Rattle.std.proofs.lemmas.Option.{none-some, same_Some}
@@ -78,6 +78,11 @@ in_range (suc n) a i h g = elim (cases_eq a i) [ inl e ↦ inl e | inr e ↦ inr
 pub of_range : (n a i : ℕ) → In i (range_with_len a n) → (a ≤ i) × (i < a + n)
 of_range zero a i h = absurd h
 of_range (suc n) a i h = ⊎_elim (λ e. (omega arith, omega arith)) (λ j. let r = of_range n (a + 1) i j in let low = r.0 in let high = r.1 in (omega arith, omega arith)) h
+
+-- where an element stands
+pub place_of_element : {X : Type 0} (x : X) (xs : List X) → In x xs → (j : ℕ) × (slice_get xs j ≡ Some x)
+place_of_element x [] i = absurd i
+place_of_element x (y ∷ xs) i = elim i [ inl e ↦ (0, ap Some e) | inr k ↦ let r = place_of_element x xs k in (suc r.0, r.1) ]
 
 -- WHAT IS FOUND
 

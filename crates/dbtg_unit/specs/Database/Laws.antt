@@ -1,6 +1,6 @@
--- Histories and their replay, and what holds of every statement and history, as the laws of `src/laws.rt` and `src/legality.rt` say it.
+-- Histories and their replay, and what holds for every statement and history, as the laws of `src/laws.rt` and `src/legality.rt` say it.
 -- May use: the state and the statements.
--- Promises: each law is the contract of a public function without a body, so it holds of whatever the definitions say.
+-- Promises: each law is the contract of a public function without a body, so it holds for whatever the definitions say.
 pub mod Answering
 pub mod Erased
 pub mod Forward

@@ -1,4 +1,4 @@
--- What there is: the database, its units with their currents and kept records, its image, its cells; and when it is legal.
+-- The state: the database, its units with their currents and kept records, its image, its cells; and when it is legal.
 -- May use: keys, values and cells of dbtg_cells.
 -- Promises: nothing of statements; a database is four functions, and a unit what is current for it and what it keeps.
 pub mod Base

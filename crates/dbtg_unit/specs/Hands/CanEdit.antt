@@ -19,11 +19,11 @@ use Rattle.dbtg_unit.specs.Database.State.Legal.{pairwise}
 use Rattle.dbtg_unit.specs.declared.edit.Edit.{Edit}
 use Rattle.dbtg_unit.specs.declared.edit.Edit.TheVariants.{EnterUser, EnterNumber, LeaveNumber, ChangeNumber, OpenRing, PlaceMember, ReplaceMember, TakeOut, RaiseVersion}
 
--- the members that come before a new one with this sort key stand before all others
+-- the members that come before a new one with this sort key are before all others
 abbrev pub parts_by : Bool → Duplicates → Option Value → List (DbKey × Option Value) → Bool
 parts_by ascending duplicates key = pairwise (λ x y. comes_before ascending duplicates x.1 key || not (comes_before ascending duplicates y.1 key))
 
--- the position, where there is one, is a member
+-- the position, if there is one, is a member
 abbrev pub IsPosition : Option DbKey → Option Occurrence → Type 0
 IsPosition None occurrence = IsTrue (is_some occurrence)
 IsPosition (Some p) occurrence = IsTrue (is_member p (keys_in occurrence))

@@ -19,11 +19,11 @@ use Rattle.dbtg_unit.specs.declared.edit.Edit.{Edit}
 use Rattle.dbtg_unit.specs.declared.edit.Edit.TheVariants.{EnterUser, LeaveUser, EnterNumber, LeaveNumber, ChangeNumber, OpenRing, CloseRing, PlaceMember, ReplaceMember, TakeOut, Fill, Vacate, ChangeItems, ChangeOwner, RaiseVersion}
 use Rattle.dbtg_unit.specs.declared.edit.CellEdit.{CellEdit}
 
--- a number live in its next generation; a number live no more; a number with other CALC values
+-- a number becomes live in its next generation; a number is no longer live; a number gets other CALC values
 abbrev pub entered : List Value → Number → Number
 entered calc n = record { last = n.last + 1; calc = Some calc }
 
--- a number live no more
+-- a number is no longer live
 abbrev pub vacated : Number → Number
 vacated n = record { last = n.last; calc = None }
 
@@ -41,7 +41,7 @@ abbrev pub after_key : Option DbKey → Spot (DbKey × Option Value)
 after_key None = Front
 after_key (Some p) = After (λ m. key_eq p m.0)
 
--- directly before the member in the position, or last where the position is the owner
+-- directly before the member in the position, or last if the position is the owner
 abbrev pub before_key : Option DbKey → Spot (DbKey × Option Value)
 before_key None = Back
 before_key (Some p) = Before (λ m. key_eq p m.0)
@@ -95,7 +95,7 @@ edited (ChangeOwner s owner) (SlotValue slot) = SlotValue (option_map (with_owne
 edited RaiseVersion (SlotValue slot) = SlotValue (option_map with_next_version slot)
 edited edit value = value
 
--- the value of the cell of a name after the edits that name it, in their order
+-- the value of the cell with a name after the edits that name it, in their order
 abbrev pub edited_at : CellName → List CellEdit → CellValue → CellValue
 edited_at c [] value = value
 edited_at c (e ∷ edits) value = edited_at c edits (cond (name_eq c e.name) (edited e.edit value) value)

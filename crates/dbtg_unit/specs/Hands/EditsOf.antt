@@ -11,6 +11,7 @@ use Rattle.dbtg_cells.specs.declared.name.CellName.{CellName}
 use Rattle.dbtg_cells.specs.declared.name.CellName.TheVariants.{Extent, Ring}
 use Rattle.dbtg_unit.specs.declared.edit.Edit.TheVariants.{LeaveNumber, CloseRing, TakeOut, Vacate, ChangeOwner, RaiseVersion}
 use Rattle.dbtg_unit.specs.declared.edit.CellEdit.{CellEdit}
+use Rattle.dbtg_unit.specs.declared.erased.Erased.{Erased}
 use Rattle.dbtg_unit.specs.declared.statement.Erase.{Erase}
 use Rattle.dbtg_unit.specs.declared.unit.Unit.{Unit}
 use Rattle.dbtg_unit.specs.Database.State.Base.{Database, is_member, owner_of}
@@ -25,11 +26,11 @@ pub use Rattle.dbtg_unit.specs.Hands.PlanOf.{done_plan_of, first_owners, joining
 use Rattle.dbtg_unit.specs.Hands.Erasing.{doomed_in_turn, members_of_all, with_those}
 use Rattle.dbtg_unit.specs.Database.State.Legal.{Legal}
 
--- DELETE: d's number is left
+-- DELETE: d's number is freed
 abbrev pub leave_number : DbKey → CellEdit
 leave_number d = record { name = Extent d.rtype; edit = LeaveNumber d.number }
 
--- an owner, where it does not go
+-- an owner, if it does not go
 abbrev pub staying_owner : List DbKey → Option Owner → Option Owner
 staying_owner gone None = None
 staying_owner gone (Some o) = if is_gone gone o then None else Some o
@@ -42,6 +43,14 @@ leaving_edits schema owner gone d = flat_map (λ s. ring_edits s (staying_owner 
 abbrev pub closing_edits : Lists → DbKey → List CellEdit
 closing_edits schema d = map (λ s. record { name = Ring s (Some (d.rtype, d.number)); edit = CloseRing }) (filter (λ s. owns schema s d.rtype) (set_numbers schema))
 
+-- the edit that closes the ring of this name
+abbrev pub close_ring : CellName → CellEdit
+close_ring c = record { name = c; edit = CloseRing }
+
+-- as a plan tells it by the records that go: their numbers, their places, the rings that they own, their slots
+abbrev pub edits_of_erased : Erased → List CellEdit
+edits_of_erased e = map leave_number e.gone ++ (e.places ++ (map close_ring e.rings ++ map (λ d. slot_edit d Vacate) e.gone))
+
 -- the members of what goes that stay, each once
 abbrev pub left_behind : (DbKey → List DbKey) → List DbKey → List DbKey
 left_behind members gone = with_those [] (filter (λ x. not (is_member x gone)) (flat_map members gone))
@@ -50,7 +59,7 @@ left_behind members gone = with_those [] (filter (λ x. not (is_member x gone)) 
 abbrev pub lost_sets : Lists → (ℕ → DbKey → Option Owner) → List DbKey → DbKey → List ℕ
 lost_sets schema owner gone x = filter (λ s. some_and (is_gone gone) (owner s x)) (set_numbers schema)
 
--- a member that stays: no owner where that goes, its version
+-- a member that stays: no owner if its owner goes, its version
 abbrev pub losing_edits : Lists → (ℕ → DbKey → Option Owner) → List DbKey → DbKey → List CellEdit
 losing_edits schema owner gone x = map (λ s. slot_edit x (ChangeOwner s None)) (lost_sets schema owner gone x) ++ slot_edit x RaiseVersion ∷ []
 

@@ -25,7 +25,7 @@ abbrev pub guesses_after : Lists → ℕ → Statement → List (Option Owner) �
 guesses_after schema capacity statement guesses outcome =
     cond (is_done outcome.answer.status) (noted_guesses schema capacity outcome.database statement guesses outcome.unit.currency.run_unit) guesses
 
--- the guesses with the owners that a turn back notes: where there is one it is the guess, elsewhere the guess stays
+-- the guesses with the owners that a turn back notes: an owner that it notes becomes the guess, elsewhere the guess stays
 abbrev pub with_owners : List (Option Owner) → List (Option Owner) → List (Option Owner)
 with_owners [] owners = owners
 with_owners (g ∷ guesses) [] = g ∷ guesses

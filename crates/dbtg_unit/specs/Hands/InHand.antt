@@ -1,4 +1,4 @@
--- What is read off the cells in hand.
+-- What is read from the held cells.
 -- k is a key, s a set, o an owner, t a record type, n a number, v a version, r a stored record, a an area, c the name of a cell.
 use Rattle.std.specs.Prelude.{ℕ, ◌+◌, not, ◌==◌, List, [], Option, Some, None, is_none, is_some, option_map, option_and_then, unwrap_or, if◌then◌else◌}
 use Rattle.std.specs.List.{list_any}
@@ -26,7 +26,7 @@ abbrev pub stored_of : ℕ → Option Cell → Option Stored
 stored_of generation (Some (SlotCell (Some stored))) = if stored.generation == generation then Some stored else None
 stored_of generation _ = None
 
--- the record k in hand; none where its slot is not in hand, or has no record or another
+-- the held record k; none if its slot is not held, or has no record or another
 abbrev pub stored_in : Hands → DbKey → Option Stored
 stored_in hands k = stored_of k.generation (cell_of (slot_name k) hands.cells)
 
@@ -40,7 +40,7 @@ abbrev pub occurrence_of : Owner → Option Cell → Option Occurrence
 occurrence_of o (Some (RingCell ring)) = of_owner o ring.occurrence
 occurrence_of o _ = None
 
--- the occurrence of o in set s in hand; none where its ring is not in hand, or has no owner or another
+-- the held occurrence of o in set s; none if its ring is not held, or has no owner or another
 abbrev pub occurrence_in : Hands → ℕ → Owner → Option Occurrence
 occurrence_in hands s o = occurrence_of o (cell_of (Ring s (place_of o)) hands.cells)
 
@@ -49,7 +49,7 @@ abbrev pub extent_of : Option Cell → Option ExtentView
 extent_of (Some (ExtentCell extent)) = Some extent
 extent_of _ = None
 
--- the extent of record type t in hand; none where it is not in hand
+-- the held extent of record type t; none if it is not held
 abbrev pub extent_in : Hands → ℕ → Option ExtentView
 extent_in hands t = extent_of (cell_of (Extent t) hands.cells)
 
@@ -58,7 +58,7 @@ abbrev pub numbers_of : Option Cell → List Number
 numbers_of (Some (ExtentCell extent)) = extent.numbers
 numbers_of _ = []
 
--- the numbers of record type t in hand; none where its extent is not in hand
+-- the numbers of record type t; none if its extent is not held
 abbrev pub numbers_in : Hands → ℕ → List Number
 numbers_in hands t = numbers_of (cell_of (Extent t) hands.cells)
 
@@ -67,7 +67,7 @@ abbrev pub usage_of : Option Cell → Option UsageView
 usage_of (Some (UsageCell usage)) = Some usage
 usage_of _ = None
 
--- the usage cell of area a in hand; none where it is not in hand
+-- the usage cell of area a; none if it is not held
 abbrev pub usage_in : Hands → ℕ → Option UsageView
 usage_in hands a = usage_of (cell_of (Usage a) hands.cells)
 
@@ -76,11 +76,11 @@ abbrev pub users_of : Option Cell → List (ℕ × Mode)
 users_of (Some (UsageCell usage)) = usage.users
 users_of _ = []
 
--- who has area a open, by the cells in hand; nobody where its usage cell is not in hand
+-- who has area a open, by the held cells; nobody where its usage cell is not held
 abbrev pub users_in : Hands → ℕ → List (ℕ × Mode)
 users_in hands a = users_of (cell_of (Usage a) hands.cells)
 
--- the items of the record k in hand
+-- the items of the held record k
 abbrev pub items_in : Hands → DbKey → List Value
 items_in hands k = unwrap_or (option_map (λ r. r.items) (stored_in hands k)) []
 
@@ -96,7 +96,7 @@ owner_in hands s k = option_and_then (λ r. at r.owners s) (stored_in hands k)
 abbrev pub next_key_of : List Number → ℕ → ℕ → DbKey
 next_key_of numbers t n = record { rtype = t; number = n; generation = last_of n numbers + 1 }
 
--- what the cells in hand answer
+-- what the held cells answer
 abbrev pub in_hand : Hands → View
 in_hand hands =
     record {

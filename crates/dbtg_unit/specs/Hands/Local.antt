@@ -13,7 +13,7 @@ use Rattle.dbtg_unit.specs.Hands.Hands.{Hands}
 use Rattle.std.specs.Prelude.{map}
 use Rattle.dbtg_cells.specs.Names.{name_eq}
 
--- a cell of this name is held
+-- a cell with this name is held
 abbrev pub holds : List (CellName × Cell) → CellName → Bool
 holds [] c = false
 holds (e ∷ es) c = cond (name_eq c e.0) true (holds es c)

@@ -36,6 +36,11 @@ abbrev pub CanMake : List CellEdit → List (CellName × Cell) → Type 0
 CanMake [] cells = ⊤
 CanMake (e ∷ es) cells = CanEditHeld e cells × ((y : Cell) → ShowsEdited e cells y → CanMake es (with_cell e.name y cells))
 
+-- what is held after edits in turn
+abbrev pub AreMade : List CellEdit → List (CellName × Cell) → List (CellName × Cell) → Type 0
+AreMade [] old new = new ≡ old
+AreMade (e ∷ es) old new = (y : Cell) × ShowsEdited e old y × AreMade es (with_cell e.name y old) new
+
 -- the statement needs nothing more on any database that agrees with what is held
 abbrev pub IsReady : Lists → ℕ → Unit → Hands → Statement → Type 0
 IsReady schema capacity unit hands statement = (db : Database) → Agrees schema capacity db hands unit → need schema capacity db unit hands statement ≡ Ready

@@ -67,7 +67,7 @@ abbrev pub found_slot : Result DbKey Cause → List CellName
 found_slot (Ok k) = slot_name k ∷ []
 found_slot (Err cause) = []
 
--- the cells of a FIND; behind a ring and extents comes the slot of what it finds
+-- the cells of a FIND; after a ring and extents comes the slot of what it finds
 abbrev pub find_cells : Lists → ℕ → Database → Unit → Form → List CellName
 find_cells schema capacity db unit (InSet which r s) = cells_to_find schema unit (InSet which r s) ++ found_slot (found schema capacity db unit (InSet which r s))
 find_cells schema capacity db unit (InArea which r a) = cells_to_find schema unit (InArea which r a) ++ found_slot (found schema capacity db unit (InArea which r a))
@@ -86,7 +86,7 @@ store_rings_of schema unit k s =
 abbrev pub store_rings : Lists → Unit → DbKey → List CellName
 store_rings schema unit k = flat_map (store_rings_of schema unit k) (set_numbers schema)
 
--- the cells of a STORE beside its extent; none where there is no key, or its CALC items are taken
+-- the cells of a STORE beside its extent; none if there is no key, or its CALC items are taken
 abbrev pub store_cells : Lists → Unit → Option DbKey → Bool → List CellName
 store_cells schema unit None taken = []
 store_cells schema unit (Some k) true = []
@@ -125,42 +125,41 @@ abbrev pub is_stale : Lists → ℕ → Database → Unit → List (Option Owner
 is_stale schema capacity db unit guesses statement =
     some_and (λ k. is_live db k && list_any (λ s. is_wrong_guess (owner_of schema capacity db s k) (at guesses s)) (guessed_sets schema unit statement)) unit.currency.run_unit
 
--- the owner of k in set s, where the set is needed and that owner is not the guess
+-- the owner of k in set s, if the set is needed and that owner is not the guess
 abbrev pub wrong_owner : Lists → ℕ → Database → List (Option Owner) → List ℕ → DbKey → ℕ → Option Owner
 wrong_owner schema capacity db guesses needed k s =
     let truth = owner_of schema capacity db s k in
     if list_any (λ s'. s' == s) needed && is_wrong_guess truth (at guesses s) then truth else None
 
--- by set, the owners against which the guesses stand, and none elsewhere
+-- by set, the owners that differ from the guesses; none elsewhere: what a statement notes whose guesses are stale
 abbrev pub stale_owners : Lists → ℕ → Database → Unit → List (Option Owner) → Statement → List (Option Owner)
 stale_owners schema capacity db unit guesses statement =
     unwrap_or (option_map (λ k. map (wrong_owner schema capacity db guesses (guessed_sets schema unit statement) k) (set_numbers schema)) unit.currency.run_unit) []
 
--- the cell of this name is not in hand
+-- the cell with this name is not held
 abbrev pub is_missing : Hands → CellName → Bool
 is_missing hands c = not (list_any (λ e. name_eq c e.0) hands.cells)
 
--- the first of some cells that is not in hand
+-- the first of some cells that is not held
 abbrev pub first_missing : Hands → List CellName → Option CellName
 first_missing hands = find (is_missing hands)
 
--- the first area, and then the first cell, that is not in hand; then a wrong guess
-abbrev pub next_of : Option ℕ → Option CellName → Bool → List (Option Owner) → Need
-next_of (Some a) c stale owners = Area a
-next_of None (Some c) stale owners = Take c
-next_of None None true owners = Stale owners
-next_of None None false owners = Ready
+-- the first area, and then the first cell, that is not held; then a wrong guess
+abbrev pub next_of : Option ℕ → Option CellName → Bool → Need
+next_of (Some a) c stale = Area a
+next_of None (Some c) stale = Take c
+next_of None None true = Stale
+next_of None None false = Ready
 
--- what is needed next, where no check without cells refuses
+-- what is needed next, if no check without cells refuses
 abbrev pub need_of_cells : Lists → ℕ → Database → Unit → Hands → Statement → Need
 need_of_cells schema capacity db unit hands statement =
     next_of
     (find (λ a. not (list_any (λ b. b == a) hands.areas)) (areas_in_order schema unit statement))
     (first_missing hands (cells_of schema capacity db unit hands.guesses statement))
     (is_stale schema capacity db unit hands.guesses statement)
-    (stale_owners schema capacity db unit hands.guesses statement)
 
--- what a statement needs next, where the cells in hand are this database's
+-- what a statement needs next, if the held cells are this database's
 unfoldable pub need : Lists → ℕ → Database → Unit → Hands → Statement → Need
 need schema capacity db unit hands statement =
     if is_some (refused_at_once schema capacity unit statement) then Ready else need_of_cells schema capacity db unit hands statement

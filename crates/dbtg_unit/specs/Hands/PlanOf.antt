@@ -1,4 +1,4 @@
--- What each statement plans, a line for each, over a view: so a plan stands once, for a whole database and for the cells in hand.
+-- What each statement plans, a line for each, over a view: so the same text serves a whole database and the held cells.
 -- First edits of rings and slots and plans that change no cell; then STORE, INSERT, REMOVE and MODIFY; at the end `done_plan_of`, a line for each
 -- statement, and `plan_of`, which puts the checks before it.
 -- k is a key, m a new member, o an owner, s a set, a an area.
@@ -33,7 +33,7 @@ use Rattle.dbtg_unit.specs.Database.Statements.Conditions.{changed_items, joined
 use Rattle.dbtg_unit.specs.Database.Statements.View.{View}
 use Rattle.dbtg_unit.specs.Hands.Prepared.{Plan, refusal}
 
--- these edits of the ring of an owner, where there is one
+-- these edits of the ring of an owner, if there is one
 abbrev pub ring_edits : ℕ → Option Owner → List Edit → List CellEdit
 ring_edits s None edits = []
 ring_edits s (Some o) edits = map (λ edit. record { name = Ring s (place_of o); edit = edit }) edits
@@ -59,7 +59,7 @@ done_answer = record { status = Done; key = None; items = None }
 abbrev pub done_plan : UnitEdit → Option DbKey → Option (List Value) → Plan
 done_plan change key items = record { answer = record { status = Done; key = key; items = items }; cells = []; versions = []; unit = change }
 
--- area a is open for the unit in a mode, or no more: an edit of its usage cell, and the unit's mode
+-- area a is opened for the unit in a mode, or closed: an edit of its usage cell, and the unit's mode
 abbrev pub mode_plan : ℕ → Edit → Option Mode → Plan
 mode_plan a edit mode = record { answer = done_answer; cells = record { name = Usage a; edit = edit } ∷ []; versions = []; unit = SetMode a mode }
 
@@ -82,7 +82,7 @@ store_edits schema unit k items =
     ++ (flat_map (λ s. record { name = Ring s (Some (k.rtype, k.number)); edit = OpenRing (Rec k) } ∷ []) (filter (λ s. owns schema s k.rtype) (set_numbers schema))
     ++ slot_edit k (Fill k.generation items (first_owners schema unit k.rtype)) ∷ []))
 
--- STORE of k: it is stored, and seen
+-- STORE of k: it is stored, and becomes current
 abbrev pub storing : Lists → Unit → List Value → Suppress → DbKey → Plan
 storing schema unit items suppress k = record {
   answer = record { status = Done; key = Some k; items = None };
@@ -91,7 +91,7 @@ storing schema unit items suppress k = record {
   unit = See k (first_owners schema unit k.rtype) suppress;
 }
 
--- INSERT of k: its place in the current occurrence, its owner, its version; it is current of the set
+-- INSERT of k: its place in the current occurrence, its owner, its version; it becomes current of the set
 abbrev pub inserting : Lists → View → Unit → ℕ → DbKey → Plan
 inserting schema view unit s k = record {
   answer = done_answer;
@@ -109,17 +109,17 @@ removing view s k = record {
   unit = Leave s;
 }
 
--- k, out of its list of set s and placed anew by its new sort key
+-- k, out of its list of set s and placed again by its new sort key
 abbrev pub replacing_edits : Lists → View → Unit → DbKey → List Value → ℕ → List CellEdit
 replacing_edits schema view unit k items s =
     ring_edits s (view.owner s k) (ReplaceMember (order_of schema s) (option_and_then (λ place. place.at) (place_in schema unit s)) k (key_item schema s k.rtype items) ∷ [])
 
--- the CALC values of k, where an item among them is named
+-- the CALC values of k, if an item among them is named
 abbrev pub calc_edits : Lists → List Change → DbKey → List Value → List CellEdit
 calc_edits schema changes k items =
     if names_calc schema k.rtype changes then record { name = Extent k.rtype; edit = ChangeNumber k.number (calc_items schema k.rtype items) } ∷ [] else []
 
--- k has these items now: its CALC values, its places where a sort key is named, its items, its version
+-- k gets these items: its CALC values, its places if a sort key is named, its items, its version
 abbrev pub modify_edits : Lists → View → Unit → List Change → DbKey → List Value → List CellEdit
 modify_edits schema view unit changes k items =
     calc_edits schema changes k items
@@ -135,7 +135,7 @@ modifying schema view unit changes k = record {
   unit = Same;
 }
 
--- what is planned about a current, where there is one
+-- what is planned about a current, if there is one
 abbrev pub planned_on_current : Option DbKey → (DbKey → Plan) → Plan
 planned_on_current None plan = refusal NoCurrentOfRunUnit
 planned_on_current (Some k) plan = plan k

@@ -72,7 +72,7 @@ guesses_edited _ guesses = guesses
 abbrev pub values_of : List (CellName × Cell) → List (CellName × CellValue)
 values_of = map (λ e. (e.0, shown e.1))
 
--- what the held cells show after an edit of the one of its name
+-- what the held cells show after an edit of the one with its name
 abbrev pub value_edited : CellEdit → List (CellName × CellValue) → List (CellName × CellValue)
 value_edited e [] = []
 value_edited e (v ∷ vs) = cond (name_eq e.name v.0) ((v.0, edited e.edit v.1) ∷ vs) (v ∷ value_edited e vs)
@@ -89,7 +89,7 @@ pub record IsEffect (schema : Lists) (capacity : ℕ) (db : Database) (unit : Un
   pub guesses_are : guesses_edited plan.unit guesses ≡ guesses_after schema capacity statement guesses (effect schema capacity db unit statement)
   pub cells : (c : CellName) → cell schema capacity (effect schema capacity db unit statement).database c ≡ edited_at c plan.cells (cell schema capacity db c)
 
--- the plan changes held cells alone, and is the statement's effect on every database that agrees with what is held
+-- the plan changes only held cells, and is the statement's effect on every database that agrees with what is held
 pub record IsPrepared (schema : Lists) (capacity : ℕ) (unit : Unit) (hands : Hands) (statement : Statement) (plan : Plan) : Type 0 where
   pub held : (db : Database) → Agrees schema capacity db hands unit → list_all (λ (e : CellEdit). holds hands.cells e.name) plan.cells ≡ true
   pub effects : (db : Database) → Agrees schema capacity db hands unit → IsEffect schema capacity db unit hands.guesses statement plan

@@ -10,25 +10,25 @@ use Rattle.dbtg_cells.specs.Members.{has_room, keys_in}
 use Rattle.dbtg_cells.specs.Names.{name_eq}
 use Rattle.dbtg_unit.specs.Hands.Hands.{cell_of}
 
--- a ring has room for k, where k is no member
+-- a ring has room for k, unless k is a member
 abbrev pub CanTakeMember : DbKey → Cell → Type 0
 CanTakeMember k (RingCell ring) = is_member k (keys_in ring.occurrence) ≡ false → IsTrue (has_room ring k)
 CanTakeMember k _ = ⊤
 
--- a usage cell has room for one more user
+-- a usage cell has room for another user
 abbrev pub CanTakeUser : Cell → Type 0
 CanTakeUser (UsageCell usage) = 0 < usage.room
 CanTakeUser _ = ⊤
 
--- so it is with the held cell of this name, where one is held
+-- the same for the held cell with this name, if there is one
 abbrev pub OfHeld : CellName → List (CellName × Cell) → (Cell → Type 0) → Type 0
 OfHeld c cells holds = (x : Cell) → cell_of c cells ≡ Some x → holds x
 
--- all cells but the one of this name are as they were
+-- all cells but the one with this name are as they were
 abbrev pub KeepsOthers : CellName → List (CellName × Cell) → List (CellName × Cell) → Type 0
 KeepsOthers c old new = (d : CellName) → name_eq d c ≡ false → cell_of d new ≡ cell_of d old
 
--- what each held cell could take before it can take still
+-- what each held cell had room for it still has room for
 pub record KeepRoom (old new : List (CellName × Cell)) : Type 0 where
   pub members : (c : CellName) (k : DbKey) → OfHeld c old (CanTakeMember k) → OfHeld c new (CanTakeMember k)
   pub users : (c : CellName) → OfHeld c old CanTakeUser → OfHeld c new CanTakeUser

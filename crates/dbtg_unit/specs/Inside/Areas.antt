@@ -1,4 +1,4 @@
--- What is asked of the areas of a statement.
+-- The questions about the areas of a statement.
 use Rattle.std.specs.Prelude.{ℕ, Bool, not, ◌==◌, is_none, List, Option}
 use Rattle.dbtg_cells.specs.declared.usage.Mode.{Mode}
 use Rattle.dbtg_schema.specs.Lookups.{at, some_and}

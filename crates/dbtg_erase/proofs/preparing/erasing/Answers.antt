@@ -5,6 +5,6 @@ use Rattle.dbtg_erase.proofs.preparing.erasing.Goals as goal
 
 pub returns : goal.returns
 returns c =
-    c.new.ensures
-    ∙ plan_from c.args.schema.now c.args.held.now c.args.key.now (gone_in c.args.schema.now c.args.capacity c.args.held.now c.args.option c.args.key.now) _ _ _
-    c.in_ok-gone.ensures c.in_ok-cells.ensures.cells c.in_ok-cells.ensures.versions
+    c.erasing.ensures
+    ∙ plan_from c.args.schema.now c.args.held.now c.args.key.now (gone_in c.args.schema.now c.args.capacity c.args.held.now c.args.option c.args.key.now) _ _ _ _
+    c.in_ok-gone.ensures c.in_ok-erased.ensures c.in_ok-cells.ensures.cells c.in_ok-cells.ensures.versions

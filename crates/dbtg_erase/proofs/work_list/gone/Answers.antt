@@ -1,4 +1,4 @@
-use Rattle.std.proofs.Common.{◌≡◌, sym, ◌∙◌, ap, subst, ◌+◌, ◌-◌, ◌*◌, ◌<◌, Some}
+use Rattle.std.proofs.Common.{◌≡◌, sym, ◌∙◌, ap, subst, ◌+◌, ◌-◌, ◌<◌, Some}
 use Rattle.std.specs.Prelude.{slice_get}
 use Rattle.dbtg_unit.specs.Hands.Erasing.{brought, with_those}
 use Rattle.dbtg_erase.specs.WorkList.{most_gone, taken_in}
@@ -17,9 +17,7 @@ loop-place-preserved c =
     let most = most_gone c.args.schema.now c.args.capacity in
     let at : slice_get c.loop-place.gone c.loop-place.place ≡ Some d = sym c.get.ensures ∙ c.in-Some.is in
     let brings : c.bring.new.gone ≡ with_those c.loop-place.gone (taken d) = c.in_ok-bring-in-Some.ensures in
-    let many : c.type_count.result * c.args.capacity ≡ most = ap (λ n. n * c.args.capacity) c.type_count.ensures.count in
-    let before : c.loop-place.place < c.type_count.result * c.args.capacity = c.loop-place-test.true in
-    let below : c.loop-place.place < most = subst (λ n. c.loop-place.place < n) many before in
+    let below : c.loop-place.place < most = subst (λ n. c.loop-place.place < n) c.most_gone-most.ensures c.loop-place-test.true in
     ap (λ gone. brought taken (most - (c.loop-place.place + 1)) (c.loop-place.place + 1) gone) brings
     ∙ sym (brought_next taken most c.loop-place.place c.loop-place.gone d below at)
     ∙ c.loop-place.invariant

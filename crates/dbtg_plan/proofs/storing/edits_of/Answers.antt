@@ -1,13 +1,13 @@
-use Rattle.std.proofs.Common.{◌≡◌, ◌++◌, ◌∷◌, [], ◌∙◌, ap, List, Option}
+use Rattle.std.proofs.Common.{◌++◌, ◌∷◌, [], ◌∙◌, ap, List, Option}
 use Rattle.std.specs.List.{flat_map}
 use Rattle.dbtg_schema.specs.Structure.{automatic_sets}
 use Rattle.dbtg_cells.specs.declared.key.Owner.{Owner}
 use Rattle.dbtg_cells.specs.declared.key.Value.{Value}
-use Rattle.dbtg_cells.specs.declared.name.CellName.TheVariants.{Extent}
 use Rattle.dbtg_unit.specs.declared.edit.CellEdit.{CellEdit}
-use Rattle.dbtg_unit.specs.declared.edit.Edit.TheVariants.{EnterNumber, Fill}
-use Rattle.dbtg_unit.specs.Database.State.Base.{calc_items, key_item}
+use Rattle.dbtg_unit.specs.declared.edit.Edit.TheVariants.{Fill}
+use Rattle.dbtg_unit.specs.Database.State.Base.{key_item}
 use Rattle.dbtg_unit.specs.Hands.EditsOf.{joining_edits, slot_edit}
+use Rattle.dbtg_plan.specs.Inside.Store.{entering_edit}
 use Rattle.dbtg_plan.proofs.Store.StoreSteps.{edits_pushed}
 use Rattle.dbtg_plan.proofs.storing.edits_of.Goals as goal
 
@@ -16,11 +16,9 @@ returns c =
     let schema = c.args.schema.now in
     let unit = c.args.unit.now in
     let k = c.args.key.now in
-    let entry : List Value → CellEdit = λ calc. record { name = Extent k.rtype; edit = EnterNumber k.number calc } in
-    let calc : c.in_ok-calc.calc ≡ calc_items schema k.rtype c.args.items.now = c.in_ok-calc.ensures ∙ ap (calc_items schema k.rtype) c.as_slice.ensures in
     c.of.ensures
     ∙ edits_pushed schema unit k c.args.items.now c.push.new.self.items c.push_joins.new.edits.items c.push_openings.new.edits.items c.push-2.new.self.items
-    (c.in_ok-push.ensures.items ∙ (λ i. c.in_ok-edits.ensures.items i ++ entry (calc i) ∷ []))
+    (c.in_ok-push.ensures.items ∙ (λ i. c.in_ok-edits.ensures.items i ++ (c.in_ok-entering.ensures ∙ ap (entering_edit schema k) c.as_slice.ensures) i ∷ []))
     (c.in_ok-push_joins.ensures ∙ ap (λ (items : List Value). c.push.new.self.items ++ flat_map (λ s. joining_edits schema unit s k (key_item schema s k.rtype items)) (automatic_sets schema k.rtype)) c.as_slice-2.ensures)
     c.in_ok-push_openings.ensures
     (c.in_ok-push-2.ensures.items ∙ ap (λ (e : CellEdit). c.push_openings.new.edits.items ++ e ∷ []) (c.in_ok-filling.ensures ∙ ap (λ (owners : List (Option Owner)). slot_edit k (Fill k.generation c.args.items.now owners)) c.requires))

@@ -1,7 +1,7 @@
 use Rattle.std.proofs.Common.{sym, ap, subst}
 use Rattle.atomic_table.specs.Table.{Joins}
 use Rattle.dbtg_run.specs.declared.view.SeatKnowledge.{SeatKnowledge}
-use Rattle.dbtg_run.specs.Inside.LatchRule.{LatchRule, Sat, gathered, spent}
+use Rattle.dbtg_run.specs.Inside.LatchRule.{LatchRule, Sat, gathered, vacated}
 use Rattle.dbtg_run.proofs.TheRule.Ends.{joins}
 use Rattle.dbtg_run.proofs.seats.join_to.Goals as goal
 
@@ -12,5 +12,5 @@ join_seat-requires c =
       c.requires.tables.1,
       ap (λ (y : Sat). y.1) one.1,
       c.requires.tables.2,
-      subst (λ (t : SeatKnowledge × SeatKnowledge). Joins (LatchRule key) c.args.seat.now.id t.0 c.args.other.id t.1 (gathered t.0 t.1) spent) (λ i. (sym live.1 i, (sym one.1 i).0)) (joins key c.args.seat.now.id c.args.other.id one.0 live.0),
+      subst (λ (t : SeatKnowledge × SeatKnowledge). Joins (LatchRule key) c.args.seat.now.id t.0 c.args.other.id t.1 (gathered t.0 t.1) vacated) (λ i. (sym live.1 i, (sym one.1 i).0)) (joins key c.args.seat.now.id c.args.other.id one.0 live.0),
     )

@@ -1,17 +1,8 @@
-use Rattle.std.proofs.Common.{sym, subst}
 use Rattle.std.proofs.lemmas.Result.{IfOk-weaker}
-use Rattle.dbtg_unit.specs.Hands.Locality.{IsMadeOn}
-use Rattle.dbtg_unit.proofs.Public.{agrees_same}
 use Rattle.dbtg_step.proofs.drawing.make.Goals as goal
 
-pub finish-requires : goal.finish-requires
-finish-requires c =
-    let some = c.requires.agrees in
-    c.in_ok-prepared.ensures.prepared.can_make some.0 (agrees_same c.args.schema.now c.args.capacity some.0 c.args.unit.now c.args.held.now c.prepare.new.held c.prepare.ensures.shows some.1)
+pub returns-then-is_made_at_once-clause-made : goal.returns-then-is_made_at_once-clause-made
+returns-then-is_made_at_once-clause-made c = IfOk-weaker c.make_at_once.result _ _ (λ answer made db agrees. made c.requires.once db agrees) c.make_at_once.ensures.made
 
-pub returns-clause-made : goal.returns-clause-made
-returns-clause-made c db agrees =
-    subst (IsMadeOn c.args.schema.now c.args.capacity db c.args.unit.now c.args.held.now c.args.statement.now) (sym c.finish.ensures.made) (c.in_ok-prepared.ensures.made c.requires.once db agrees)
-
-pub returns-then-looks_alone-clause-made : goal.returns-then-looks_alone-clause-made
-returns-then-looks_alone-clause-made c = IfOk-weaker c.look.result _ _ (λ answer made db agrees. made c.requires.once db agrees) c.look.ensures.made
+pub returns-else-is_made_at_once-clause-made : goal.returns-else-is_made_at_once-clause-made
+returns-else-is_made_at_once-clause-made c = IfOk-weaker c.make_by_plan.result _ _ (λ answer made db agrees. made c.requires.once db agrees) c.make_by_plan.ensures.made

@@ -1,38 +1,38 @@
-use Rattle.std.proofs.Common.{◌∙◌, ap, sym, subst, ◌++◌, ◌∷◌, [], append_assoc}
-use Rattle.std.specs.Vec.Iter.{into_iter_items}
-use Rattle.std.proofs.lemmas.List.{map-append}
-use Rattle.dbtg_cells.specs.declared.cell.Cell.{Cell}
-use Rattle.dbtg_cells.specs.declared.name.CellName.{CellName}
-use Rattle.dbtg_cells.specs.CellNumbers.{cells_in_order}
+use Rattle.std.proofs.Common.{◌≡◌, ◌∙◌, ap, sym, subst, Some}
+use Rattle.std.specs.Prelude.{slice_get}
+use Rattle.dbtg_cells.proofs.Public.{numbered_at}
 use Rattle.dbtg_unit.specs.Database.State.Base.{opening}
 use Rattle.dbtg_unit.specs.Hands.Hands.{Hands}
 use Rattle.dbtg_unit.specs.Hands.Local.{AllAgree, names_of}
-use Rattle.dbtg_step.proofs.TheCore.OpeningShown.{agree_more, not_yet}
+use Rattle.dbtg_step.specs.Core.Openings.{homes_of, homes_shown}
+use Rattle.dbtg_step.proofs.TheCore.OpeningShown.{agree_beside, as_many, names_beside}
 use Rattle.dbtg_step.proofs.opening_parts.hold_opening_cells.Goals as goal
 
-pub loop-name-preserved : goal.loop-name-preserved
-loop-name-preserved c =
-    let schema = c.args.schema.now in
-    let capacity = c.args.capacity in
-    let was = c.loop-name.invariant in
-    let pushed = c.in_ok-push_cell.ensures.ok in
-    let left = c.in-Some.ensures.steps.0 in
-    record {
-      areas = ap (λ (h : Hands). h.areas) pushed ∙ was.areas;
-      names =
-          ap (λ (h : Hands). names_of h.cells ++ into_iter_items c.next.new.self) pushed
-          ∙ ap (λ ns. ns ++ into_iter_items c.next.new.self) (map-append (λ (e : CellName × Cell). e.0) c.loop-name.held.cells ((c.in-Some.name, c.in_ok-cell.cell) ∷ []))
-          ∙ append_assoc (names_of c.loop-name.held.cells) (c.in-Some.name ∷ []) (into_iter_items c.next.new.self)
-          ∙ ap (λ ns. names_of c.loop-name.held.cells ++ ns) (sym left)
-          ∙ was.names;
-      agree = λ a. subst (λ (h : Hands). AllAgree schema capacity (opening schema) h.cells) (sym pushed) (agree_more schema capacity c.loop-name.held.cells c.in-Some.name c.in_ok-cell.cell c.in_ok-cell.ensures (was.agree a));
-    }
+pub numbered-requires-clause-numbered : goal.numbered-requires-clause-numbered
+numbered-requires-clause-numbered c =
+    λ n name within e. c.of-layout.ensures name n (numbered_at c.args.schema.now c.args.capacity n name (subst (λ names. slice_get names n ≡ Some name) c.in_ok-names.ensures e))
 
-pub push_cell-requires : goal.push_cell-requires
-push_cell-requires c =
+pub numbered-requires-clause-named : goal.numbered-requires-clause-named
+numbered-requires-clause-named c =
     let schema = c.args.schema.now in
     let capacity = c.args.capacity in
-    not_yet schema capacity c.loop-name.held.cells c.in-Some.name (into_iter_items c.next.new.self)
-    (ap (λ ns. names_of c.loop-name.held.cells ++ ns) (sym c.in-Some.ensures.steps.0) ∙ c.loop-name.invariant.names
-    ∙ ap (λ (h : Hands). names_of h.cells ++ cells_in_order schema capacity) c.reserve_cells.ensures
-    ∙ ap (λ cells. names_of cells ++ cells_in_order schema capacity) c.requires)
+    let shows : homes_shown c.in_ok-cells.cells.items ≡ homes_of schema capacity c.in_ok-names.names.items = c.in_ok-cells.ensures ∙ ap (homes_of schema capacity) c.as_slice.ensures.value in
+    as_many schema capacity c.in_ok-names.names.items c.in_ok-cells.cells.items shows
+
+pub returns-clause-names : goal.returns-clause-names
+returns-clause-names c =
+    let schema = c.args.schema.now in
+    let capacity = c.args.capacity in
+    let names = c.in_ok-names.names.items in
+    let cells = c.in_ok-cells.cells.items in
+    let shows : homes_shown cells ≡ homes_of schema capacity names = c.in_ok-cells.ensures ∙ ap (homes_of schema capacity) c.as_slice.ensures.value in
+    ap (λ (h : Hands). names_of h.cells) c.numbered.ensures ∙ names_beside schema capacity names cells (as_many schema capacity names cells shows) ∙ c.in_ok-names.ensures
+
+pub returns-clause-cells : goal.returns-clause-cells
+returns-clause-cells c =
+    let schema = c.args.schema.now in
+    let capacity = c.args.capacity in
+    let names = c.in_ok-names.names.items in
+    let cells = c.in_ok-cells.cells.items in
+    let shows : homes_shown cells ≡ homes_of schema capacity names = c.in_ok-cells.ensures ∙ ap (homes_of schema capacity) c.as_slice.ensures.value in
+    subst (λ (h : Hands). AllAgree schema capacity (opening schema) h.cells) (sym c.numbered.ensures) (agree_beside schema capacity names cells shows)

@@ -1,8 +1,8 @@
-use Rattle.std.proofs.Common.{◌≡◌, Some, slice_get, length, refl, sym, subst, inl, inr, ◌∙◌, ◌-◌, arith}
+use Rattle.std.proofs.Common.{◌≡◌, Some, slice_get, length, refl, sym, inl, inr, ◌∙◌, ◌-◌, arith}
 use Rattle.std.proofs.lemmas.Option.{same_Some, slice_get_read}
-use Rattle.dbtg_step.specs.declared.parts.Runner.{Runner}
-use Rattle.dbtg_step.specs.Inside.Stands.{StandsNeeding}
-use Rattle.dbtg_step.proofs.TheCore.EventsShown.{has_statement}
+use Rattle.dbtg_step.specs.declared.parts.StatementProgress.{StatementProgress}
+use Rattle.dbtg_step.specs.Inside.Stands.{StandsNeeding, StandsTicketed, StandsTurning}
+use Rattle.dbtg_step.proofs.TheCore.EventsShown.{has_statement, stands_so}
 use Rattle.dbtg_step.proofs.TheCore.WaitingShown.{between_waits, no_unit_waits, over_waits, ticketed_waits, turning_waits}
 use Rattle.dbtg_step.proofs.waiting.awaited_of.Goals as goal
 use Rattle.dbtg_step.proofs.waiting.awaited_of.Goals.{then-unit-eq0-via-then-unit-eq0, then-unit-eq0-via-else-unit-eq0+then-len-unit}
@@ -15,36 +15,36 @@ returns-then-unit-eq0 c =
 pub returns-in-Over : goal.returns-in-Over
 returns-in-Over c =
     let items = c.args.parts.now.runners.items in
-    let at : slice_get items (c.args.unit - 1) ≡ Some c.index.result.now = slice_get_read items (length items) (c.args.unit - 1) c.index.result.now refl (omega arith) c.index.ensures in
-    over_waits c.args.schema.now c.args.capacity c.args.unit c.args.parts.now c.requires.well c.index.result.now (omega arith) at (rw c.in-Over.is at c.phase_of.ensures)
+    let at : slice_get items (c.args.unit - 1) ≡ Some c.index-runner.result.now = slice_get_read items (length items) (c.args.unit - 1) c.index-runner.result.now refl (omega arith) c.index-runner.ensures in
+    over_waits c.args.schema.now c.args.capacity c.args.unit c.args.parts.now c.requires.well c.index-runner.result.now (omega arith) at (rw c.in-Over.is at c.phase_of.ensures)
 
 pub returns-in-Between : goal.returns-in-Between
 returns-in-Between c =
     let items = c.args.parts.now.runners.items in
-    let at : slice_get items (c.args.unit - 1) ≡ Some c.index.result.now = slice_get_read items (length items) (c.args.unit - 1) c.index.result.now refl (omega arith) c.index.ensures in
-    between_waits c.args.schema.now c.args.capacity c.args.unit c.args.parts.now c.requires.well c.index.result.now (omega arith) at (rw c.in-Between.is at c.phase_of.ensures)
+    let at : slice_get items (c.args.unit - 1) ≡ Some c.index-runner.result.now = slice_get_read items (length items) (c.args.unit - 1) c.index-runner.result.now refl (omega arith) c.index-runner.ensures in
+    between_waits c.args.schema.now c.args.capacity c.args.unit c.args.parts.now c.requires.well c.index-runner.result.now (omega arith) at (rw c.in-Between.is at c.phase_of.ensures)
 
 pub returns-in-TurningBack : goal.returns-in-TurningBack
 returns-in-TurningBack c =
     let items = c.args.parts.now.runners.items in
-    let at : slice_get items (c.args.unit - 1) ≡ Some c.index.result.now = slice_get_read items (length items) (c.args.unit - 1) c.index.result.now refl (omega arith) c.index.ensures in
-    turning_waits c.args.schema.now c.args.capacity c.args.unit c.args.parts.now c.requires.well c.index.result.now (omega arith) at _ (rw c.in-TurningBack.is at c.phase_of.ensures)
+    let at : slice_get items (c.args.unit - 1) ≡ Some c.index-runner.result.now = slice_get_read items (length items) (c.args.unit - 1) c.index-runner.result.now refl (omega arith) c.index-runner.ensures in
+    turning_waits c.args.schema.now c.args.capacity c.args.unit c.args.parts.now c.requires.well c.index-runner.result.now (omega arith) at _ (let stands : (w : StatementProgress) × StandsTurning c.index-runner.result.now w = rw c.in-TurningBack.is at c.phase_of.ensures in stands.1)
 
 pub returns-in-Ticketed : goal.returns-in-Ticketed
 returns-in-Ticketed c =
     let items = c.args.parts.now.runners.items in
-    let at : slice_get items (c.args.unit - 1) ≡ Some c.index.result.now = slice_get_read items (length items) (c.args.unit - 1) c.index.result.now refl (omega arith) c.index.ensures in
-    ticketed_waits c.args.schema.now c.args.capacity c.args.unit c.args.parts.now c.requires.well c.index.result.now (omega arith) at _ (rw c.in-Ticketed.is at c.phase_of.ensures)
+    let at : slice_get items (c.args.unit - 1) ≡ Some c.index-runner.result.now = slice_get_read items (length items) (c.args.unit - 1) c.index-runner.result.now refl (omega arith) c.index-runner.ensures in
+    ticketed_waits c.args.schema.now c.args.capacity c.args.unit c.args.parts.now c.requires.well c.index-runner.result.now (omega arith) at _ (let stands : (w : StatementProgress) × StandsTicketed c.index-runner.result.now w = rw c.in-Ticketed.is at c.phase_of.ensures in stands.1)
 
 pub awaited_by_needing-requires-clause-stands : goal.awaited_by_needing-requires-clause-stands
 awaited_by_needing-requires-clause-stands c r is =
     let items = c.args.parts.now.runners.items in
-    let at : slice_get items (c.args.unit - 1) ≡ Some c.index.result.now = slice_get_read items (length items) (c.args.unit - 1) c.index.result.now refl (omega arith) c.index.ensures in
-    let same : c.index.result.now ≡ r = same_Some _ r (sym at ∙ is) in
-    subst (λ (x : Runner). StandsNeeding x c.in-Needing.progress) same (rw c.in-Needing.is at c.phase_of.ensures)
+    let at : slice_get items (c.args.unit - 1) ≡ Some c.index-runner.result.now = slice_get_read items (length items) (c.args.unit - 1) c.index-runner.result.now refl (omega arith) c.index-runner.ensures in
+    let same : c.index-runner.result.now ≡ r = same_Some _ r (sym at ∙ is) in
+    stands_so StandsNeeding (λ x w s. s.before.progress) same (rw c.in-Needing.is at c.phase_of.ensures) c.progress_of-progress.ensures
 
 pub phase_of-requires : goal.phase_of-requires
 phase_of-requires c =
     let items = c.args.parts.now.runners.items in
-    let at : slice_get items (c.args.unit - 1) ≡ Some c.index.result.now = slice_get_read items (length items) (c.args.unit - 1) c.index.result.now refl (omega arith) c.index.ensures in
-    has_statement c.args.schema.now c.args.capacity c.args.unit c.args.parts.now c.requires.well c.index.result.now (omega arith) at
+    let at : slice_get items (c.args.unit - 1) ≡ Some c.index-runner.result.now = slice_get_read items (length items) (c.args.unit - 1) c.index-runner.result.now refl (omega arith) c.index-runner.ensures in
+    has_statement c.args.schema.now c.args.capacity c.args.unit c.args.parts.now c.requires.well c.index-runner.result.now (omega arith) at

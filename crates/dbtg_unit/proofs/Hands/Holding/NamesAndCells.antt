@@ -1,9 +1,11 @@
 -- Names and cells side by side.
-use Rattle.std.proofs.Common.{◌≡◌, refl, sym, ◌∙◌, ap, ℕ, suc, ◌+◌, true, false, cond, List, [], ◌∷◌, ◌++◌, Some, None, length, inl, inr, arith}
-use Rattle.std.specs.Prelude.{map, slice_get, slice_set, is_some}
+use Rattle.std.proofs.Common.{◌≡◌, refl, sym, ◌∙◌, ap, ℕ, suc, ◌+◌, ◌-◌, true, false, cond, List, [], ◌∷◌, ◌++◌, Some, None, length, inl, inr, arith}
+use Rattle.std.specs.Prelude.{map, option_map, slice_get, slice_set, is_some}
 use Rattle.std.specs.List.{position_from, zip}
 use Rattle.std.proofs.lemmas.Bool.{cases_Bool}
-use Rattle.std.proofs.lemmas.List.{length-append}
+use Rattle.std.proofs.lemmas.List.{length-append, length-map}
+use Rattle.std.proofs.lemmas.Map.Made.{keys_of-zip}
+use Rattle.std.proofs.lemmas.Option.{slice_get-map}
 use Rattle.dbtg_cells.specs.declared.name.CellName.{CellName}
 use Rattle.dbtg_cells.specs.declared.cell.Cell.{Cell}
 use Rattle.dbtg_cells.specs.Names.{name_eq}
@@ -117,3 +119,12 @@ cells_beside (m ∷ ms) (y ∷ ys) h = ap (λ l. y ∷ l) (cells_beside ms ys (o
 pub holds_there : (cells : List (CellName × Cell)) (c : CellName) → is_some (cell_of c cells) ≡ holds cells c
 holds_there [] c = refl
 holds_there (e ∷ es) c = elim (name_eq c e.0) as (λ b. is_some (cond b (Some e.1) (cell_of c es)) ≡ cond b true (holds es c)) [ true ↦ refl | false ↦ holds_there es c ]
+
+-- the last name is that of the last cell
+pub last_name : (names : List CellName) (cells : List Cell) → length cells ≡ length names
+    → slice_get names (length names - 1) ≡ option_map (λ (e : CellName × Cell). e.0) (slice_get (zip names cells) (length (zip names cells) - 1))
+last_name names cells same =
+    let keys : map (λ (e : CellName × Cell). e.0) (zip names cells) ≡ names = keys_of-zip names cells same in
+    sym (ap (λ ns. slice_get ns (length ns - 1)) keys)
+    ∙ slice_get-map (λ (e : CellName × Cell). e.0) (zip names cells) (length (map (λ (e : CellName × Cell). e.0) (zip names cells)) - 1)
+    ∙ ap (λ n. option_map (λ (e : CellName × Cell). e.0) (slice_get (zip names cells) (n - 1))) (length-map (zip names cells) (λ (e : CellName × Cell). e.0))

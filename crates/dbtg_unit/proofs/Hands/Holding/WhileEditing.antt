@@ -1,8 +1,9 @@
 -- What is held while edits are made of it.
 -- e is an edit of a cell, c and d names of cells, x and y cells, db a database.
-use Rattle.std.proofs.Common.{◌≡◌, refl, sym, ◌∙◌, ap, subst, ℕ, ◌+◌, ◌<◌, Bool, true, false, cond, not, List, [], ◌∷◌, ◌++◌, map, Option, Some, None, inl, inr}
+use Rattle.std.proofs.Common.{◌≡◌, refl, sym, ◌∙◌, ap, subst, ℕ, ◌+◌, ◌<◌, Bool, true, false, cond, not, List, [], ◌∷◌, ◌++◌, map, drop, get_or, length, Option, Some, None, inl, inr}
 use Rattle.std.specs.Prelude.{◌^◌, ⊤}
 use Rattle.std.specs.List.{flat_map, list_all}
+use Rattle.std.proofs.lemmas.List.{drop_more}
 use Rattle.std.proofs.lemmas.Bool.{and_parts, cases_Bool, false_from_ne_true, false≢true, not-true}
 use Rattle.dbtg_cells.specs.declared.cell.Cell.{Cell}
 use Rattle.dbtg_cells.specs.declared.cell.Cell.TheVariants.{Usage, Extent, Ring, Slot}
@@ -22,8 +23,7 @@ use Rattle.dbtg_unit.specs.Hands.Edits.{edited, with_owner, with_stored_items}
 use Rattle.dbtg_unit.specs.Hands.Hands.{Hands, cell_of}
 use Rattle.dbtg_unit.specs.Database.State.Legal.{pairwise}
 use Rattle.dbtg_unit.specs.Hands.Lends.{with_cell}
-use Rattle.dbtg_unit.specs.Hands.Making.{CanEditHeld, CanMake, HaveNextVersions, ShowsEdited}
-use Rattle.dbtg_unit.specs.Inside.Making.{IsMade}
+use Rattle.dbtg_unit.specs.Hands.Making.{AreMade, CanEditHeld, CanMake, HaveNextVersions, ShowsEdited}
 use Rattle.dbtg_unit.specs.Hands.Prepared.{edited_values, value_edited, values_of}
 
 abbrev pub Held : Type 0
@@ -102,26 +102,8 @@ values_with_cell e y (x ∷ xs) shows =
     ]
 
 -- an edit of a name that is not held changes nothing
-pub made_of_none : (e : CellEdit) (hands : Hands) → cell_of e.name hands.cells ≡ None → IsMade e hands hands
-made_of_none e hands none =
-    (Slot None, λ x h. let absurd_case = sym none ∙ h in cc, λ i. record { areas = hands.areas; cells = sym (with_cell_none e.name (Slot None) hands.cells none) i; guesses = hands.guesses })
-
--- after the first of the edits the others can be made, and lead to the same
-pub record Follows (es : List CellEdit) (e : CellEdit) (old new : Hands) : Type 0 where
-  pub can_make : CanMake es new.cells
-  pub values : edited_values es (values_of new.cells) ≡ edited_values (e ∷ es) (values_of old.cells)
-  pub areas : new.areas ≡ old.areas
-  pub guesses : new.guesses ≡ old.guesses
-
-pub made_first : (e : CellEdit) (es : List CellEdit) (old new : Hands) → CanMake (e ∷ es) old.cells → IsMade e old new → Follows es e old new
-made_first e es old new can made =
-    let cells : new.cells ≡ with_cell e.name made.0 old.cells = ap (λ h. h.cells) made.2 in
-    record {
-      can_make = subst (CanMake es) (sym cells) (can.1 made.0 made.1);
-      values = ap (λ l. edited_values es (values_of l)) cells ∙ ap (edited_values es) (values_with_cell e made.0 old.cells made.1);
-      areas = ap (λ h. h.areas) made.2;
-      guesses = ap (λ h. h.guesses) made.2;
-    }
+pub made_of_none : (e : CellEdit) (cells : Held) → cell_of e.name cells ≡ None → AreMade (e ∷ []) cells cells
+made_of_none e cells none = (Slot None, λ x h. let absurd_case = sym none ∙ h in cc, sym (with_cell_none e.name (Slot None) cells none))
 
 -- EDITS IN TURN
 
@@ -162,10 +144,44 @@ can_make_distinct (e ∷ es) cells once each =
     let hs = and_parts _ _ once in
     (each.0, λ y shows. can_make_distinct es (with_cell e.name y cells) hs.1 (each_with_cell e.name y es cells hs.0 each.1))
 
--- what is held after edits in turn
-abbrev pub AreMade : List CellEdit → Held → Held → Type 0
-AreMade [] old new = new ≡ old
-AreMade (e ∷ es) old new = (y : Cell) × ShowsEdited e old y × AreMade es (with_cell e.name y old) new
+-- what is held after edits shows what they make of it
+pub made_values : (es : List CellEdit) (old new : Held) → AreMade es old new → values_of new ≡ edited_values es (values_of old)
+made_values [] old new made = ap values_of made
+made_values (e ∷ es) old new made = made_values es (with_cell e.name made.0 old) new made.2 ∙ ap (edited_values es) (values_with_cell e made.0 old made.1)
+
+-- edits, and then others
+pub made_append : (es fs : List CellEdit) (old between new : Held) → AreMade es old between → AreMade fs between new → AreMade (es ++ fs) old new
+made_append [] fs old between new made further = subst (λ (cells : Held). AreMade fs cells new) made further
+made_append (e ∷ es) fs old between new made further = (made.0, made.1, made_append es fs (with_cell e.name made.0 old) between new made.2 further)
+
+-- of edits that can be made in turn the first can be, and once they are made, the others
+pub can_make_front : (es fs : List CellEdit) (cells : Held) → CanMake (es ++ fs) cells → CanMake es cells
+can_make_front [] fs cells can = tt
+can_make_front (e ∷ es) fs cells can = (can.0, λ y shows. can_make_front es fs (with_cell e.name y cells) (can.1 y shows))
+
+pub can_make_rest : (es fs : List CellEdit) (old new : Held) → CanMake (es ++ fs) old → AreMade es old new → CanMake fs new
+can_make_rest [] fs old new can made = subst (CanMake fs) (sym made) can
+can_make_rest (e ∷ es) fs old new can made = can_make_rest es fs (with_cell e.name made.0 old) new (can.1 made.0 made.1) made.2
+
+-- while an edit is made of each of a list: those of the rest can be made, and lead to where all lead; nothing else is edited
+pub record MadeSoFar {X : Type 0} (edit : X → CellEdit) (all rest : List X) (start now : Hands) : Type 0 where
+  pub can_make : CanMake (map edit rest) now.cells
+  pub leads : (new : Held) → AreMade (map edit rest) now.cells new → AreMade (map edit all) start.cells new
+  pub areas : now.areas ≡ start.areas
+  pub guesses : now.guesses ≡ start.guesses
+
+pub one_more_made : {X : Type 0} (edit : X → CellEdit) (all : List X) (i : ℕ) (x : X) (start now next : Hands) → i < length all → x ≡ get_or all i x
+    → MadeSoFar edit all (drop i all) start now → AreMade (edit x ∷ []) now.cells next.cells → next.areas ≡ now.areas → next.guesses ≡ now.guesses
+    → MadeSoFar edit all (drop (i + 1) all) start next
+one_more_made edit all i x start now next below is was made areas guesses =
+    let rest = drop (i + 1) all in
+    let next_is : drop i all ≡ x ∷ rest = drop_more all i x below ∙ ap (λ y. y ∷ rest) (sym is) in
+    record {
+      can_make = can_make_rest (edit x ∷ []) (map edit rest) now.cells next.cells (subst (λ l. CanMake (map edit l) now.cells) next_is was.can_make) made;
+      leads = λ new others. was.leads new (subst (λ l. AreMade (map edit l) now.cells new) (sym next_is) (made_append (edit x ∷ []) (map edit rest) now.cells next.cells new made others));
+      areas = areas ∙ was.areas;
+      guesses = guesses ∙ was.guesses;
+    }
 
 -- edits, and then others that can be made of what they leave
 pub can_make_append : (es fs : List CellEdit) (cells : Held) → CanMake es cells → ((new : Held) → AreMade es cells new → CanMake fs new) → CanMake (es ++ fs) cells

@@ -5,7 +5,6 @@ use Rattle.std.specs.List.{list_any, find}
 use Rattle.std.proofs.lemmas.Bool.{cases_Bool}
 use Rattle.std.proofs.lemmas.Option.{none-some}
 use Rattle.dbtg_schema.specs.Lists.{Lists}
-use Rattle.dbtg_cells.specs.declared.key.Owner.{Owner}
 use Rattle.dbtg_cells.specs.declared.name.CellName.{CellName}
 use Rattle.dbtg_cells.specs.Names.{name_eq}
 use Rattle.dbtg_unit.specs.declared.held.Need.TheVariants.{Ready}
@@ -17,7 +16,7 @@ use Rattle.dbtg_unit.specs.Database.Statements.Checks.{refused_at_once}
 use Rattle.dbtg_unit.specs.Hands.Hands.{Hands}
 use Rattle.dbtg_unit.specs.Hands.Local.{Agrees, holds}
 use Rattle.dbtg_unit.specs.Hands.Making.{IsReady}
-use Rattle.dbtg_unit.specs.Hands.Needs.{areas_in_order, cells_of, is_stale, need, need_of_cells, next_of, stale_owners}
+use Rattle.dbtg_unit.specs.Hands.Needs.{areas_in_order, cells_of, is_stale, need, need_of_cells, next_of}
 use Rattle.dbtg_unit.proofs.Lists.Membership.{In}
 use Rattle.dbtg_unit.proofs.Hands.Untouched.LocalReady.{ready_has}
 
@@ -27,9 +26,9 @@ pub record HasAll (schema : Lists) (capacity : ℕ) (db : Database) (unit : Unit
   pub cells : (c : CellName) → In c (cells_of schema capacity db unit hands.guesses statement) → holds hands.cells c ≡ true
   pub fresh : is_stale schema capacity db unit hands.guesses statement ≡ false
 
-no_area : (a : Option ℕ) (c : Option CellName) (stale : Bool) (owners : List (Option Owner)) → next_of a c stale owners ≡ Ready → a ≡ None
-no_area (Some a) c stale owners h = cc
-no_area None c stale owners h = refl
+no_area : (a : Option ℕ) (c : Option CellName) (stale : Bool) → next_of a c stale ≡ Ready → a ≡ None
+no_area (Some a) c stale h = cc
+no_area None c stale h = refl
 
 -- where no area is wanting, each is in hand
 all_have : (held areas : List ℕ) → find (λ a. not (list_any (λ b. b == a) held)) areas ≡ None → (a : ℕ) → In a areas → list_any (λ b. b == a) held ≡ true
@@ -51,7 +50,6 @@ module _ (schema : Lists) (capacity : ℕ) (unit : Unit) (hands : Hands) (statem
       (find (λ a. not (list_any (λ b. b == a) hands.areas)) (areas_in_order schema unit statement))
       (find (λ c. not (list_any (λ e. name_eq c e.0) hands.cells)) (cells_of schema capacity db unit hands.guesses statement))
       (is_stale schema capacity db unit hands.guesses statement)
-      (stale_owners schema capacity db unit hands.guesses statement)
       (subst (λ (o : Option Cause). cond (is_some o) Ready (need_of_cells schema capacity db unit hands statement) ≡ Ready) passes ready) in
       record { areas = all_have hands.areas (areas_in_order schema unit statement) wanted; cells = has.0; fresh = has.1 }
 

@@ -25,7 +25,7 @@ use Rattle.dbtg_unit.specs.Hands.Hands.{Hands, cell_of}
 use Rattle.dbtg_unit.specs.Hands.InHand.{of_owner, occurrence_in, occurrence_of, users_in, users_of}
 use Rattle.dbtg_unit.specs.Hands.Local.{Agrees, AllAgree, holds}
 use Rattle.dbtg_unit.specs.Hands.Making.{HaveNextVersions, IsReady, MayPrepare, ShowsTheSame}
-use Rattle.dbtg_unit.specs.Hands.Needs.{areas_in_order, cells_of, is_stale, need, next_of, stale_owners}
+use Rattle.dbtg_unit.specs.Hands.Needs.{areas_in_order, cells_of, is_stale, need, next_of}
 use Rattle.dbtg_unit.specs.Hands.Prepared.{values_of}
 use Rattle.dbtg_unit.proofs.Hands.Reading.AsTheDatabase.{occurrence_shows, users_show}
 use Rattle.dbtg_unit.proofs.Database.Records.Determined.{ring_in, usage_in}
@@ -84,8 +84,7 @@ need_by schema capacity db unit statement areas is_held guesses =
     (next_of
     (find (λ a. not (list_any (λ b. eqb b a) areas)) (areas_in_order schema unit statement))
     (find (λ c. not (is_held c)) (cells_of schema capacity db unit guesses statement))
-    (is_stale schema capacity db unit guesses statement)
-    (stale_owners schema capacity db unit guesses statement))
+    (is_stale schema capacity db unit guesses statement))
 
 need_is : (schema : Lists) (capacity : ℕ) (db : Database) (unit : Unit) (hands : Hands) (statement : Statement)
     → need schema capacity db unit hands statement ≡ need_by schema capacity db unit statement hands.areas (λ c. list_any (λ e. name_eq c e.0) hands.cells) hands.guesses

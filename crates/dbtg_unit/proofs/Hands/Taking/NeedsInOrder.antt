@@ -7,7 +7,6 @@ use Rattle.dbtg_schema.specs.Lists.{Lists}
 use Rattle.dbtg_schema.specs.Sound.{IsSound}
 use Rattle.dbtg_schema.proofs.Public.{none_is}
 use Rattle.dbtg_cells.specs.declared.cell.Cell.{Cell}
-use Rattle.dbtg_cells.specs.declared.key.Owner.{Owner}
 use Rattle.dbtg_cells.specs.declared.name.CellName.{CellName}
 use Rattle.dbtg_cells.specs.Names.{name_eq, name_below}
 use Rattle.dbtg_cells.proofs.Public.{name_eq_refl}
@@ -25,7 +24,7 @@ use Rattle.dbtg_unit.specs.Hands.EditsOf.{is_delete}
 use Rattle.dbtg_unit.specs.Hands.Hands.{Hands}
 use Rattle.dbtg_unit.specs.Hands.Local.{names_of}
 use Rattle.dbtg_unit.specs.Hands.NeedOrder.{IsAbove, IsInHeldArea, IsInTurn}
-use Rattle.dbtg_unit.specs.Hands.Needs.{areas_in_order, cells_of, is_stale, need, next_of, stale_owners}
+use Rattle.dbtg_unit.specs.Hands.Needs.{areas_in_order, cells_of, is_stale, need, next_of}
 use Rattle.dbtg_unit.proofs.Hands.Taking.AreasOfCells.{lies_in}
 use Rattle.dbtg_unit.proofs.Hands.Taking.CellsAscend.{cells_ascend}
 use Rattle.dbtg_unit.proofs.Hands.Taking.KnownAreas.{all_cells_lie, areas_known}
@@ -36,22 +35,22 @@ use Rattle.dbtg_unit.proofs.Lists.Membership.{In, all_at, any_element, any_in, f
 use Rattle.dbtg_unit.proofs.Lists.WithANewMember.{pairwise_filter}
 
 -- of a choice that was made, what decided it
-pub chose_take : (r : Bool) (oa : Option ℕ) (oc : Option CellName) (stale : Bool) (owners : List (Option Owner)) (c : CellName) →
-    (if r then Ready else next_of oa oc stale owners) ≡ Take c → (r ≡ false) × (oa ≡ None) × (oc ≡ Some c)
-chose_take true oa oc stale owners c e = absurd (cc (e))
-chose_take false (Some a) oc stale owners c e = absurd (cc (e))
-chose_take false None (Some d) stale owners c e = (refl, refl, (let q : d ≡ c = cc in ap Some q))
-chose_take false None None true owners c e = absurd (cc (e))
-chose_take false None None false owners c e = absurd (cc (e))
+pub chose_take : (r : Bool) (oa : Option ℕ) (oc : Option CellName) (stale : Bool) (c : CellName) →
+    (if r then Ready else next_of oa oc stale) ≡ Take c → (r ≡ false) × (oa ≡ None) × (oc ≡ Some c)
+chose_take true oa oc stale c e = absurd (cc (e))
+chose_take false (Some a) oc stale c e = absurd (cc (e))
+chose_take false None (Some d) stale c e = (refl, refl, (let q : d ≡ c = cc in ap Some q))
+chose_take false None None true c e = absurd (cc (e))
+chose_take false None None false c e = absurd (cc (e))
 
-chose_area : (r : Bool) (oa : Option ℕ) (oc : Option CellName) (stale : Bool) (owners : List (Option Owner)) (a : ℕ) → (if r then Ready else next_of oa oc stale owners) ≡ Area a → oa ≡ Some a
-chose_area true oa oc stale owners a e = absurd (cc (e))
-chose_area false (Some b) oc stale owners a e = let q : b ≡ a = cc in ap Some q
-chose_area false None (Some d) stale owners a e = absurd (cc (e))
-chose_area false None None true owners a e = absurd (cc (e))
-chose_area false None None false owners a e = absurd (cc (e))
+chose_area : (r : Bool) (oa : Option ℕ) (oc : Option CellName) (stale : Bool) (a : ℕ) → (if r then Ready else next_of oa oc stale) ≡ Area a → oa ≡ Some a
+chose_area true oa oc stale a e = absurd (cc (e))
+chose_area false (Some b) oc stale a e = let q : b ≡ a = cc in ap Some q
+chose_area false None (Some d) stale a e = absurd (cc (e))
+chose_area false None None true a e = absurd (cc (e))
+chose_area false None None false a e = absurd (cc (e))
 
--- the first of an ascending list that passes is above so many elements, from the first, none of which does
+-- the first of an ascending list that passes is above the first n elements, if none of these passes
 above_first : {X : Type 0} (lt : X → X → Bool) (p : X → Bool) (n : ℕ) (xs : List X) (c : X) → pairwise lt xs ≡ true → find p xs ≡ Some c → ((x : X) → In x (take n xs) → p x ≡ false)
     → (h : X) → In h (take n xs) → lt h c ≡ true
 above_first lt p zero xs c asc e none h i = absurd i
@@ -75,14 +74,14 @@ module _ (schema : Lists) (capacity : ℕ) (db : Database) (unit : Unit) (hands 
   unfolding need
   needs_area a e =
       chose_area (is_some (refused_at_once schema capacity unit x)) (find lacks_area (areas_in_order schema unit x)) (find lacks_cell (cells_of schema capacity db unit hands.guesses x))
-      (is_stale schema capacity db unit hands.guesses x) (stale_owners schema capacity db unit hands.guesses x) a e
+      (is_stale schema capacity db unit hands.guesses x) a e
 
   needs_cell : (c : CellName) → need schema capacity db unit hands x ≡ Take c
       → (is_some (refused_at_once schema capacity unit x) ≡ false) × (find lacks_area (areas_in_order schema unit x) ≡ None) × (find lacks_cell (cells_of schema capacity db unit hands.guesses x) ≡ Some c)
   unfolding need
   needs_cell c e =
       chose_take (is_some (refused_at_once schema capacity unit x)) (find lacks_area (areas_in_order schema unit x)) (find lacks_cell (cells_of schema capacity db unit hands.guesses x))
-      (is_stale schema capacity db unit hands.guesses x) (stale_owners schema capacity db unit hands.guesses x) c e
+      (is_stale schema capacity db unit hands.guesses x) c e
 
   -- A CELL LIES IN AN AREA IN HAND
 
@@ -102,7 +101,7 @@ module _ (schema : Lists) (capacity : ℕ) (db : Database) (unit : Unit) (hands 
     in_held_area (Area a) e = tt
     in_held_area (Take c) e =
         (sym (holds_any hands.cells c) ∙ not-true _ (find_element lacks_cell (cells_of schema capacity db unit hands.guesses x) c (needs_cell c (sym e)).2).1, area_held c (sym e))
-    in_held_area (Stale owners) e = tt
+    in_held_area Stale e = tt
     in_held_area Ready e = tt
 
   -- WHAT IS NEEDED IS ABOVE WHAT IS IN HAND
@@ -133,5 +132,5 @@ module _ (schema : Lists) (capacity : ℕ) (db : Database) (unit : Unit) (hands 
         all_in (λ (f : CellName × Cell). name_below f.0 c) hands.cells (λ f i.
         above_first name_below lacks_cell (length hands.cells) (cells_of schema capacity db unit hands.guesses x) c (cells_ascend schema sound capacity db unit hands.guesses x shared) (needs_cell c (sym e)).2
         (λ d k. held_cell d (subst (In d) (sym turn.cells) k)) f.0 (subst (In f.0) turn.cells (in_map (λ (e : CellName × Cell). e.0) f hands.cells i)))
-    above_hands (Stale owners) e = tt
+    above_hands Stale e = tt
     above_hands Ready e = tt

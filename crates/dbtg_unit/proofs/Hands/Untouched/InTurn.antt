@@ -23,7 +23,7 @@ use Rattle.dbtg_unit.proofs.Database.Legal.ListsChanged.{differ_swap, keeps_memb
 use Rattle.dbtg_unit.proofs.Lists.WithANewMember.{all_weaker, all_both}
 use Rattle.dbtg_unit.proofs.Database.Laws.PlacingOrder.{all_from_none}
 use Rattle.dbtg_unit.proofs.Database.Records.LiveKeys.{in_member, member_in, live_in_all}
-use Rattle.dbtg_unit.proofs.Lists.Membership.{In, all_at, any_in, any_element, in_filter, of_filter, in_flat_map, of_flat_map}
+use Rattle.dbtg_unit.proofs.Lists.Membership.{In, all_at, any_in, any_element, in_filter, of_filter, in_flat_map, of_flat_map, place_of_element}
 use Rattle.dbtg_unit.proofs.Database.Laws.LeastSets.{doomed_is_least_set}
 
 -- KEYS, EACH ONCE
@@ -93,10 +93,6 @@ pub slice_get_front : {X : Type 0} (xs ys : List X) (j : ℕ) → j < length xs 
 slice_get_front [] ys j h = absurd (omega arith)
 slice_get_front (x ∷ xs) ys zero h = refl
 slice_get_front (x ∷ xs) ys (suc j) h = slice_get_front xs ys j (omega arith)
-
-place_of_element : {X : Type 0} (x : X) (xs : List X) → In x xs → (j : ℕ) × (slice_get xs j ≡ Some x)
-place_of_element x [] i = absurd i
-place_of_element x (y ∷ xs) i = elim i [ inl e ↦ (0, ap Some e) | inr k ↦ let r = place_of_element x xs k in (suc r.0, r.1) ]
 
 -- what a list has at an index is an element of it
 pub element_at : {X : Type 0} (xs : List X) (j : ℕ) (x : X) → slice_get xs j ≡ Some x → In x xs

@@ -7,7 +7,6 @@ use Rattle.std.proofs.lemmas.Option.{none-some}
 use Rattle.dbtg_schema.specs.Lists.{Lists}
 use Rattle.dbtg_schema.specs.Lookups.{some_and}
 use Rattle.dbtg_cells.specs.declared.key.DbKey.{DbKey}
-use Rattle.dbtg_cells.specs.declared.key.Owner.{Owner}
 use Rattle.dbtg_cells.specs.declared.name.CellName.{CellName}
 use Rattle.dbtg_cells.specs.declared.cell.Cell.{Cell}
 use Rattle.dbtg_cells.specs.Names.{name_eq}
@@ -25,7 +24,7 @@ use Rattle.dbtg_unit.specs.Database.Statements.Found.{found}
 use Rattle.dbtg_unit.specs.Hands.Hands.{Hands}
 use Rattle.dbtg_unit.specs.Database.State.Legal.{Legal}
 use Rattle.dbtg_unit.specs.Hands.Local.{Agrees, holds}
-use Rattle.dbtg_unit.specs.Hands.Needs.{areas_in_order, cells_of, is_stale, need, need_of_cells, next_of, stale_owners}
+use Rattle.dbtg_unit.specs.Hands.Needs.{areas_in_order, cells_of, is_stale, need, need_of_cells, next_of}
 use Rattle.dbtg_schema.specs.Sound.{IsSound}
 use Rattle.dbtg_cells.proofs.Public.{same_name}
 use Rattle.dbtg_unit.specs.Database.State.Belongs.{IsUnitOf, IsWithin}
@@ -36,11 +35,11 @@ use Rattle.dbtg_unit.proofs.Lists.Membership.{In, any_element}
 use Rattle.dbtg_unit.proofs.Hands.Untouched.LocalStatements.{Stays, of_open, of_close, of_store, of_insert, of_remove, of_modify, of_delete}
 
 -- a statement is ready where no area and no cell is wanting and no guess is wrong
-pub ready_parts : (a : Option ℕ) (c : Option CellName) (stale : Bool) (owners : List (Option Owner)) → next_of a c stale owners ≡ Ready → (c ≡ None) × (stale ≡ false)
-ready_parts (Some a) c stale owners h = cc
-ready_parts None (Some c) stale owners h = cc
-ready_parts None None true owners h = cc
-ready_parts None None false owners h = (refl, refl)
+pub ready_parts : (a : Option ℕ) (c : Option CellName) (stale : Bool) → next_of a c stale ≡ Ready → (c ≡ None) × (stale ≡ false)
+ready_parts (Some a) c stale h = cc
+ready_parts None (Some c) stale h = cc
+ready_parts None None true h = cc
+ready_parts None None false h = (refl, refl)
 
 -- a cell is held where its name is among those in hand
 pub holds_any : (cells : List (CellName × Cell)) (c : CellName) → list_any (λ e. name_eq c e.0) cells ≡ holds cells c
@@ -79,7 +78,6 @@ module _ (schema : Lists) (capacity : ℕ) (db : Database) (unit : Unit) (hands 
       (find (λ a. not (list_any (λ b. b == a) hands.areas)) (areas_in_order schema unit statement))
       (find (λ c. not (list_any (λ e. name_eq c e.0) hands.cells)) (cells_of schema capacity db unit hands.guesses statement))
       (is_stale schema capacity db unit hands.guesses statement)
-      (stale_owners schema capacity db unit hands.guesses statement)
       (subst (λ (o : Option Cause). cond (is_some o) Ready (need_of_cells schema capacity db unit hands statement) ≡ Ready) passes h) in
       (all_held hands.cells (cells_of schema capacity db unit hands.guesses statement) r.0, r.1)
 

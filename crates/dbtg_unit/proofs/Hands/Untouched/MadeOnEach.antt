@@ -21,7 +21,7 @@ use Rattle.dbtg_unit.specs.Hands.Hands.{Hands}
 use Rattle.dbtg_unit.specs.Hands.Local.{Agrees, AllAgree}
 use Rattle.dbtg_unit.specs.Hands.Locality.{IsMadeOnEach, made_by}
 use Rattle.dbtg_unit.specs.Hands.Making.{CanFinish, MayPrepare, ShowsTheSame}
-use Rattle.dbtg_unit.specs.Hands.Prepared.{IsEffect, Plan, edited_values, value_edited, values_of}
+use Rattle.dbtg_unit.specs.Hands.Prepared.{IsEffect, IsPrepared, Plan, edited_values, value_edited, values_of}
 use Rattle.dbtg_unit.specs.Database.State.Legal.{pairwise}
 use Rattle.dbtg_unit.proofs.Hands.Reading.SameHands.{agrees_same}
 use Rattle.dbtg_unit.proofs.Hands.Untouched.LocalReady.{changes_only_its_cells, legal_after}
@@ -111,10 +111,10 @@ module _ (schema : Lists) (capacity : ℕ) (unit : Unit) (x : Statement) (plan :
   cells_made db hands once agrees e =
       all_edited plan.cells (values_of hands.cells) (once_shown hands.cells ∙ once) ∙ due_values db (effect schema capacity db unit x).database plan.cells e.cells hands.cells agrees.cells
 
-  -- a plan that can be finished makes the statement; room that was made before shows nowhere
-  pub plan_makes : (old new : Hands) → MayPrepare schema capacity unit old x → ShowsTheSame old new → CanFinish schema capacity unit new x plan → IsMadeOnEach schema capacity unit old x (made_by schema unit new plan)
-  plan_makes old new may shows can once db agrees =
-      let e = can.prepared.effects db (agrees_same schema capacity db unit old new shows agrees) in
+  -- a plan that is the statement's effect makes the statement; room that was made before shows nowhere
+  pub prepared_makes : (old new : Hands) → MayPrepare schema capacity unit old x → ShowsTheSame old new → IsPrepared schema capacity unit new x plan → IsMadeOnEach schema capacity unit old x (made_by schema unit new plan)
+  prepared_makes old new may shows prepared once db agrees =
+      let e = prepared.effects db (agrees_same schema capacity db unit old new shows agrees) in
       let e' = subst (λ g. IsEffect schema capacity db unit g x plan) shows.guesses e in
       let legal = legal_after schema capacity db unit old may.sound may.of_schema may.within x may.fits agrees in
       record {
@@ -126,3 +126,7 @@ module _ (schema : Lists) (capacity : ℕ) (unit : Unit) (x : Statement) (plan :
         cells_are = ap (edited_values plan.cells) shows.cells ∙ cells_made db old once agrees e';
         others = changes_only_its_cells schema capacity db unit old x agrees (may.ready db agrees) legal;
       }
+
+  -- so does one that can be finished
+  pub plan_makes : (old new : Hands) → MayPrepare schema capacity unit old x → ShowsTheSame old new → CanFinish schema capacity unit new x plan → IsMadeOnEach schema capacity unit old x (made_by schema unit new plan)
+  plan_makes old new may shows can = prepared_makes old new may shows can.prepared

@@ -18,7 +18,7 @@ use Rattle.dbtg_unit.specs.declared.statement.Statement.TheVariants.{OpenArea, C
 use Rattle.dbtg_unit.specs.declared.statement.Which.TheVariants.{First, Last, Next}
 use Rattle.dbtg_unit.specs.declared.unit.Unit.{Unit}
 use Rattle.dbtg_unit.specs.Database.Statements.Effect.{effect}
-use Rattle.dbtg_unit.specs.Hands.Needs.{areas_in_order, cells_of, need}
+use Rattle.dbtg_unit.specs.Hands.Needs.{areas_in_order, cells_of, need, stale_owners}
 use Rattle.dbtg_unit.specs.Database.Laws.Replay.{State, opening_state, state_after}
 use Rattle.dbtg_unit.specs.Database.State.Units.{opening_unit}
 use Rattle.dbtg_unit.proofs.Rows.Defined.Schemas.{shop, main, side, customers, orders, items, has, lines, watch}
@@ -260,14 +260,25 @@ all_is_there c d = refl
 
 -- the slot names another owner than the guess: of the needed set alone
 wrong_guess : (c d : Cell) → needed (main ∷ side ∷ []) ((ring lines orders 2, c) ∷ (Slot items 1, d) ∷ []) second_order (Remove lines)
-    ≡ Stale (None ∷ Some (Rec (ordr_key 1)) ∷ None ∷ [])
+    ≡ Stale
 unfolding effect need
 wrong_guess c d = refl
 
 missing_guess : (d : Cell) → needed (main ∷ side ∷ []) ((Slot items 1, d) ∷ []) no_guess (modify items 1 (Num 6))
-    ≡ Stale (None ∷ Some (Rec (ordr_key 1)) ∷ None ∷ [])
+    ≡ Stale
 unfolding effect need
 missing_guess d = refl
+
+-- what it notes then: the true owner in the needed set, and none elsewhere
+noted_owner : stale_owners shop 10 at_item.database (unit_one at_item) second_order (Remove lines)
+    ≡ None ∷ Some (Rec (ordr_key 1)) ∷ None ∷ []
+unfolding effect
+noted_owner = refl
+
+noted_for_none : stale_owners shop 10 at_item.database (unit_one at_item) no_guess (modify items 1 (Num 6))
+    ≡ None ∷ Some (Rec (ordr_key 1)) ∷ None ∷ []
+unfolding effect
+noted_for_none = refl
 
 -- a guess is not asked where no sort key is named
 unneeded_guess : (c d : Cell) → needed (side ∷ []) ((Extent items, c) ∷ (Slot items 1, d) ∷ []) no_guess (modify items 0 (text "B   "))

@@ -1,25 +1,11 @@
-use Rattle.std.proofs.Common.{◌≡◌, None, sym, ◌∙◌, ap, ◌+◌, ◌<◌, length, arith}
-use Rattle.std.proofs.lemmas.List.{length-set}
-use Rattle.std.proofs.lemmas.Option.{slice_get-get_or}
-use Rattle.dbtg_schema.specs.Lookups.{at}
-use Rattle.dbtg_unit.specs.Inside.Seen.{seen_in_set}
-use Rattle.dbtg_unit.proofs.Lists.Numbered.{rewritten, rewritten_all, rewritten_next}
+use Rattle.std.proofs.Common.{◌∙◌, ap}
+use Rattle.std.specs.Prelude.{map}
+use Rattle.std.specs.List.{enumerate_from}
+use Rattle.dbtg_unit.specs.Inside.Seen.{seen_as_owner}
+use Rattle.dbtg_unit.proofs.Database.Records.SetsSeen.{seen_both}
 use Rattle.dbtg_unit.proofs.see.see_sets.Goals as goal
-
-pub loop-set-preserved : goal.loop-set-preserved
-loop-set-preserved c =
-    let f = seen_in_set c.args.schema.now c.args.key.now c.args.owners.now c.args.suppress.now in
-    let sets = c.loop-set.sets in
-    let set = c.loop-set.set in
-    let within : set < length sets = omega (arith, c.len-set-end.ensures, c.loop-set.invariant.as_long, c.loop-set-test.true) in
-    record {
-      finishes =
-          ap (rewritten f 0 (set + 1)) c.see_set.ensures ∙ rewritten_next f set sets (at sets set) (slice_get-get_or sets set None within) ∙ c.loop-set.invariant.finishes;
-      as_long = ap length c.see_set.ensures ∙ length-set sets set (f (set, at sets set)) ∙ c.loop-set.invariant.as_long;
-    }
 
 pub returns : goal.returns
 returns c =
-    let f = seen_in_set c.args.schema.now c.args.key.now c.args.owners.now c.args.suppress.now in
-    let end : length c.loop-set.sets ≡ c.loop-set.set = omega (arith, c.len-set-end.ensures, c.loop-set.invariant.as_long) in
-    sym (rewritten_all f 0 c.loop-set.sets) ∙ ap (λ i. rewritten f 0 i c.loop-set.sets) end ∙ c.loop-set.invariant.finishes
+    c.see_owned.ensures ∙ ap (λ sets. map (seen_as_owner c.args.schema.now c.args.key.now c.args.suppress.now) (enumerate_from 0 sets)) c.see_lists.ensures
+    ∙ seen_both c.args.schema.now c.args.key.now c.args.owners.now c.args.suppress.now _

@@ -22,8 +22,8 @@ abbrev pub gives_items : Statement → Bool
 gives_items (Get r) = true
 gives_items _ = false
 
--- a refusal, whatever its cause, gives back database and unit; a key and items are in the answer where the statement
--- is done and gives them, and nowhere else
+-- a refusal, whatever its cause, leaves database and unit as they were; a key and items are in the answer exactly if the statement
+-- is done and gives them
 pub record IsAnswered (db : Database) (unit : Unit) (statement : Statement) (outcome : Outcome) : Type 0 where
   pub refusal : (cause : Cause) → outcome.answer.status ≡ Refused cause → (outcome.database ≡ db) × (outcome.unit ≡ unit)
   pub key : is_some outcome.answer.key ≡ (is_done outcome.answer.status && gives_key statement)

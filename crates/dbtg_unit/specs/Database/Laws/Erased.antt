@@ -11,14 +11,14 @@ use Rattle.dbtg_unit.specs.Database.State.Base.{Database, is_live, is_member, me
 use Rattle.dbtg_unit.specs.Database.Statements.Doomed.{all_keys, doomed, drags}
 use Rattle.dbtg_unit.specs.Database.State.Legal.{Legal}
 
--- of xs, ys has each start and, with each x in it, each y to which x leads; and each set that does so has all of ys
+-- among xs, ys has each start and, with each x in it, each y to which x leads; and each set that does so has all of ys
 pub record IsLeastSet {X : Type 0} (same : X → X → Bool) (leads : X → X → Bool) (start : X → Bool) (xs ys : List X) : Type 0 where
   pub within : (x : X) → list_any (same x) ys ≡ true → list_any (same x) xs ≡ true
   pub starts : (x : X) → list_any (same x) xs ≡ true → start x ≡ true → list_any (same x) ys ≡ true
   pub closed : (x y : X) → list_any (same x) ys ≡ true → leads x y ≡ true → list_any (same y) xs ≡ true → list_any (same y) ys ≡ true
   pub least : (p : X → Bool) → ((x : X) → start x ≡ true → p x ≡ true) → ((x y : X) → p x ≡ true → leads x y ≡ true → p y ≡ true) → (x : X) → list_any (same x) ys ≡ true → p x ≡ true
 
--- of the live records, a DELETE takes k and, with each that it takes, those that its option takes with it, and no more
+-- among the live records, a DELETE takes k and, with each that it takes, those that its option takes with it, and no more
 abbrev pub DoomedIsLeast : Type 0
 DoomedIsLeast = (schema : Lists) (capacity : ℕ) (db : Database) (option : Erase) (k : DbKey) → IsLeastSet key_eq (drags schema capacity db option) (key_eq k) (all_keys schema capacity db) (doomed schema capacity db option k)
 

@@ -10,11 +10,11 @@ use Rattle.dbtg_unit.specs.Database.Statements.Effect.{effect, version_of}
 use Rattle.dbtg_unit.specs.Database.Laws.Replay.{State, opening_state, replay}
 use Rattle.dbtg_unit.specs.Database.State.Versions.{VersionsUpTo}
 
--- not live, and the key's number has had its generation: a key that was deleted
+-- a deleted key: it is not live, and its number has had its generation
 abbrev pub is_deleted : Database → DbKey → Bool
 is_deleted db k = not (is_live db k) && nat_le k.generation (db.last k.rtype k.number)
 
--- no version rises by more than one, no last generation falls, no deleted key is live again
+-- no version rises by more than one, no last generation falls, no deleted key becomes live again
 pub record GoesForward (db new : Database) : Type 0 where
   pub versions : (k : DbKey) → version_of new k ≤ version_of db k + 1
   pub generations : (t n : ℕ) → db.last t n ≤ new.last t n
@@ -28,7 +28,7 @@ EachGoesForward = (schema : Lists) (capacity : ℕ) (db : Database) (unit : Unit
 abbrev pub VersionsAreBounded : Type 0
 VersionsAreBounded = (schema : Lists) (capacity units : ℕ) (history : List Entry) → VersionsUpTo (length history) (replay schema capacity (opening_state schema units) history).database
 
--- over any entries
+-- the same over any entries
 pub record ReplayGoesForward (schema : Lists) (capacity : ℕ) (state : State) (entries : List Entry) : Type 0 where
   pub generations : (t n : ℕ) → state.database.last t n ≤ (replay schema capacity state entries).database.last t n
   pub deleted : (k : DbKey) → is_deleted state.database k ≡ true → is_deleted (replay schema capacity state entries).database k ≡ true

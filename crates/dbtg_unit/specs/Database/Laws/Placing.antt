@@ -1,4 +1,4 @@
--- What becomes of a list in which a new member is placed.
+-- What happens to a list in which a new member is placed.
 use Rattle.std.specs.Prelude.{◌≡◌, suc, Bool, true, false, ◌&&◌, ◌||◌, List, [], ◌∷◌, ◌++◌, Option, Some, None, length}
 use Rattle.std.specs.List.{list_any, list_all}
 use Rattle.dbtg_schema.specs.declared.shape.Order.{Order}
@@ -20,7 +20,7 @@ comparable (Some (Num a)) (Some (Num b)) = true
 comparable (Some (Text a)) (Some (Text b)) = true
 comparable _ _ = false
 
--- two members may stand in a list of this order: where it is sorted, their keys are of one kind
+-- two members may be in a list of this order: if it is sorted, their keys are of one kind
 abbrev pub compares : Order → Option Value → Option Value → Bool
 compares (Sorted ascending duplicates) a b = comparable a b
 compares _ a b = true
@@ -29,11 +29,11 @@ compares _ a b = true
 abbrev pub has_equal : (DbKey → Option Value) → DbKey → List DbKey → Bool
 has_equal key m = list_any (λ x. option_value_eq (key x) (key m))
 
--- the members stand in the order of their keys
+-- the members are in the order of their keys
 abbrev pub stand_in_order : Order → (DbKey → Option Value) → List DbKey → Bool
 stand_in_order order key = pairwise (λ x y. keys_in_order order (key x) (key y))
 
--- m stands where its order says: at an end, beside the position, in front of its equals or behind them
+-- m is where its order says: at an end, beside the position, before its equals or after them
 abbrev pub StandsRight : Order → Option DbKey → (DbKey → Option Value) → DbKey → List DbKey → List DbKey → Type 0
 StandsRight First position key m list new = new ≡ m ∷ list
 StandsRight Last position key m list new = new ≡ list ++ m ∷ []
@@ -45,7 +45,7 @@ StandsRight (Sorted ascending FirstAmongEqual) position key m list new = has_equ
 StandsRight (Sorted ascending LastAmongEqual) position key m list new = has_equal key m (behind (key_eq m) new) ≡ false
 StandsRight (Sorted ascending NotAllowed) position key m list new = has_equal key m list ≡ false
 
--- the new list has the old members and m, in order, m in its right place; less m it is the old list
+-- the new list has the old members and m, in order, m in its right place; without m it is the old list
 pub record IsPlaced (order : Order) (position : Option DbKey) (key : DbKey → Option Value) (m : DbKey) (list new : List DbKey) : Type 0 where
   pub members : (x : DbKey) → is_member x new ≡ (key_eq x m || is_member x list)
   pub longer : length new ≡ suc (length list)
@@ -53,7 +53,7 @@ pub record IsPlaced (order : Order) (position : Option DbKey) (key : DbKey → O
   pub in_order : stand_in_order order key new ≡ true
   pub right : StandsRight order position key m list new
 
--- placing one that is not yet in the list, and whose key is not there where equal keys are refused
+-- placing a member that is not yet in the list, and whose key is not there if equal keys are refused
 abbrev pub PlacingKeepsOrder : Type 0
 PlacingKeepsOrder =
     (order : Order) (position : Option DbKey) (key : DbKey → Option Value) (m : DbKey) (list : List DbKey)

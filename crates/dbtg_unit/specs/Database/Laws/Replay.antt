@@ -20,7 +20,7 @@ pub record State : Type 0 where
 abbrev pub opening_state : Lists → ℕ → State
 opening_state schema units = record { database = opening schema; units = map (opening_unit schema) (range_with_len 1 units) }
 
--- the unit with this number, and none where there is no such unit
+-- the unit with this number, and none if there is no such unit
 abbrev pub unit_of : State → ℕ → Option Unit
 unit_of state zero = None
 unit_of state (suc n) = slice_get state.units n
@@ -29,12 +29,12 @@ unit_of state (suc n) = slice_get state.units n
 abbrev pub after : State → ℕ → Outcome → State
 after state number outcome = record { database = outcome.database; units = slice_set state.units (number - 1) outcome.unit }
 
--- the outcome of a statement of unit `number`, and none where there is no such unit
+-- the outcome of a statement of unit `number`, and none if there is no such unit
 abbrev pub outcome_of : Lists → ℕ → State → ℕ → Statement → Option Outcome
 outcome_of schema capacity state number statement =
     option_map (λ unit. effect schema capacity state.database unit statement) (unit_of state number)
 
--- the state after an outcome; as it was where there is none
+-- the state after an outcome; as it was if there is none
 abbrev pub after_outcome : State → ℕ → Option Outcome → State
 after_outcome state number None = state
 after_outcome state number (Some outcome) = after state number outcome
@@ -63,7 +63,7 @@ unfoldable pub replay : Lists → ℕ → State → List Entry → State
 replay schema capacity state [] = state
 replay schema capacity state (entry ∷ entries) = replay schema capacity (after_entry schema capacity state entry) entries
 
--- the answer that the state gives to an entry's statement; none where there is no such unit
+-- the answer that the state gives to an entry's statement; none if there is no such unit
 abbrev pub answer_to : Lists → ℕ → State → Entry → Option Answer
 answer_to schema capacity state entry = option_map (λ o. o.answer) (outcome_of schema capacity state entry.unit entry.statement)
 

@@ -7,13 +7,13 @@ use Rattle.dbtg_unit.specs.Database.Laws.Replay.{State, AnswersHold, TicketsInOr
 
 -- a history with one more entry
 pub record ReplaysOneMore (schema : Lists) (capacity : ℕ) (state : State) (history : List Entry) (entry : Entry) : Type 0 where
-  -- leads on from the state that it had led to
+  -- leads on from the state to which it led
   pub state_is : replay schema capacity state (history ++ entry ∷ []) ≡ after_entry schema capacity (replay schema capacity state history) entry
-  -- has answers that hold just where they held, and the new one is that state's
+  -- has answers that hold exactly if they held, and the new one is that state's
   pub answers_on : AnswersHold schema capacity state history → answer_to schema capacity (replay schema capacity state history) entry ≡ Some entry.answer → AnswersHold schema capacity state (history ++ entry ∷ [])
   pub answers_before : AnswersHold schema capacity state (history ++ entry ∷ []) → AnswersHold schema capacity state history
   pub answer_is : AnswersHold schema capacity state (history ++ entry ∷ []) → answer_to schema capacity (replay schema capacity state history) entry ≡ Some entry.answer
-  -- has its tickets in order just where they were, and the new one is the next
+  -- has its tickets in order exactly if they were, and the new one is the next
   pub tickets_on : TicketsInOrder history → entry.ticket ≡ length history → TicketsInOrder (history ++ entry ∷ [])
   pub tickets_before : TicketsInOrder (history ++ entry ∷ []) → TicketsInOrder history
   pub ticket_is : TicketsInOrder (history ++ entry ∷ []) → entry.ticket ≡ length history
@@ -22,7 +22,7 @@ pub record ReplaysOneMore (schema : Lists) (capacity : ℕ) (state : State) (his
   -- leaves each other unit as it was
   pub others : (number : ℕ) → entry.unit ≢ number → unit_of (replay schema capacity state (history ++ entry ∷ [])) number ≡ unit_of (replay schema capacity state history) number
 
--- of every history with one entry more
+-- the same for every history with one entry more
 abbrev pub EachReplaysOneMore : Type 0
 EachReplaysOneMore = (schema : Lists) (capacity : ℕ) (state : State) (history : List Entry) (entry : Entry) → ReplaysOneMore schema capacity state history entry
 
@@ -30,7 +30,7 @@ EachReplaysOneMore = (schema : Lists) (capacity : ℕ) (state : State) (history 
 abbrev pub statements_of : List Entry → List (ℕ × Statement)
 statements_of = map (λ e. (e.unit, e.statement))
 
--- the statements alone determine the state after a history, and the answers where they hold
+-- the statements alone determine the state after a history, and the answers if they hold
 pub record IsDetermined (schema : Lists) (capacity : ℕ) (state : State) (history : List Entry) : Type 0 where
   pub state_is : replay schema capacity state history ≡ state_after schema capacity state (statements_of history)
   pub answers_are : AnswersHold schema capacity state history → map (λ e. Some e.answer) history ≡ answers schema capacity state (statements_of history)

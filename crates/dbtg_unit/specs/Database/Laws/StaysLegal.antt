@@ -1,4 +1,4 @@
--- A legal database with all its units stays so.
+-- A legal database with all its units stays legal.
 use Rattle.std.specs.Prelude.{◌≡◌, ◌≢◌, ℕ, true, false, List, Some, slice_get, slice_set}
 use Rattle.std.specs.List.{list_all}
 use Rattle.dbtg_schema.specs.Lists.{Lists}
@@ -18,7 +18,7 @@ use Rattle.dbtg_unit.specs.Database.Laws.Replay.{State, opening_state, replay}
 abbrev pub LegalAfter : Lists → ℕ → List Unit → ℕ → Outcome → Type 0
 LegalAfter schema capacity units i outcome = LegalWith schema capacity outcome.database (slice_set units i outcome.unit)
 
--- whatever statement that fits whichever unit makes, done or refused, the database is legal with all its units afterwards, if it was before
+-- whatever statement that fits is made by whatever unit, done or refused, the database stays legal with all its units
 abbrev pub EffectKeepsLegal : Type 0
 EffectKeepsLegal =
     (schema : Lists) (capacity : ℕ) (db : Database) (units : List Unit) (i : ℕ) (unit : Unit) (statement : Statement)

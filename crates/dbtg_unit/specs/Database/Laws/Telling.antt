@@ -1,4 +1,4 @@
--- The cells tell the whole database.
+-- The cells determine the whole database.
 use Rattle.std.specs.Prelude.{◌≡◌, ℕ, true}
 use Rattle.dbtg_schema.specs.Lists.{Lists}
 use Rattle.dbtg_cells.specs.declared.name.CellName.{CellName}
@@ -7,7 +7,7 @@ use Rattle.dbtg_cells.specs.CellNumbers.{is_cell}
 use Rattle.dbtg_unit.specs.Database.State.Cells.{cell}
 use Rattle.dbtg_unit.specs.Database.State.Legal.{Legal}
 
--- two legal databases in which each cell of the schema shows the same are one
+-- two legal databases in which each cell of the schema shows the same are equal
 abbrev pub CellsDetermine : Type 0
 CellsDetermine =
     (schema : Lists) (capacity : ℕ) (db eb : Database) → Legal schema capacity db → Legal schema capacity eb

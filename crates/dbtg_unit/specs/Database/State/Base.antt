@@ -45,11 +45,11 @@ version_of db k = unwrap_or (option_map (λ r. r.version) (db.records k)) 0
 abbrev pub key_at : Database → ℕ → ℕ → DbKey
 key_at db t n = record { rtype = t; number = n; generation = db.last t n }
 
--- the number is not spent: it has a generation left, of which 255 is the last
+-- the number has a generation left, of which 255 is the last
 abbrev pub is_unspent : Database → ℕ → ℕ → Bool
 is_unspent db t n = nat_lt (db.last t n) 255
 
--- the least number of type t that no live record has and that is not spent
+-- the least number of type t that no live record has and that has a generation left
 abbrev pub free_number : ℕ → Database → ℕ → Option ℕ
 free_number capacity db t = first (filter (λ n. not (is_live db (key_at db t n)) && is_unspent db t n) (range_with_len 1 capacity))
 
@@ -78,11 +78,11 @@ owner_of schema capacity db s k = find (λ o. is_member k (members_of db s o)) (
 abbrev pub calc_items : Lists → ℕ → List Value → List Value
 calc_items schema t items = unwrap_or (option_map (λ calc. picked calc.items items) (calc_of schema t)) []
 
--- the key item in set s of a record of type t with these items, where the set is sorted
+-- the key item in set s of a record of type t with these items, if the set is sorted
 abbrev pub key_item : Lists → ℕ → ℕ → List Value → Option Value
 key_item schema s t items = option_and_then (λ m. option_map (λ i. slice_index_or items i (Num 0)) m.key) (member_clause schema s t)
 
--- the key item of a stored record in set s, where the set is sorted
+-- the key item of a stored record in set s, if the set is sorted
 abbrev pub sort_key : Lists → Database → ℕ → DbKey → Option Value
 sort_key schema db s k = key_item schema s k.rtype (items_of db k)
 

@@ -1,4 +1,4 @@
--- What it is to be a unit of a schema, and the name of a cell that a schema has.
+-- When a unit belongs to a schema, and the name of a cell that a schema has.
 -- k is a key, s a set, o an owner, t a record type, a an area, n a number, c a cell.
 use Rattle.std.specs.Prelude.{◌≡◌, ℕ, Bool, true, ◌&&◌, ◌==◌, nat_lt, nat_le, length}
 use Rattle.std.specs.List.{list_all}
@@ -46,7 +46,7 @@ pub record IsUnitOf (schema : Lists) (unit : Unit) : Type 0 where
 abbrev pub is_number : ℕ → ℕ → Bool
 is_number capacity n = nat_lt 0 n && nat_le n capacity
 
--- the owner's number, where the owner is a record, is from 1 to the capacity
+-- the owner's number, if the owner is a record, is from 1 to the capacity
 abbrev pub owner_within : ℕ → Owner → Bool
 owner_within capacity System = true
 owner_within capacity (Rec k) = is_number capacity k.number

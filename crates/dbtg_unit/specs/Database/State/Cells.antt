@@ -20,12 +20,12 @@ abbrev pub number_of : Lists → Database → ℕ → ℕ → Number
 number_of schema db t n =
     record { last = db.last t n; calc = option_map (λ r. calc_items schema t r.items) (db.records (key_at db t n)) }
 
--- what a slot has of the record k
+-- what a slot has for the record k
 abbrev pub slot_of : Lists → ℕ → Database → DbKey → Record → Stored
 slot_of schema capacity db k r =
     record { generation = k.generation; version = r.version; items = r.items; owners = owners_of schema capacity db k }
 
--- what a ring has of a list
+-- what a ring has for a list
 abbrev pub ring_of : Lists → Database → ℕ → Owner → List DbKey → Occurrence
 ring_of schema db s o list = record { owner = o; members = map (λ k. (k, sort_key schema db s k)) list }
 

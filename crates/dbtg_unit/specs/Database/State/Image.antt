@@ -1,4 +1,4 @@
--- The image of a database: all that it has, as lists.
+-- The image of a database: its contents as lists.
 use Rattle.std.specs.Prelude.{ℕ, List, map, length, unwrap_or}
 use Rattle.std.specs.List.{range_with_len}
 use Rattle.dbtg_schema.specs.Lists.{Lists}

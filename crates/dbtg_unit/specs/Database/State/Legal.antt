@@ -20,7 +20,7 @@ use Rattle.dbtg_unit.specs.Database.Statements.Fits.{values_fit}
 use Rattle.dbtg_unit.specs.Database.Statements.Effect.{conflict, sort_key_below}
 use Rattle.dbtg_schema.specs.Structure.{calc_of, is_automatic, is_mandatory, is_system, member_clause, order_of, owns, pictures}
 
--- the test holds of each element and each later one
+-- the test holds for each element and each later one
 abbrev pub pairwise : {X : Type 0} → (X → X → Bool) → List X → Bool
 pairwise test [] = true
 pairwise test (x ∷ xs) = list_all (test x) xs && pairwise test xs
@@ -34,13 +34,13 @@ abbrev pub has_occurrence : Lists → Database → ℕ → Owner → Bool
 has_occurrence schema db s System = is_system schema s
 has_occurrence schema db s (Rec k) = owns schema s k.rtype && is_live db k
 
--- keys may stand one before the other in a list of this order
+-- keys may come one before the other in a list of this order
 abbrev pub keys_in_order : Order → Option Value → Option Value → Bool
 keys_in_order (Sorted ascending NotAllowed) a b = sort_key_below ascending a b
 keys_in_order (Sorted ascending duplicates) a b = not (sort_key_below ascending b a)
 keys_in_order order a b = true
 
--- x may stand before y in a list of set s
+-- x may come before y in a list of set s
 abbrev pub in_order : Lists → Database → ℕ → DbKey → DbKey → Bool
 in_order schema db s x y = keys_in_order (order_of schema s) (sort_key schema db s x) (sort_key schema db s y)
 
@@ -63,17 +63,17 @@ pub record Legal (schema : Lists) (capacity : ℕ) (db : Database) : Type 0 wher
   pub pairs : (s : ℕ) (o : Owner) → is_some (db.lists s o) ≡ has_occurrence schema db s o
   -- a member is live, and of a member type of its set
   pub members : (s : ℕ) (o : Owner) (m : DbKey) → is_member m (members_of db s o) ≡ true → (is_live db m ≡ true) × (is_some (member_clause schema s m.rtype) ≡ true)
-  -- it is in the list of one owner of the set at most
+  -- it is in the list of at most one owner of the set
   pub in_one : (s : ℕ) (o p : Owner) (m : DbKey) → is_member m (members_of db s o) ≡ true → is_member m (members_of db s p) ≡ true → o ≡ p
   -- and there once
   pub once : (s : ℕ) (o : Owner) → pairwise differ (members_of db s o) ≡ true
-  -- a list keeps to the order of its set
+  -- a list respects the order of its set
   pub sorted : (s : ℕ) (o : Owner) → pairwise (in_order schema db s) (members_of db s o) ≡ true
-  -- where duplicates are not allowed, no two live keys of a type have the same CALC values
+  -- if duplicates are not allowed, no two live keys of a type have the same CALC values
   pub calc : (j k : DbKey) → is_live db j ≡ true → is_live db k ≡ true → j.rtype ≡ k.rtype → some_and (λ c. not c.duplicates_allowed) (calc_of schema j.rtype) ≡ true → values_eq (calc_items schema j.rtype (items_of db j)) (calc_items schema k.rtype (items_of db k)) ≡ true → j ≡ k
   -- a live key is connected in each set in which it is mandatory and automatic
   pub mandatory_automatic : (s : ℕ) (m : DbKey) → is_live db m ≡ true → some_and (λ c. is_mandatory c.class && is_automatic c.class) (member_clause schema s m.rtype) ≡ true → (o : Owner) × (is_member m (members_of db s o) ≡ true)
-  -- in a usage list each unit stands once, and no two modes conflict
+  -- in a usage list each unit appears once, and no two modes conflict
   pub usage : (a : ℕ) → pairwise agree (db.usage a) ≡ true
 
 -- the modes of a unit are its entries in the usage lists

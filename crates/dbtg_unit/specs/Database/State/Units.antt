@@ -30,7 +30,7 @@ opening_unit schema number =
       kept = [];
     }
 
--- the current of set s. A SYSTEM set with null stands at SYSTEM
+-- the current of set s. A SYSTEM set with null is at SYSTEM
 abbrev pub place_in : Lists → Unit → ℕ → Option Place
 place_in schema unit s =
     option_or (at unit.currency.sets s) (if is_system schema s then Some (record { owner = System; at = None }) else None)
@@ -48,7 +48,7 @@ key_of_place place = option_or place.at (key_of_owner place.owner)
 abbrev pub suppresses : Suppress → ℕ → Bool
 suppresses suppress s = (suppress.sets / 2 ^ s) % 2 == 1
 
--- the current of set s after a FIND or STORE of k: k as owner, or k in the list that has it; else as it was
+-- the current of set s after a FIND or STORE of k: k as owner, or k in the list that has it; otherwise unchanged
 abbrev pub seen_place : Option Place → Bool → DbKey → Option Owner → Option Place
 seen_place was true k o = Some (record { owner = Rec k; at = None })
 seen_place was false k (Some o) = Some (record { owner = o; at = Some k })

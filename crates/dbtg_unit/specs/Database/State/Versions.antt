@@ -1,4 +1,4 @@
--- How far versions can have gone.
+-- A bound on versions.
 use Rattle.std.specs.Prelude.{ℕ, ◌≤◌}
 use Rattle.dbtg_cells.specs.declared.key.DbKey.{DbKey}
 use Rattle.dbtg_unit.specs.Database.State.Base.{Database}

@@ -1,6 +1,6 @@
 -- Why a statement is refused: every check, in its order. The cause of the first that applies is the answer.
 -- First come the checks that need no cell, the same list for each statement; then those on what is stored, a line for each
--- statement. They ask a view, so they stand once for a whole database and for the cells in hand.
+-- statement. They ask a view, so the same text serves a whole database and the held cells.
 -- k is the current of run-unit, s a set, t a record type, a an area, v a sort key.
 use Rattle.std.specs.Prelude.{ℕ, Bool, not, ◌&&◌, ◌==◌, List, [], ◌∷◌, ◌++◌, Option, Some, None, is_none, is_some, map}
 use Rattle.std.specs.List.{flat_map, list_any}
@@ -106,12 +106,12 @@ modify_checks schema view unit changes k =
 abbrev pub delete_checks : Lists → View → Unit → Erase → DbKey → List (Bool × Cause)
 delete_checks schema view unit option k = own_checks view unit k ++ (is_plain option && has_members schema view k, OwnerHasMembers) ∷ []
 
--- the checks about a current, where there is one
+-- the checks about a current, if there is one
 abbrev pub about : Option DbKey → (DbKey → List (Bool × Cause)) → List (Bool × Cause)
 about None checks = []
 about (Some k) checks = checks k
 
--- the checks of each statement; those of a FIND stand with what it finds, in `Found`
+-- the checks of each statement; those of a FIND are with what it finds, in `Found`
 abbrev pub checks_on_cells : Lists → View → Unit → Statement → List (Bool × Cause)
 checks_on_cells schema view unit (OpenArea a mode) = open_checks view a mode
 checks_on_cells schema view unit (CloseArea a) = []

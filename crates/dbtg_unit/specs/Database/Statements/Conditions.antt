@@ -1,4 +1,4 @@
--- What the checks of a statement ask: of the unit and the statement alone, and of what is stored, over a view.
+-- What the checks of a statement ask: about the unit and the statement alone, and about what is stored, through a view.
 -- s is a set, t and r record types, a an area, k a key, c a class or a change.
 use Rattle.std.specs.Prelude.{ℕ, Bool, true, false, not, ◌&&◌, ◌==◌, nat_lt, List, [], ◌∷◌, Option, Some, None, is_none, is_some, length, map, option_map, option_and_then, slice_set, unwrap_or}
 use Rattle.std.specs.List.{list_any}
@@ -90,12 +90,12 @@ accepts_type schema _ t = true
 abbrev pub class_in : Lists → Unit → ℕ → Option Class
 class_in schema unit s = option_and_then (λ t. option_map (λ m. m.class) (member_clause schema s t)) (current_type unit)
 
--- an INSERT where STORE alone connects
+-- an INSERT into a set in which only STORE connects
 abbrev pub is_inserting_mandatory_automatic : Lists → Unit → Statement → Bool
 is_inserting_mandatory_automatic schema unit (Insert s) = some_and (λ c. is_mandatory c && is_automatic c) (class_in schema unit s)
 is_inserting_mandatory_automatic schema unit _ = false
 
--- a REMOVE where a member has to stay
+-- a REMOVE from a set in which a member must stay
 abbrev pub is_removing_mandatory : Lists → Unit → Statement → Bool
 is_removing_mandatory schema unit (Remove s) = some_and is_mandatory (class_in schema unit s)
 is_removing_mandatory schema unit _ = false
@@ -152,7 +152,7 @@ frees_what_is_not_kept unit _ = false
 
 -- WHAT IS STORED
 
--- a live record of type t has the CALC items of these, where their duplicates are not allowed, beside the one that is left out
+-- a live record of type t has the CALC items of these, if their duplicates are not allowed, other than the one that is left out
 abbrev pub calc_taken : Lists → View → ℕ → List Value → Option DbKey → Bool
 calc_taken schema view t items left =
     some_and (λ calc. not calc.duplicates_allowed && view.has_calc t (calc_items schema t items) left) (calc_of schema t)
@@ -168,7 +168,7 @@ abbrev pub refuses_equal : Order → Bool
 refuses_equal (SortedBy ascending NotAllowed) = true
 refuses_equal _ = false
 
--- the current of set s; SYSTEM where there is none
+-- the current of set s; SYSTEM if there is none
 abbrev pub joined_place : Lists → Unit → ℕ → Place
 joined_place schema unit s = unwrap_or (place_in schema unit s) (record { owner = System; at = None })
 
@@ -181,11 +181,11 @@ changed_items (c ∷ changes) items = changed_items changes (slice_set items c.i
 abbrev pub names_calc : Lists → ℕ → List Change → Bool
 names_calc schema t changes = some_and (λ calc. list_any (λ i. list_any (λ c. c.item == i) changes) calc.items) (calc_of schema t)
 
--- beside k, a member of the list of set s in which k is has the sort key that k has with these items
+-- a member of the list of set s in which k is, other than k, has the sort key that k has with these items
 abbrev pub sort_key_taken : Lists → View → DbKey → List Value → ℕ → Bool
 sort_key_taken schema view k items s = some_and (λ o. view.has_sort_key s o (Some k) (key_item schema s k.rtype items)) (view.owner s k)
 
--- the form that takes the record alone
+-- the form that takes only the record
 abbrev pub is_plain : Erase → Bool
 is_plain Plain = true
 is_plain _ = false

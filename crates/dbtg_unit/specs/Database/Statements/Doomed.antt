@@ -23,7 +23,7 @@ abbrev pub is_elsewhere : Lists → ℕ → Database → ℕ → Owner → DbKey
 is_elsewhere schema capacity db s o m =
     list_any (λ s'. list_any (λ o'. not (s' == s && owner_eq o' o) && is_member m (members_of db s' o')) (owners schema capacity db s')) (set_numbers schema)
 
--- whether the option takes m, a member of a list of set s, by whether m is a member of another list
+-- whether the option takes m, a member of a list of set s, given whether m is a member of another list
 abbrev pub takes_member : Lists → Erase → ℕ → Bool → DbKey → Bool
 takes_member schema Plain s elsewhere m = false
 takes_member schema Only s elsewhere m = some_and (λ c. is_mandatory c.class) (member_clause schema s m.rtype)

@@ -53,19 +53,19 @@ done db unit key items = record { database = db; unit = unit; answer = record { 
 abbrev pub refused : Database → Unit → Cause → Outcome
 refused db unit cause = record { database = db; unit = unit; answer = record { status = Refused cause; key = None; items = None } }
 
--- refused for the first cause, if there is one, and else this outcome
+-- refused for the first cause, if there is one; otherwise this outcome
 abbrev pub unless_refused : Database → Unit → Option Cause → Outcome → Outcome
 unless_refused db unit (Some cause) outcome = refused db unit cause
 unless_refused db unit None outcome = outcome
 
 -- PLACES IN SETS
 
--- directly after the position; first where it is the owner
+-- directly after the position; first if that is the owner
 abbrev pub after_position : Option DbKey → Spot DbKey
 after_position None = Front
 after_position (Some p) = After (key_eq p)
 
--- directly before the position; last where it is the owner
+-- directly before the position; last if that is the owner
 abbrev pub before_position : Option DbKey → Spot DbKey
 before_position None = Back
 before_position (Some p) = Before (key_eq p)
@@ -159,7 +159,7 @@ with_its_items items r = record { items = items; version = r.version }
 abbrev pub with_items : Database → DbKey → List Value → Database
 with_items db k items = record db { records = λ x. if key_eq k x then option_map (with_its_items items) (db.records x) else db.records x }
 
--- k with its changed items, placed anew
+-- k with its changed items, placed again
 abbrev pub modified : Lists → ℕ → Database → Unit → List Change → DbKey → Outcome
 modified schema capacity db unit changes k =
     let with_new_items = with_items db k (changed_items changes (items_of db k)) in
@@ -179,7 +179,7 @@ abbrev pub is_gone : List DbKey → Owner → Bool
 is_gone gone System = false
 is_gone gone (Rec o) = is_member o gone
 
--- the records that go, each out of all lists, with their own lists; a member of one of these lists that stays has its next version
+-- the records that go, each out of all lists, with their own lists; a member of one of these lists that stays gets its next version
 abbrev pub deleted : Lists → ℕ → Database → Unit → Erase → DbKey → Outcome
 deleted schema capacity db unit option k =
     let gone = doomed schema capacity db option k in
@@ -198,7 +198,7 @@ abbrev pub finding : Database → Unit → Result DbKey Cause → (DbKey → Uni
 finding db unit (Ok k) after = done db (after k) (Some k) None
 finding db unit (Err cause) after = refused db unit cause
 
--- what is done about a current, where there is one
+-- what is done about a current, if there is one
 abbrev pub done_on_current : Database → Unit → Option DbKey → (DbKey → Outcome) → Outcome
 done_on_current db unit None outcome = refused db unit NoCurrentOfRunUnit
 done_on_current db unit (Some k) outcome = outcome k

@@ -23,14 +23,14 @@ use Rattle.dbtg_schema.specs.Structure.{area_of, calc_of, is_system, member_clau
 abbrev pub is_text_byte : ℕ → Bool
 is_text_byte b = nat_le 32 b && nat_le b 126 && not (b == 34)
 
--- the value is of the picture
+-- the value has the picture
 abbrev pub value_fits : Picture → Value → Bool
 value_fits (Number n) (Num v) = nat_lt v (10 ^ n)
 value_fits (TextPicture n) (Text bytes) = length bytes == n && list_all is_text_byte bytes
 value_fits (Number n) (Text bytes) = false
 value_fits (TextPicture n) (Num v) = false
 
--- as many values as pictures, each of its picture
+-- as many values as pictures, each with its picture
 abbrev pub values_fit : List Picture → List Value → Bool
 values_fit [] [] = true
 values_fit (p ∷ ps) (v ∷ vs) = value_fits p v && values_fit ps vs
@@ -61,11 +61,11 @@ which_fits (Nth (pos (suc n))) = nat_lt n 999999
 which_fits (Nth (negsuc n)) = nat_lt n 999999
 which_fits _ = true
 
--- the value is of the picture of this member's key item
+-- the value has the picture of this member's key item
 abbrev pub member_key_fits : Lists → Value → Member → Bool
 member_key_fits schema v m = some_and (λ i. some_and (λ p. value_fits p v) (picture_of schema m.rtype i)) m.key
 
--- the value is of the picture of the set's keys
+-- the value has the picture of the set's keys
 abbrev pub key_fits : Lists → ℕ → Value → Bool
 key_fits schema s v = some_and (λ set. list_all (member_key_fits schema v) set.members) (slice_get schema.sets s)
 
@@ -92,7 +92,7 @@ abbrev pub distinct_items : List Change → Bool
 distinct_items [] = true
 distinct_items (c ∷ changes) = not (list_any (λ d. d.item == c.item) changes) && distinct_items changes
 
--- an item of the record type, and a value of its picture
+-- an item of the record type, and a value with its picture
 abbrev pub change_fits : Lists → ℕ → Change → Bool
 change_fits schema t c = some_and (λ p. value_fits p c.value) (picture_of schema t c.item)
 
@@ -100,7 +100,7 @@ change_fits schema t c = some_and (λ p. value_fits p c.value) (picture_of schem
 abbrev pub suppress_fits : Lists → Suppress → Bool
 suppress_fits schema suppress = nat_lt suppress.sets (2 ^ length schema.sets)
 
--- the statement names what the schema has, with values of their pictures
+-- the statement names what the schema has, with values that have their pictures
 abbrev pub fits : Lists → Statement → Bool
 fits schema (OpenArea a mode) = is_area schema a
 fits schema (CloseArea a) = is_area schema a

@@ -19,7 +19,7 @@ use Rattle.dbtg_unit.specs.Database.State.Base.{Database, is_live, items_of, liv
 use Rattle.dbtg_unit.specs.Database.State.Units.{place_in, key_of_place}
 use Rattle.dbtg_schema.specs.Structure.{types_in}
 
--- a position that names a key which is no longer in the list
+-- a position that names a key that is no longer in the list
 abbrev pub is_lost : Option DbKey → List DbKey → Bool
 is_lost None list = false
 is_lost (Some p) list = not (is_member p list)
@@ -66,18 +66,18 @@ chosen_by_key (Nth n) current keys = nth n keys
 abbrev pub with_calc : Lists → ℕ → Database → ℕ → List Value → List DbKey
 with_calc schema capacity db r values = filter (λ k. values_eq (calc_items schema r (items_of db k)) values) (live_keys capacity db r)
 
--- where the conditions all fail, the key that is there; else the first cause
+-- the key that is there, if the conditions all fail; otherwise the first cause
 abbrev pub found_unless : Option Cause → Option DbKey → Cause → Result DbKey Cause
 found_unless (Some cause) key none = Err cause
 found_unless None (Some key) none = Ok key
 found_unless None None none = Err none
 
--- of a needed current. A FIND whose current is null is refused before it looks (`find_lacks_current`)
+-- for a needed current. A FIND whose current is null is refused before it looks (`find_lacks_current`)
 abbrev pub with_current : {X : Type 0} → Option X → (X → Result DbKey Cause) → Result DbKey Cause
 with_current None f = Err NoSuchCurrent
 with_current (Some x) f = f x
 
--- the key that a FIND finds, or the cause why it finds none
+-- the key that a FIND finds, or the cause if it finds none
 abbrev pub found : Lists → ℕ → Database → Unit → Form → Result DbKey Cause
 found schema capacity db unit (Key k) = if is_live db k then Ok k else Err NoneSatisfies
 found schema capacity db unit CurrentOfUnit = with_current unit.currency.run_unit (λ k. if is_live db k then Ok k else Err Deleted)

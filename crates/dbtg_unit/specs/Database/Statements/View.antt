@@ -1,4 +1,4 @@
--- What the checks of a statement ask of what is stored. A whole database answers, and so do the cells in hand (`InHand`).
+-- What the checks of a statement ask of what is stored. A whole database answers, and so do the held cells (`InHand`).
 -- k and x are keys, s a set, o an owner, v a sort key, t a record type, a an area, db a database.
 use Rattle.std.specs.Prelude.{ℕ, Bool, not, ◌&&◌, List, Option, is_none, unwrap_or}
 use Rattle.std.specs.List.{list_any}
@@ -12,9 +12,9 @@ use Rattle.dbtg_cells.specs.Members.{is_left_out}
 use Rattle.dbtg_unit.specs.Database.State.Base.{Database, free_number, new_key, is_live, items_of, members_of, owner_of, sort_key, version_of}
 use Rattle.dbtg_unit.specs.Database.Statements.Found.{with_calc}
 
--- of a record: is it live, its items, its version, its owner in a set; of an occurrence: is there none, its members, has one of
--- them this sort key, beside the one that is left out; of a record type: has it no free number, the key of a new record where it has
--- one, has a live record of it these CALC items, beside the one that is left out; of an area: who has it open, and how
+-- about a record: is it live, its items, its version, its owner in a set; about an occurrence: is there none, its members, does one of
+-- them have this sort key, other than the one that is left out; about a record type: does it have no free number, the key of a new record
+-- if it has one, does a live record of it have these CALC items, other than the one left out; about an area: who has it open, and how
 pub record View : Type 0 where
   pub is_live : DbKey → Bool
   pub items : DbKey → List Value

@@ -1,21 +1,18 @@
-use Rattle.std.proofs.Common.{◌≡◌, ◌<◌, ◌++◌, ◌∷◌, [], true, false, List, Option, length, sym, ap, ◌∙◌, subst}
+use Rattle.std.proofs.Common.{◌≡◌, ◌<◌, ◌++◌, ◌∷◌, [], true, false, List, Option, sym, ap, ◌∙◌, subst}
 use Rattle.dbtg_schema.specs.Lists.{Lists}
 use Rattle.dbtg_cells.specs.CellNumbers.{cell_number}
 use Rattle.dbtg_cells.specs.declared.cell.Cell.{Cell}
 use Rattle.dbtg_cells.specs.declared.key.Owner.{Owner}
-use Rattle.dbtg_unit.specs.declared.held.Need.TheVariants.{Stale}
 use Rattle.dbtg_unit.specs.Database.State.Base.{Database}
-use Rattle.dbtg_unit.specs.Hands.Guesses.{with_owners}
 use Rattle.dbtg_unit.specs.Hands.Hands.{Hands}
 use Rattle.dbtg_unit.specs.Hands.Needs.{is_stale}
-use Rattle.dbtg_step.proofs.Public.{match_true, need_owners_fit, needed_not_in_hand, ok_also}
-use Rattle.dbtg_step.specs.Inside.Events.{HaveRings}
+use Rattle.dbtg_step.proofs.Public.{match_true, needed_not_in_hand, ok_also}
 use Rattle.dbtg_run.specs.declared.view.About.{About}
 use Rattle.dbtg_run.specs.Inside.Posed.{turns_left}
 use Rattle.dbtg_run.specs.Inside.Tries.{IsVain}
 use Rattle.dbtg_run.proofs.Units.Courses.{all_with_area, all_with_cell, same_without_area, same_without_cell}
 use Rattle.dbtg_run.proofs.Units.Needing.{area_needed, stale_needed, not_stale_then, area_nearer, cell_nearer, no_times}
-use Rattle.dbtg_run.proofs.Units.Rings.{needed_has_number, rings_turned}
+use Rattle.dbtg_run.proofs.Units.Rings.{needed_has_number}
 use Rattle.dbtg_run.proofs.work.Work.meet.Goals as goal
 
 pub take_area-requires-clause-area : goal.take_area-requires-clause-area
@@ -24,20 +21,6 @@ take_area-requires-clause-area c =
     let r = c.requires.work.real in
     let h = area_needed w.about.schema.value w.about.capacity r.db w.unit w.held c.args.statement.now c.in-Area.area (sym c.in-Area.is ∙ c.requires.needed r.db r.agrees) in
     (h.inside, no_times c.in-Area.area w.held.areas h.fresh)
-
-pub guess-requires-clause-count : goal.guess-requires-clause-count
-guess-requires-clause-count c =
-    let w = c.args.self.now in
-    let r = c.requires.work.real in
-    need_owners_fit w.about.schema.value w.about.capacity r.db w.unit c.args.statement.now w.held (Stale c.in-Stale.owners) (sym c.in-Stale.is ∙ c.requires.needed r.db r.agrees)
-    ∙ sym (ap (λ (a : About). length a.schema.value.sets) c.put_cells.ensures.same.about)
-
-pub guess-requires-clause-rings : goal.guess-requires-clause-rings
-guess-requires-clause-rings c =
-    let w = c.args.self.now in
-    let r = c.requires.work.real in
-    subst (λ (t : About × Hands). HaveRings t.0.schema.value t.0.capacity (with_owners t.1.guesses c.in-Stale.owners)) (λ j. (sym c.put_cells.ensures.same.about j, sym c.put_cells.ensures.held j))
-    (rings_turned w.about w.unit w.journal.items w.held c.args.statement.now c.requires.work.ours r c.requires.fits c.requires.work.rings c.in-Stale.owners (sym c.in-Stale.is ∙ c.requires.needed r.db r.agrees))
 
 pub unreachable-requires : goal.unreachable-requires
 unreachable-requires c =
@@ -54,10 +37,21 @@ pub returns-in-Some-clause-vain : goal.returns-in-Some-clause-vain
 returns-in-Some-clause-vain c =
     ok_also c.take_cell.result _ _ (λ b took no. subst (λ wanted. IsVain wanted c.args.self.now.held c.take_cell.new.self.held) (sym c.in-Take.is) (same_without_cell b c.args.self.now.held c.take_cell.new.self.held _ took no)) c.take_cell.ensures.took
 
+pub turn_back-requires-clause-stale : goal.turn_back-requires-clause-stale
+turn_back-requires-clause-stale c d agrees = sym c.in-Stale.is ∙ c.requires.needed d agrees
+
 pub returns-in-Stale-clause-vain : goal.returns-in-Stale-clause-vain
 returns-in-Stale-clause-vain c failed =
-    subst (λ wanted. IsVain wanted c.args.self.now.held c.guess.new.self.held) (sym c.in-Stale.is)
-    (c.guess.ensures.held ∙ ap (λ (h : Hands). record h { guesses = with_owners h.guesses c.in-Stale.owners }) c.put_cells.ensures.held)
+    subst (λ wanted. IsVain wanted c.args.self.now.held c.turn_back.new.self.held) (sym c.in-Stale.is) c.turn_back.ensures.turned
+
+pub returns-in-Area-clause-noted : goal.returns-in-Area-clause-noted
+returns-in-Area-clause-noted c d stale agrees = let q = sym c.in-Area.is ∙ stale in absurd (cc (q))
+
+pub returns-in-Some-clause-noted : goal.returns-in-Some-clause-noted
+returns-in-Some-clause-noted c d stale agrees = let q = sym c.in-Take.is ∙ stale in absurd (cc (q))
+
+pub returns-in-Stale-clause-noted : goal.returns-in-Stale-clause-noted
+returns-in-Stale-clause-noted c d stale agrees = c.turn_back.ensures.noted d agrees
 
 pub returns-in-Area-clause-more : goal.returns-in-Area-clause-more
 returns-in-Area-clause-more c =
@@ -94,10 +88,9 @@ pub returns-in-Stale-clause-alone : goal.returns-in-Stale-clause-alone
 returns-in-Stale-clause-alone c one =
     let w = c.args.self.now in
     let r = c.requires.work.real in
-    let s = stale_needed w.about.schema.value w.about.capacity r.db w.unit w.held c.args.statement.now c.in-Stale.owners (sym c.in-Stale.is ∙ c.requires.needed r.db r.agrees) in
-    let no = not_stale_then w.about.schema.value w.about.capacity r.db w.unit w.held c.args.statement.now c.in-Stale.owners c.requires.fits s in
-    let guesses : c.guess.new.self.held.guesses ≡ with_owners w.held.guesses c.in-Stale.owners = ap (λ (h : Hands). h.guesses) c.guess.ensures.held ∙ ap (λ (h : Hands). with_owners h.guesses c.in-Stale.owners) c.put_cells.ensures.held in (
-      subst (λ (db : Database). is_stale w.about.schema.value w.about.capacity db w.unit w.held.guesses c.args.statement.now ≡ true) (r.alone one) s.now,
-      subst (λ (db : Database). is_stale w.about.schema.value w.about.capacity db w.unit c.guess.new.self.held.guesses c.args.statement.now ≡ false) (r.alone one)
-          (subst (λ (g : List (Option Owner)). is_stale w.about.schema.value w.about.capacity r.db w.unit g c.args.statement.now ≡ false) (sym guesses) no),
+    let s = stale_needed w.about.schema.value w.about.capacity r.db w.unit w.held c.args.statement.now (sym c.in-Stale.is ∙ c.requires.needed r.db r.agrees) in
+    let no = not_stale_then w.about.schema.value w.about.capacity r.db w.unit w.held c.args.statement.now c.requires.fits in (
+      subst (λ (db : Database). is_stale w.about.schema.value w.about.capacity db w.unit w.held.guesses c.args.statement.now ≡ true) (r.alone one) s,
+      subst (λ (db : Database). is_stale w.about.schema.value w.about.capacity db w.unit c.turn_back.new.self.held.guesses c.args.statement.now ≡ false) (r.alone one)
+          (subst (λ (g : List (Option Owner)). is_stale w.about.schema.value w.about.capacity r.db w.unit g c.args.statement.now ≡ false) (sym (c.turn_back.ensures.noted r.db r.agrees)) no),
     )

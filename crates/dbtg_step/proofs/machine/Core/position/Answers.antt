@@ -8,7 +8,7 @@ use Rattle.dbtg_step.specs.Machine.Network.{network}
 use Rattle.dbtg_step.specs.Core.Parts.{CoreParts, machine, unit_state_of}
 use Rattle.dbtg_step.specs.Core.Positions.{position_at, position_of}
 use Rattle.dbtg_step.proofs.TheCore.EventsShown.{no_unit, unit_there}
-use Rattle.dbtg_step.proofs.TheCore.PositionsShown.{position_shown}
+use Rattle.dbtg_step.proofs.TheCore.PositionsShown.{read_of_unit}
 use Rattle.dbtg_step.proofs.machine.Core.position.Goals as goal
 use Rattle.dbtg_step.proofs.machine.Core.position.Goals.{then-number-eq0-via-then-number-eq0, then-number-eq0-via-else-number-eq0+then-len-number}
 
@@ -18,7 +18,7 @@ returns-then-number-eq0 c =
     let items = inside.parts.runners.items in
     let none : unit_at items c.args.number ≡ None = no_unit items c.args.number (elim c.then-number-eq0.branch [ then-number-eq0-via-then-number-eq0 w ↦ inl (omega arith) | then-number-eq0-via-else-number-eq0+then-len-number w ↦ inr (omega (arith, w.if-len-number.true, w.len.ensures)) ]) in
     subst (λ (v : CoreParts). ◌≡◌ {A = Option Position} None (position_at (network v.schema v.capacity) (machine v).state c.args.number)) c.self.view_is
-    (sym (ap (option_map (λ (x : Runner). position_of (network inside.schema inside.capacity) (unit_state_of inside.schema inside.capacity x))) none) ∙ position_shown inside.schema inside.capacity c.args.number inside.parts.table.items inside.parts.history.items items)
+    (sym (ap (option_map (λ (x : Runner). position_of (network inside.schema inside.capacity) (unit_state_of inside.schema inside.capacity x))) none) ∙ read_of_unit inside.schema inside.capacity (position_of (network inside.schema inside.capacity)) c.args.number inside.parts.table.items inside.parts.history.items items)
 
 pub returns : goal.returns
 returns c =
@@ -28,4 +28,4 @@ returns c =
     let some : unit_at items c.args.number ≡ Some c.index.result.now = unit_there items c.args.number c.index.result.now (omega arith) at in
     let here : c.position_of.result ≡ position_of (network inside.schema inside.capacity) (unit_state_of inside.schema inside.capacity c.index.result.now) = c.position_of.ensures inside.schema inside.capacity in
     subst (λ (v : CoreParts). ◌≡◌ {A = Option Position} (Some c.position_of.result) (position_at (network v.schema v.capacity) (machine v).state c.args.number)) c.self.view_is
-    (ap Some here ∙ sym (ap (option_map (λ (x : Runner). position_of (network inside.schema inside.capacity) (unit_state_of inside.schema inside.capacity x))) some) ∙ position_shown inside.schema inside.capacity c.args.number inside.parts.table.items inside.parts.history.items items)
+    (ap Some here ∙ sym (ap (option_map (λ (x : Runner). position_of (network inside.schema inside.capacity) (unit_state_of inside.schema inside.capacity x))) some) ∙ read_of_unit inside.schema inside.capacity (position_of (network inside.schema inside.capacity)) c.args.number inside.parts.table.items inside.parts.history.items items)

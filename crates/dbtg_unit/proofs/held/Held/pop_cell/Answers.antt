@@ -1,10 +1,11 @@
-use Rattle.std.proofs.Common.{◌∙◌, sym, ap, subst, ◌++◌, ◌∷◌, [], length, arith}
+use Rattle.std.proofs.Common.{◌≡◌, ◌∙◌, sym, ap, subst, ◌++◌, ◌∷◌, [], length, arith}
 use Rattle.std.proofs.lemmas.List.{length-append}
 use Rattle.indexmap.specs.IndexMap.{get}
 use Rattle.dbtg_unit.specs.declared.names.NameKey.{NameKey}
-use Rattle.dbtg_unit.specs.Inside.HeldNames.{IsIndexOf, key_eq, left, name_key}
+use Rattle.dbtg_unit.specs.Inside.HeldNames.{AreNumbered, IsIndexOf, first_count, key_eq, left, name_key, up_to}
 use Rattle.dbtg_unit.proofs.Hands.Holding.NamesAndCells.{popped}
 use Rattle.dbtg_unit.proofs.Hands.Holding.IndexOfNames.{popped_index}
+use Rattle.dbtg_unit.proofs.Hands.Holding.NumberedNames.{index_less, numbered_less}
 use Rattle.dbtg_unit.proofs.held.Held.pop_cell.Goals as goal
 
 pub returns-clause-cells : goal.returns-clause-cells
@@ -17,8 +18,12 @@ invariant_of-self-2 c =
     let index = get key_eq c.self.inside.index in
     let names = c.pop.new.self.items in
     let name = c.in_ok-name.name in
-    let before : IsIndexOf index (names ++ name ∷ []) = subst (IsIndexOf index) c.in_ok-name.ensures.items c.self.invariant.1 in
-    let leaves = λ (q : NameKey). c.leave.ensures q ∙ ap (λ k. left index (name_key name) k q) c.len.ensures.value in (
+    let first = c.self.inside.first in
+    let count = first_count first in
+    let before : IsIndexOf index count (names ++ name ∷ []) = subst (IsIndexOf index count) c.in_ok-name.ensures.items c.self.invariant.1 in
+    let numbered : AreNumbered first (names ++ name ∷ []) = subst (AreNumbered first) c.in_ok-name.ensures.items c.self.invariant.2 in
+    let leaves = λ (q : NameKey). c.leave.ensures q ∙ (λ i. left index (c.count.ensures i) (name_key name) (c.len-left.ensures.value i) q) in
+    let kept : c.keep.new.self ≡ up_to (length names) first = c.keep.ensures ∙ ap (λ k. up_to k first) c.len-left.ensures.value in (
       omega (
         arith,
         c.self.invariant.0,
@@ -27,5 +32,6 @@ invariant_of-self-2 c =
         length-append names (name ∷ []),
         length-append c.pop-2.new.self.items (c.in_ok-cell.cell ∷ []),
       ),
-      popped_index index (get key_eq c.leave.new.index) names name before leaves,
+      subst (λ f. IsIndexOf (get key_eq c.leave.new.index) (first_count f) names) (sym kept) (index_less (get key_eq c.leave.new.index) first names (popped_index count index (get key_eq c.leave.new.index) names name before leaves)),
+      subst (λ f. AreNumbered f names) (sym kept) (numbered_less first names name numbered),
     )

@@ -1,0 +1,7 @@
+use Rattle.std.proofs.Common.{sym}
+use Rattle.dbtg_unit.specs.Hands.EditsOf.{close_ring}
+use Rattle.dbtg_unit.proofs.Hands.Holding.WhileEditing.{made_of_none}
+use Rattle.dbtg_unit.proofs.erased.close_ring.Goals as goal
+
+pub returns-in-None-clause-made : goal.returns-in-None-clause-made
+returns-in-None-clause-made c = made_of_none (close_ring c.args.name.now) c.args.held.now.cells (sym c.in-None.ensures.value)
