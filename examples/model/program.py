@@ -191,8 +191,8 @@ def given(folder, words):
     return options, [machine.read(f"{folder}/{it}") for it in files]
 
 
-def run(folder, words):
-    """What `run` with these words prints."""
+def running_of(folder, words):
+    """The units of `run` with these words, at its end."""
     options, (schema, *texts) = given(folder, words)
     schema = Schema(schema)
     running, last = Running(schema, int(options["--capacity"]), [Program(schema, it) for it in texts]), len(texts)
@@ -208,4 +208,9 @@ def run(folder, words):
             running.to_the_end(unit)
     if "--then" in options and not any(host.can_go_on() for host in running.hosts[:-1]):
         running.to_the_end(last)
-    return running.printed()
+    return running
+
+
+def run(folder, words):
+    """What `run` with these words prints."""
+    return running_of(folder, words).printed()

@@ -81,7 +81,7 @@ class Reader:
         return self.words[self.at - 1][0]
 
     def entry(self, word, count):
-        """Takes the first word of an entry, with so many of its kind before it."""
+        """Takes the first word of an entry, with this many of its kind before it."""
         if self.next() == word and count >= MOST[word]:
             self.note(16, SURPLUS)
         self.want(word)

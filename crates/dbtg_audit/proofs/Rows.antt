@@ -76,7 +76,7 @@ its_items = refl
 other_items : is_so false (with_items 0 (customer_key 1) (Num 8 ∷ text "ADA     " ∷ [])) got ≡ false
 other_items = refl
 
--- by statuses alone key and items are nothing
+-- with statuses only key and items are nothing
 other_items_by_status : is_so true (with_items 0 (customer_key 2) (Num 8 ∷ [])) got ≡ true
 other_items_by_status = refl
 
@@ -92,7 +92,7 @@ store_ada = store customers (Num 7 ∷ text "ADA     " ∷ [])
 abbrev line : ℕ → ℕ → Statement → Said → Traced
 line number unit statement said = record { line = number; unit = unit; statement = statement; said = said }
 
--- what unit 1 has stored, unit 2 stores again; the trace says that it is done, and that a GET behind it is
+-- what unit 1 has stored, unit 2 stores again; the trace says that it is done, and that a GET after it is
 abbrev before : List Traced
 before = line 1 1 (OpenArea main Update) (status 0) ∷ line 2 1 store_ada (with_key 0 (customer_key 1)) ∷ line 4 2 (OpenArea main Update) (status 0) ∷ []
 
@@ -150,6 +150,6 @@ the_second_is_told = refl
 both_are_told : differences_text true card (line 1 2 store_ada (status 0) ∷ line 2 2 store_ada (status 511) ∷ []) (refused ∷ refused ∷ []) ≡ difference_text card 1 (status 0) refused ++ (difference_text card 2 (status 511) refused ++ [])
 both_are_told = refl
 
--- by statuses alone another key is not told
+-- with statuses only another key is not told
 nothing_is_told : differences_text true card (line 4 1 (Get None) (with_key 0 (customer_key 2)) ∷ []) (got ∷ []) ≡ []
 nothing_is_told = refl

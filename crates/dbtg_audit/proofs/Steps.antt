@@ -52,7 +52,7 @@ so_behind statuses (b ∷ before) (p ∷ made) here e h =
     let below : statements_of made ≡ asked before = cc (h) in
     ap (λ (so : Bool). is_so statuses b.said p && so) (so_behind statuses before made here e below) ∙ and_assoc (is_so statuses b.said p) (all_so statuses before made) (is_so statuses here.said e)
 
--- one more is told of, behind what is told of the others
+-- one more is told of, after what is told of the others
 told_behind : (statuses : Bool) (schema : Lists) (before : List Traced) (made : List Entry) (here : Traced) (e : Entry) → statements_of made ≡ asked before
     → differences_text statuses schema (before ++ here ∷ []) (made ++ e ∷ []) ≡ differences_text statuses schema before made ++ told_text statuses schema here.line here.said e
 told_behind statuses schema [] [] here e h = append-nil (told_text statuses schema here.line here.said e)
@@ -276,7 +276,7 @@ module _ (statuses : Bool) (old new : Making) (recorded : Recorded) (loaded : Is
   abbrev load : List (ℕ × Statement)
   load = loads recorded.units recorded.load
 
-  -- what is made behind the first script, in the history as a whole
+  -- what is made after the first script, in the history as a whole
   behind_is : (made : List Entry) → behind_load recorded (old.history ++ made) ≡ made
   behind_is made = behind_loaded old.history made load loaded.statements
 
@@ -307,7 +307,7 @@ module _ (statuses : Bool) (old new : Making) (recorded : Recorded) (loaded : Is
         (subst (AnswersHold old.schema old.capacity both.state) (behind_is (past ++ entry ∷ [])) both.made_hold) both.history_hold statements both.history_are (subst (λ (ts : List Traced). all_so statuses ts (behind_load recorded history) ≡ true) split so))
 
   module _ (given : Run) (run : IsMadeRun new given) where
-    -- the run of the first making, with these entries behind its own
+    -- the run of the first making, with these entries after its own
     run_of : (made : List Entry) → new ≡ record old { history = old.history ++ made } → IsMadeRun (record old { history = old.history ++ made }) given
     run_of made same = subst (λ (m : Making). IsMadeRun m given) same run
 

@@ -1,6 +1,6 @@
--- What the audit of a trace says: whether the sequential database gives the answers of which the trace tells.
--- traced are the statements of a trace, in their order, with what is said of their answers; recorded is a trace with its units, and it
--- may be a script that is made first.
+-- What the audit of a trace says: whether the sequential database gives the answers of the trace.
+-- traced are the statements of a trace, in their order, with what is said of their answers; recorded is a trace with its units, and
+-- perhaps a script that is made first.
 use Rattle.std.specs.Prelude.{ℕ, ◌≡◌, ◌+◌, ◌==◌, ◌&&◌, ◌||◌, ◌++◌, Bool, true, false, List, [], ◌∷◌, Option, Some, None, if◌then◌else◌, drop, length, map}
 use Rattle.dbtg_schema.specs.Lists.{Lists}
 use Rattle.dbtg_schema.specs.Lookups.{some_and}
@@ -24,17 +24,17 @@ use Rattle.dbtg_audit.specs.Telling.{difference_text}
 
 -- WHAT IS SAID OF ANSWERS
 
--- what is said of a part of an answer is so: it is there and the same. Where it is left out nothing is said
+-- what is said of a part of an answer holds: the part is there and is the same. If it is left out nothing is said
 abbrev pub agrees : {X : Type 0} → (X → X → Bool) → Option X → Option X → Bool
 agrees same None part = true
 agrees same (Some said) part = some_and (same said) part
 
--- what is said of the entry's answer is so; by statuses alone, where that is asked
+-- what is said of the entry's answer holds; only its status counts, if that is asked
 abbrev pub is_so : Bool → Said → Entry → Bool
 is_so statuses said e =
     said.status == status_code e.statement e.answer.status && (statuses || (agrees key_eq said.key e.answer.key && agrees values_eq said.items e.answer.items))
 
--- all that is said is so of the entries, one for one
+-- what is said of the answers holds for the entries, one for one
 abbrev pub all_so : Bool → List Traced → List Entry → Bool
 all_so statuses [] [] = true
 all_so statuses (t ∷ traced) (e ∷ entries) = is_so statuses t.said e && all_so statuses traced entries
@@ -47,12 +47,12 @@ all_so statuses (t ∷ traced) [] = false
 abbrev pub asked : List Traced → List (ℕ × Statement)
 asked = map (λ t. (t.unit, t.statement))
 
--- how many units there are: those of the trace, and behind them the one whose script is made first
+-- how many units there are: those of the trace, followed by the one whose script is made first
 abbrev pub units_with : ℕ → Option (List Statement) → ℕ
 units_with units None = units
 units_with units (Some script) = units + 1
 
--- the statements of the script that is made first, all of the unit behind the others
+-- the statements of the script that is made first, all of the unit after the others
 abbrev pub loads : ℕ → Option (List Statement) → List (ℕ × Statement)
 loads units None = []
 loads units (Some script) = map (λ x. (units + 1, x)) script
@@ -60,24 +60,24 @@ loads units (Some script) = map (λ x. (units + 1, x)) script
 abbrev pub all_units : Recorded → ℕ
 all_units recorded = units_with recorded.units recorded.load
 
--- the history in which the sequential database answers these statements, behind those that are made first
+-- the history in which the sequential database answers these statements, after those that are made first
 pub record Answers (schema : Lists) (capacity : ℕ) (recorded : Recorded) (traced : List Traced) (history : List Entry) : Type 0 where
   pub statements_are : statements_of history ≡ loads recorded.units recorded.load ++ asked traced
   pub history_of : IsHistoryOf schema capacity (all_units recorded) history
 
--- the entries behind those that are made first
+-- the entries after those that are made first
 abbrev pub behind_load : Recorded → List Entry → List Entry
 behind_load recorded history = drop (length (loads recorded.units recorded.load)) history
 
 -- THE AUDIT
 
--- all that is said of that history's answers is so, and it leads to this image and these units
+-- all that is said of that history's answers holds, and it leads to this image and these units
 pub record IsEqual (statuses : Bool) (schema : Lists) (capacity : ℕ) (recorded : Recorded) (given : Run) : Type 0 where
   pub statements_are : statements_of given.history ≡ loads recorded.units recorded.load ++ asked recorded.traced
   pub leads : LeadsTo schema capacity (all_units recorded) given.history given.image given.units
   pub so : all_so statuses recorded.traced (behind_load recorded given.history) ≡ true
 
--- all is so of the statements before one, and not of that one: its answer is that of the last entry
+-- what is said of the statements before one holds, and of that one it does not: its answer is that of the last entry
 pub record IsFirstDifference (statuses : Bool) (schema : Lists) (capacity : ℕ) (recorded : Recorded) (found : Difference) : Type 0 where
   pub before : List Traced
   pub here : Traced
@@ -92,36 +92,36 @@ pub record IsFirstDifference (statuses : Bool) (schema : Lists) (capacity : ℕ)
   pub so_before : all_so statuses before (behind_load recorded past) ≡ true
   pub differs : is_so statuses here.said entry ≡ false
 
--- all that is said is so of no history of these statements
+-- no history of these statements satisfies all that is said
 abbrev pub IsUnequal : Bool → Lists → ℕ → Recorded → Type 0
 IsUnequal statuses schema capacity recorded =
     (history : List Entry) → Answers schema capacity recorded recorded.traced history → all_so statuses recorded.traced (behind_load recorded history) ≡ false
 
--- all is so; or something is not, and that is told which is the first
+-- everything holds; or something does not, and the first difference is reported
 abbrev pub IsAudited : Bool → Lists → ℕ → Recorded → Audited → Type 0
 IsAudited statuses schema capacity recorded (Equal given) = IsEqual statuses schema capacity recorded given
 IsAudited statuses schema capacity recorded (Differs found) = IsFirstDifference statuses schema capacity recorded found × IsUnequal statuses schema capacity recorded
 
 -- EVERY DIFFERENCE
 
--- what a line says of an answer is so, and nothing is told of it; or it is told
+-- what a line says of an answer holds, and nothing is reported; or it is reported
 abbrev pub told_text : Bool → Lists → ℕ → Said → Entry → List ℕ
 told_text statuses schema line said e = if is_so statuses said e then [] else difference_text schema line said e
 
--- what is told of all lines, one for one with the entries
+-- what is reported of all lines, one for one with the entries
 abbrev pub differences_text : Bool → Lists → List Traced → List Entry → List ℕ
 differences_text statuses schema [] entries = []
 differences_text statuses schema (t ∷ traced) [] = []
 differences_text statuses schema (t ∷ traced) (e ∷ entries) = told_text statuses schema t.line t.said e ++ differences_text statuses schema traced entries
 
--- this is told of the history in which all statements are answered, and something that is said is not so
+-- this is reported of the history in which all statements are answered, and something that is said does not hold
 pub record AreDifferences (statuses : Bool) (schema : Lists) (capacity : ℕ) (recorded : Recorded) (told : List ℕ) : Type 0 where
   pub history : List Entry
   pub answers : Answers schema capacity recorded recorded.traced history
   pub told_is : told ≡ differences_text statuses schema recorded.traced (behind_load recorded history)
   pub unequal : all_so statuses recorded.traced (behind_load recorded history) ≡ false
 
--- all is so; or something is not, and every line of which this holds is told
+-- everything holds; or something does not, and every line that differs is reported
 abbrev pub IsAllAudited : Bool → Lists → ℕ → Recorded → AllAudited → Type 0
 IsAllAudited statuses schema capacity recorded (every.Equal given) = IsEqual statuses schema capacity recorded given
 IsAllAudited statuses schema capacity recorded (every.Differ told) = AreDifferences statuses schema capacity recorded told.items

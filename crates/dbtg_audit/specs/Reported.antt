@@ -1,4 +1,4 @@
--- What `audit` prints of a schema and a trace that a source gives, and which fault it tells.
+-- What `audit` prints of a schema and a trace that a source gives, and which fault it reports.
 -- lists is the schema that a text says; statuses says that they alone are compared. A second text beside the schema is a script that is
 -- made first; count is how many texts there are beside the schema.
 use Rattle.std.specs.Prelude.{ℕ, ◌≡◌, ◌⊎◌, Bool, true, false, List, [], ◌∷◌, ◌++◌, Option, Some, None, codes, nat_le}
@@ -33,7 +33,7 @@ abbrev pub IsLoad : (TextPlace → List ℕ → Type 0) → Lists → Bool → O
 IsLoad holds lists false load = load ≡ None
 IsLoad holds lists true load = (text : List ℕ) × holds (Script 2) text × (script_refusal lists text ≡ None) × (load ≡ Some (script lists text))
 
--- a schema, a trace of these units, and a script where there is one, which are held and accepted
+-- a schema, a trace of these units, and a script if there is one, which are held and accepted
 pub record TextsOfAudit (holds : TextPlace → List ℕ → Type 0) (count units : ℕ) : Type 0 where
   pub lists : Lists
   pub schema : ReadSchema holds lists
@@ -42,13 +42,13 @@ pub record TextsOfAudit (holds : TextPlace → List ℕ → Type 0) (count units
   pub trace : ReadTrace holds lists units recorded.traced
   pub load : IsLoad holds lists (nat_le 2 count) recorded.load
 
--- all that the trace says is so, and this is what it leads to, as it is printed
+-- all that the trace says holds, and this is what it leads to, as it is printed
 pub record IsEqualText (statuses : Bool) (lists : Lists) (capacity : ℕ) (recorded : Recorded) (out : List ℕ) : Type 0 where
   pub given : Run
   pub equal : IsEqual statuses lists capacity recorded given
   pub is_text : out ≡ equal_text lists given
 
--- something that it says is not so, and the first of that is told, with the status of the answer
+-- something that it says does not hold, and the first difference is reported, with the status of the answer
 pub record IsDifferenceText (statuses : Bool) (lists : Lists) (capacity : ℕ) (recorded : Recorded) (out : List ℕ) (status : ℕ) : Type 0 where
   pub found : Difference
   pub first : IsFirstDifference statuses lists capacity recorded found
@@ -80,15 +80,15 @@ IsVerdict options lists recorded said = verdict_by options.all options.statuses 
 abbrev pub AuditHeld : (TextPlace → List ℕ → Type 0) → ℕ → AuditOptions → Verdict → Type 0
 AuditHeld holds count options said = (texts : TextsOfAudit holds count options.units) × IsVerdict options texts.lists texts.recorded said
 
--- the fault is told of the script that is made first
+-- the fault is reported for the script that is made first
 abbrev pub ToldOfLoad : (TextPlace → List ℕ → Type 0) → (TextPlace → Fault → Type 0) → Fault → Lists → ℕ → Type 0
 ToldOfLoad holds fails fault lists count = (nat_le 2 count ≡ true) × ToldIn holds fails fault (Script 2) (RefusesScriptText fault 2 lists)
 
--- the fault is told of the trace, or the trace is held and accepted and it is told of the script that is made first
+-- the fault is reported for the trace, or the trace is held and accepted and it is reported for the script that is made first
 abbrev pub ToldOfRecorded : (TextPlace → List ℕ → Type 0) → (TextPlace → Fault → Type 0) → Fault → Lists → ℕ → ℕ → Type 0
 ToldOfRecorded holds fails fault lists units count =
     ToldOfTrace holds fails fault lists units ⊎ ((traced : List Traced) × ReadTrace holds lists units traced × ToldOfLoad holds fails fault lists count)
 
--- the fault is told of the schema, or the schema is held and accepted and it is told of what was recorded
+-- the fault is reported for the schema, or the schema is held and accepted and it is reported for what was recorded
 abbrev pub ToldOfAudit : (TextPlace → List ℕ → Type 0) → (TextPlace → Fault → Type 0) → Fault → ℕ → ℕ → Type 0
 ToldOfAudit holds fails fault units count = ToldOfSchema holds fails fault ⊎ ((lists : Lists) × ReadSchema holds lists × ToldOfRecorded holds fails fault lists units count)

@@ -1,4 +1,4 @@
-//! The audit of a trace: each statement is made whole, and its answer compared with what the trace says of it.
+//! The audit of a trace: each statement is made whole, and its answer compared with the trace.
 ghost use Rattle.std.specs.Prelude.{◌≡◌, ◌≤◌, ◌<◌, ◌-◌, Bool, List, [], length, slice_get, Some, true, IfOk, IfSome};
 ghost use Rattle.std.specs.List.{list_all};
 ghost use Rattle.dbtg_schema.specs.Sound.{IsSound};
@@ -20,7 +20,7 @@ use dbtg_trace::{Said, Traced};
 use dbtg_unit::{Entry, Statement};
 use std::alloc::{AllocError, Global};
 
-/// What was recorded elsewhere: a trace and how many units it has, and it may be a script that is made first, by a unit behind them.
+/// What was recorded elsewhere: a trace and how many units it has, and perhaps a script that is made first, by another unit.
 #[derive(Drop)]
 pub struct Recorded {
     pub units: u8,
@@ -28,7 +28,7 @@ pub struct Recorded {
     pub traced: Row<Traced>,
 }
 
-/// An answer of which a trace says something else: the line that says so, what it says, and the history up to the entry that has
+/// An answer that differs from the trace: the line that differs, what it says, and the history up to the entry that has
 /// the answer, which is the last.
 #[derive(Drop)]
 pub struct Difference {
@@ -37,25 +37,25 @@ pub struct Difference {
     pub history: Row<Entry>,
 }
 
-/// What the audit of a trace comes to.
+/// The result of the audit of a trace.
 #[derive(Drop)]
 pub enum Audited {
-    /// All that the trace says is so: its history, with the image and the units to which it leads.
+    /// The trace agrees: its history, with the image and the units to which it leads.
     Equal(Run),
-    /// The first answer of which it says something else.
+    /// The first answer that differs from the trace.
     Differs(Difference),
 }
 
-/// What the audit of every line of a trace comes to.
+/// The result of the audit of every line of a trace.
 #[derive(Drop)]
 pub enum AllAudited {
-    /// All that the trace says is so: its history, with the image and the units to which it leads.
+    /// The trace agrees: its history, with the image and the units to which it leads.
     Equal(Run),
-    /// What is told of each answer of which it says something else.
+    /// What is said of each answer that differs from the trace.
     Differ(Vec<u8>),
 }
 
-// Whether what is said of the newest entry's answer is so.
+// Whether the newest entry's answer agrees with what is said of it.
 fn newest_is_so(history: &[Entry], statuses: bool, said: &Said) -> bool
     requires { 0 < length history.now }
     ensures { (e : Entry) → slice_get history.now (length history.now - 1) ≡ Some e → result ≡ is_so statuses said.now e }
@@ -63,7 +63,7 @@ fn newest_is_so(history: &[Entry], statuses: bool, said: &Said) -> bool
     is_so(statuses, said, &history[history.len() - 1])
 }
 
-// Makes a statement; whether what is said of its answer is so.
+// Makes a statement; whether its answer agrees with what is said of it.
 fn make_one(
     database: &mut WholeDatabase<'_>,
     unit: u8,
@@ -80,7 +80,7 @@ fn make_one(
     Ok(newest_is_so(database.history(), statuses, said))
 }
 
-// Makes the statements of a trace up to the first of whose answer it says something else: its line, and what that says.
+// Makes the statements of a trace up to the first whose answer differs: gives its line, and what that says.
 fn make_up_to(
     database: &mut WholeDatabase<'_>,
     traced: Row<Traced>,
@@ -104,7 +104,7 @@ fn make_up_to(
     Ok(None)
 }
 
-// What an audit comes to, where the statements are made up to the line that was found.
+// The result of an audit, if the statements are made up to the line that was found.
 fn audited_of(
     database: WholeDatabase<'_>,
     found: Option<(u64, Said)>,
@@ -127,8 +127,8 @@ fn audited_of(
     }
 }
 
-/// Whether the sequential database gives the answers of which a trace tells, by statuses alone where that is asked. The statements
-/// are made whole, one after another, on a database of its own, up to the first of whose answer the trace says something else.
+/// Whether the sequential database gives the answers of a trace; only statuses are compared if that is asked. The statements
+/// are made whole, one after another, on a database of its own, up to the first whose answer differs from the trace.
 pub fn audit_trace(
     alloc: Global,
     schema: &Schema,
@@ -158,7 +158,7 @@ pub fn audit_trace(
     }
 }
 
-// What an audit comes to, where all statements are made and this is told of those that differ.
+// The result of an audit, if all statements are made and this is said of those that differ.
 fn all_audited_of(
     database: WholeDatabase<'_>,
     so: bool,
@@ -174,8 +174,8 @@ fn all_audited_of(
     Ok(AllAudited::Differ(told))
 }
 
-/// The same of every line: behind an answer of which the trace says something else, its statements are made on what the sequential
-/// database comes to.
+/// The same for every line: after an answer that differs from the trace, the trace's statements go on with the sequential
+/// database as it is.
 pub fn audit_every_line(
     alloc: Global,
     schema: &Schema,

@@ -1,4 +1,4 @@
-//! The audit of every line: all statements are made, and each answer of which the trace says something else is told.
+//! The audit of every line: all statements are made, and each answer that differs from the trace is reported.
 ghost use Rattle.std.specs.Prelude.{◌≡◌, ◌++◌, ◌≤◌, ◌<◌, ◌-◌, length, slice_get, Some, true, IfOk};
 ghost use Rattle.std.specs.List.{list_all};
 ghost use Rattle.dbtg_unit.specs.declared.unit.Entry.{Entry};
@@ -23,7 +23,7 @@ struct Claim<'a> {
     said: &'a Said,
 }
 
-// Whether what is said of the newest entry's answer is so; where it is not, that is told behind a text.
+// Whether the newest entry's answer agrees with what is said of it; a difference is appended to a text.
 fn tell_newest(
     out: &mut Vec<u8>,
     schema: &Schema,
@@ -43,7 +43,7 @@ fn tell_newest(
     Ok(false)
 }
 
-// Makes the statement of a line; whether what the line says of its answer is so.
+// Makes the statement of a line; whether its answer agrees with what the line says of it.
 fn make_one(
     out: &mut Vec<u8>,
     schema: &Schema,
@@ -68,7 +68,7 @@ fn make_one(
     tell_newest(out, schema, database.history(), statuses, claim)
 }
 
-/// Makes all statements of a trace, and tells behind a text each answer of which it says something else; whether all is so.
+/// Makes all statements of a trace, and appends to a text each answer that differs; whether all agree.
 pub fn tell_all(
     out: &mut Vec<u8>,
     schema: &Schema,

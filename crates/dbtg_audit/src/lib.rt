@@ -1,4 +1,4 @@
-//! Audits of traces: whether the sequential database gives the answers of which a trace tells.
+//! Audits of traces: whether the sequential database gives the answers of a trace.
 #![tactic(auto)]
 
 mod auditing;

@@ -1,4 +1,4 @@
-//! The database on which a trace is audited: opened, and behind a script that is made first, if there is one.
+//! The database on which a trace is audited: opened, and after a script that is made first, if there is one.
 ghost use Rattle.std.specs.Prelude.{◌≡◌, ◌+◌, ◌≤◌, ◌<◌, ◌++◌, IfOk, OnOk, Option, MatchOption, map, true};
 ghost use Rattle.std.specs.List.{list_all};
 ghost use Rattle.dbtg_schema.specs.Sound.{IsSound};
@@ -51,7 +51,7 @@ fn opened_with<'a>(
     }
 }
 
-/// The database with its units, behind the script that is made first.
+/// The database with its units, after the script that is made first.
 pub fn loaded<'a>(
     alloc: Global,
     schema: &'a Schema,

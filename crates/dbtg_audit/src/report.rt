@@ -1,4 +1,4 @@
-//! The command `audit`: the schema and the trace that a source gives, audited, and the text of what comes of it.
+//! The command `audit`: the schema and the trace that a source gives, audited, and the text of the result.
 ghost use Rattle.std.specs.Prelude.{ℕ, ◌≡◌, ◌++◌, ◌∷◌, ◌<◌, [], Bool, List, IfErr, IfOk, IfSome, nat_le, true};
 ghost use Rattle.std.specs.List.{list_all};
 ghost use Rattle.dbtg_schema.specs.Sound.{IsSound};
@@ -21,8 +21,8 @@ use dbtg_step::Run;
 use dbtg_unit::{Entry, Statement};
 use std::alloc::{AllocError, Global};
 
-/// How a trace is audited: the capacity, the units that it has, whether statuses alone are compared, and whether every line that
-/// differs is told.
+/// How a trace is audited: the capacity, the units that it has, whether only statuses are compared, and whether every line that
+/// differs is reported.
 #[derive(Clone, Copy)]
 pub struct AuditOptions {
     pub capacity: u16,
@@ -31,7 +31,7 @@ pub struct AuditOptions {
     pub all: bool,
 }
 
-/// What `audit` prints: on standard output where all that the trace says is so, and else on standard error: the first line that
+/// What `audit` prints: on standard output if the trace agrees, otherwise on standard error: the first line that
 /// differs, with the status of its answer, or each line that differs.
 #[derive(Drop)]
 pub enum Verdict {
@@ -95,7 +95,7 @@ fn verdict_of(alloc: Global, schema: &Schema, audited: Audited) -> Result<Verdic
     }
 }
 
-// The same of every line.
+// The same for every line.
 fn listed_verdict_of(
     alloc: Global,
     schema: &Schema,
@@ -183,7 +183,7 @@ fn audit_known<S: Source>(
 }
 
 /// What `audit` prints of the schema and the trace that a source gives, or the first fault. A second script of the source is made
-/// first, by a unit behind those of the trace. By statuses alone, keys and items are not compared.
+/// first, by a unit after those of the trace. With statuses only, keys and items are not compared.
 pub fn audit<S: Source>(alloc: Global, source: &S, options: AuditOptions) -> Result<Verdict, Fault>
     requires few { options.units < 255 }
     ensures done { IfOk result (λ said. AuditHeld (S.holds source.now) (S.count source.now) options said) }

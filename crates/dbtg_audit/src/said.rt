@@ -1,4 +1,4 @@
-//! Whether what is said of an answer is so.
+//! Whether an answer agrees with what is said of it.
 ghost use Rattle.std.specs.Prelude.{◌≡◌, ◌==◌};
 ghost use Rattle.dbtg_cells.specs.Keys.{key_eq, values_eq};
 ghost use Rattle.dbtg_unit.specs.Database.Statements.Codes.{status_code};
@@ -35,7 +35,7 @@ fn same_items(said: &Option<Row<Value>>, items: &Option<Row<Value>>) -> bool
     }
 }
 
-/// Whether what is said of the entry's answer is so; what is left out says nothing. By statuses alone, key and items say nothing.
+/// Whether the entry's answer agrees with what is said of it; what is left out agrees. With statuses only, key and items are not compared.
 pub fn is_so(statuses: bool, said: &Said, entry: &Entry) -> bool
     ensures { result ≡ is_so statuses said.now entry.now }
 {

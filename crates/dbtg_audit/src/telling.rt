@@ -1,4 +1,4 @@
-//! The line that tells where a trace differs.
+//! The line that reports where a trace differs.
 ghost use Rattle.std.specs.Prelude.{◌≡◌, ◌++◌, OnOk};
 ghost use Rattle.dbtg_audit.specs.Telling.{difference_text, is_text, said_text};
 
@@ -30,7 +30,7 @@ fn push_is(out: &mut Vec<u8>, schema: &Schema, entry: &Entry) -> Result<(), Allo
     Ok(())
 }
 
-/// A line behind a text: the line of the trace, what it says of the entry's answer, and the answer.
+/// Appends a line: the line of the trace, what it says of the entry's answer, and the answer.
 pub fn push_difference(
     out: &mut Vec<u8>,
     schema: &Schema,

@@ -1,5 +1,5 @@
 -- Programs around the others.
-use Rattle.std.proofs.Common.{◌≡◌, ℕ, zero, suc, ◌+◌, ◌-◌, ◌<◌, Bool, true, false, ◌&&◌, List, [], ◌∷◌, ◌++◌, length, map, ◌⊎◌, inl, inr, refl, ap, subst, sym, ◌∙◌, arith}
+use Rattle.std.proofs.Common.{◌≡◌, ℕ, zero, suc, ◌+◌, ◌-◌, ◌<◌, Bool, true, false, ◌&&◌, List, [], ◌∷◌, length, map, ◌⊎◌, inl, inr, refl, ap, subst, sym, ◌∙◌, arith}
 use Rattle.std.specs.Prelude.{Option, cond, filter}
 use Rattle.std.specs.List.{list_all, range_with_len}
 use Rattle.std.proofs.lemmas.List.Folds.{list_all-append}
@@ -35,7 +35,7 @@ holds_also f n so_far here =
     ap (λ k. list_all f (range_with_len 1 k)) next ∙ ap (list_all f) (range_more n 1) ∙ list_all-append f (range_with_len 1 n) ((1 + n) ∷ [])
     ∙ ap (λ b. b && list_all f ((1 + n) ∷ [])) so_far ∙ ap (λ k. list_all f (k ∷ [])) last ∙ ap (λ b. b && true) here
 
--- where there is no last program, each unit hears its turns
+-- if there is no last program, each unit hears its turns
 pub all_heard : (units : ℕ) (turns : List ℕ) → filter (is_heard (record { first = false; last = false }) units) turns ≡ turns
 all_heard units [] = refl
 all_heard units (u ∷ turns) = ap (λ us. u ∷ us) (all_heard units turns)
@@ -46,7 +46,7 @@ module _ (schema : Lists) (programs : List Program) (around : Around) where
       → HaveTurned schema programs m (cond (is_heard around (length programs) u) (u ∷ []) []) m members
   not_heard m members u w e = turned_to schema programs m m [] (cond (is_heard around (length programs) u) (u ∷ []) []) members (sym (ap (λ b. cond b (u ∷ []) []) e)) (not_turned schema programs m members w)
 
-  -- where there is no first program, nothing is done before the others
+  -- if there is no first program, nothing is done before the others
   pub nothing_first : (m : Making) (members : List Member) → IsUnderWay schema programs m members → around.first ≡ false → HaveTurned schema programs m (first_turns around (length programs)) m members
   nothing_first m members w e =
       turned_to schema programs m m [] (first_turns around (length programs)) members (sym (ap (λ b. cond b (to_the_end (others around (length programs) + 1)) []) e)) (not_turned schema programs m members w)

@@ -20,7 +20,8 @@ use Rattle.dbtg_step.proofs.Public.{length_with, set_at, set_elsewhere}
 use Rattle.dbtg_going.specs.declared.member.Going.{Going}
 use Rattle.dbtg_going.specs.declared.member.Member.{Member}
 use Rattle.dbtg_going.specs.Goings.{AreEach, IsGoing, comes_of}
-use Rattle.dbtg_going.specs.Turns.{after_turn, after_turns, comes, due_after, made, most, statement_due, statement_of, to_the_end, with_outcome}
+use Rattle.dbtg_going.specs.Turns.{after_turn, after_turns, comes, due_after, made, statement_due, statement_of, to_the_end, with_outcome}
+use Rattle.dbtg_unit.specs.declared.limits.TheConstants.{MOST_STATEMENTS}
 use Rattle.dbtg_going.specs.Inside.Members.{AreAt, HaveTurned, IsAt, IsUnderWay}
 
 same_or_not : (m n : ℕ) → (m ≡ n) ⊎ (m ≢ n)
@@ -90,7 +91,7 @@ module _ (schema : Lists) (programs : List Program) where
   pub not_begun : (m : Making) (members : List Member) (u : ℕ) → IsUnderWay schema programs m members → Turned m (replicate 0 u) m members
   not_begun m members u w = not_turned m members w
 
-  pub at_the_end : (old new : Making) (u n : ℕ) (members : List Member) → n ≡ most → Turned old (replicate n u) new members → Turned old (to_the_end u) new members
+  pub at_the_end : (old new : Making) (u n : ℕ) (members : List Member) → n ≡ MOST_STATEMENTS → Turned old (replicate n u) new members → Turned old (to_the_end u) new members
   unfolding to_the_end
   at_the_end old new u n members e t = subst (λ k. Turned old (replicate k u) new members) e t
 
@@ -154,9 +155,9 @@ is_due schema state (code_due.Statement s) x e =
     (ap code_due.Statement found.1, subst (λ z. fits schema z ≡ true) found.1 found.0)
 
 -- a statement that is to be made is due, is not one too many, and is of the schema
-pub to_be_made : (schema : Lists) (n : ℕ) (state : ProgramState) (d : code.Due) (x : Statement) → due_after schema n (view_due state d) ≡ Some x → (d ≡ code_due.Statement x) × (nat_lt n most ≡ true) × (fits schema x ≡ true)
+pub to_be_made : (schema : Lists) (n : ℕ) (state : ProgramState) (d : code.Due) (x : Statement) → due_after schema n (view_due state d) ≡ Some x → (d ≡ code_due.Statement x) × (nat_lt n MOST_STATEMENTS ≡ true) × (fits schema x ≡ true)
 to_be_made schema n state d x e =
-    let few = test_holds (nat_lt n most) (statement_due schema (view_due state d)) x e in
+    let few = test_holds (nat_lt n MOST_STATEMENTS) (statement_due schema (view_due state d)) x e in
     let is = is_due schema state d x few.1 in
     (is.0, few.0, is.1)
 
@@ -270,7 +271,7 @@ pub record Awaits (schema : Lists) (programs : List Program) (m : Making) (membe
   pub member_found : unit_at members u ≡ Some member
   pub at : IsAt schema program (entries_of u m.history) member
   pub due_is : member.going.due ≡ code_due.Statement x
-  pub few : nat_lt member.made most ≡ true
+  pub few : nat_lt member.made MOST_STATEMENTS ≡ true
   pub fit : fits schema x ≡ true
 
 module _ (schema : Lists) (programs : List Program) (m : Making) (members : List Member) (w : IsUnderWay schema programs m members) (u : ℕ) where
@@ -291,7 +292,7 @@ module _ (schema : Lists) (programs : List Program) (m : Making) (members : List
       let made = to_be_made schema there.0.made there.0.going.state there.0.going.due x (said_by there.0 there.1 ∙ said) in
       record { program = program.0; member = there.0; program_found = program.1; member_found = there.1; at = there.2; due_is = made.0; few = made.1; fit = made.2 }
 
-  -- with no unit of this number there is none
+  -- with no unit with this number there is none
   pub said_by_nobody : (u ≡ 0) ⊎ (length members < u) → statement_of schema programs m.history u ≡ None
   said_by_nobody h =
       ap (option_and_then (λ (p : Program). due_after schema (length (entries_of u m.history)) (comes schema p u m.history)))

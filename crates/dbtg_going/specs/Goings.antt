@@ -12,7 +12,7 @@ use Rattle.dbtg_step.specs.Machine.SequentialDatabase.{unit_at}
 use Rattle.dbtg_going.specs.declared.member.Going.{Going}
 use Rattle.dbtg_going.specs.Turns.{making_by}
 
--- what comes of it
+-- what is due in it
 abbrev pub comes_of : Going → Due
 comes_of g = view_due g.state g.due
 
@@ -22,7 +22,7 @@ pub record IsGoing (schema : Lists) (program : Program) (entries : List Entry) (
   pub stands : Stands program g.state g.due
   pub are_of : AreOf schema program entries
 
--- there is one for each program, and it is so after the entries of the program's unit
+-- there is one for each program, and `Is` holds for it after the entries of the program's unit
 pub record AreEach {X : Type 0} (Is : Program → List Entry → X → Type 0) (programs : List Program) (history : List Entry) (xs : List X) : Type 0 where
   pub count : length xs ≡ length programs
   pub each : (u : ℕ) (program : Program) → unit_at programs u ≡ Some program → (x : X) × (unit_at xs u ≡ Some x) × Is program (entries_of u history) x

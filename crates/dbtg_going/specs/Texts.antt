@@ -1,10 +1,9 @@
--- What is printed of a run of programs: behind what is printed of every run, a line for each program.
+-- What is printed of a run of programs: what is printed of every run, followed by a line for each program.
 -- u is the number of a unit.
 use Rattle.std.specs.Prelude.{ℕ, ◌+◌, List, [], ◌∷◌, ◌++◌, codes, decimal, drop, filter, length}
 use Rattle.dbtg_schema.specs.Lists.{Lists}
 use Rattle.dbtg_script.specs.Printing.Spelling.{has_byte}
 use Rattle.dbtg_script.specs.Printing.Texts.{items_text, run_text}
-use Rattle.dbtg_step.specs.declared.results.Run.{Run}
 use Rattle.dbtg_program.specs.declared.program.End.{End}
 use Rattle.dbtg_program.specs.declared.program.End.TheVariants.{Stop, Assert, Size, Astray}
 use Rattle.dbtg_program.specs.declared.program.Program.{Program}
@@ -20,13 +19,13 @@ end_text (Assert line) = codes "ASSERT line " ++ decimal line
 end_text (Size line) = codes "SIZE line " ++ decimal line
 end_text (Astray line) = codes "ASTRAY line " ++ decimal line
 
--- how it stands
+-- whether it has ended, is spent, or goes on
 abbrev pub standing_text : Standing → List ℕ
 standing_text (Ended how) = end_text how
 standing_text Spent = codes "SPENT"
 standing_text GoesOn = codes "GOES ON"
 
--- how many fields of a program are items of records, whose names have a period; its counters stand behind them
+-- how many fields of a program are items of records, whose names have a period; its counters follow them
 abbrev pub count_items : Program → ℕ
 count_items program = length (filter (λ f. has_byte 46 f.name) program.fields)
 

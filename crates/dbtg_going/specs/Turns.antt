@@ -4,6 +4,7 @@ use Rattle.std.specs.Prelude.{ℕ, ◌≡◌, ◌+◌, ◌-◌, ◌==◌, Bool, 
 use Rattle.std.specs.List.{list_all, range_with_len}
 use Rattle.dbtg_schema.specs.Lists.{Lists}
 use Rattle.dbtg_unit.specs.declared.statement.Statement.{Statement}
+use Rattle.dbtg_unit.specs.declared.limits.TheConstants.{MOST_STATEMENTS}
 use Rattle.dbtg_unit.specs.declared.unit.Entry.{Entry}
 use Rattle.dbtg_unit.specs.Database.Statements.Effect.{Outcome}
 use Rattle.dbtg_unit.specs.Database.Statements.Fits.{fits}
@@ -21,20 +22,16 @@ use Rattle.dbtg_going.specs.declared.going.ProgramRun.{ProgramRun}
 
 -- WHERE A PROGRAM STANDS
 
--- a unit makes no more statements than this
-abbrev pub most : ℕ
-most = 65535
-
--- what comes of the program of unit u after a history: a statement that is due, or its end
+-- what is due in the program of unit u after a history: a statement, or its end
 abbrev pub comes : Lists → Program → ℕ → List Entry → Due
 comes schema program u history = next schema program (state_after schema program (beginning program) (entries_of u history))
 
--- how a program stands of which this comes, where its unit has made n statements
+-- whether a program for which this is due has ended, is spent, or goes on, if its unit has made n statements
 abbrev pub standing : ℕ → Due → Standing
 standing n (ended at how) = Ended how
-standing n (due at s) = if nat_lt n most then GoesOn else Spent
+standing n (due at s) = if nat_lt n MOST_STATEMENTS then GoesOn else Spent
 
--- the state in which it is then
+-- the state of its fields then
 abbrev pub state_in : Due → ProgramState
 state_in (ended at how) = at
 state_in (due at s) = at
@@ -45,25 +42,25 @@ reached schema program u history = record { standing = standing (length (entries
 
 -- TURNS
 
--- the statement that is due; one that is none of the schema is never made
+-- the statement that is due; a statement that does not fit the schema is never made
 abbrev pub statement_due : Lists → Due → Option Statement
 statement_due schema (ended at how) = None
 statement_due schema (due at s) = if fits schema s then Some s else None
 
--- the same where its unit, which has made n statements, can make it
+-- the same, if its unit, which has made n statements, can make it
 abbrev pub due_after : Lists → ℕ → Due → Option Statement
-due_after schema n d = if nat_lt n most then statement_due schema d else None
+due_after schema n d = if nat_lt n MOST_STATEMENTS then statement_due schema d else None
 
 -- the statement of a turn of unit u after a history, if there is one
 abbrev pub statement_of : Lists → List Program → List Entry → ℕ → Option Statement
 statement_of schema programs history u = option_and_then (λ program. due_after schema (length (entries_of u history)) (comes schema program u history)) (unit_at programs u)
 
--- a history, and behind it a statement of unit u with its outcome
+-- a history, followed by a statement of unit u with its outcome
 abbrev pub with_outcome : List Entry → ℕ → Statement → Option Outcome → List Entry
 with_outcome history u s None = history
 with_outcome history u s (Some outcome) = history ++ record { ticket = length history; unit = u; statement = s; answer = outcome.answer } ∷ []
 
--- the same with the outcome that the statement has in the sequential database, with this number of units; with no statement nothing is made
+-- the same with the outcome that the statement has in the sequential database with this many units; without a statement nothing is made
 abbrev pub made : Lists → ℕ → ℕ → List Entry → ℕ → Option Statement → List Entry
 made schema capacity units history u None = history
 made schema capacity units history u (Some s) = with_outcome history u s (outcome_of schema capacity (replay schema capacity (opening_state schema units) history) u s)
@@ -77,9 +74,9 @@ unfoldable pub after_turns : Lists → ℕ → List Program → List Entry → L
 after_turns schema capacity programs history [] = history
 after_turns schema capacity programs history (u ∷ us) = after_turns schema capacity programs (after_turn schema capacity programs history u) us
 
--- the turns in which the program of unit u goes to its end: one for each statement that the unit can make. Those behind the end make nothing
+-- the turns in which the program of unit u goes to its end: one for each statement that the unit can make. Turns after the end make nothing
 unfoldable pub to_the_end : ℕ → List ℕ
-to_the_end u = replicate most u
+to_the_end u = replicate MOST_STATEMENTS u
 
 -- each of these units' programs to its end, that of unit 1 first
 abbrev pub one_by_one : ℕ → List ℕ
@@ -87,7 +84,7 @@ one_by_one units = flat_map to_the_end (range_with_len 1 units)
 
 -- THE FIRST AND THE LAST PROGRAM
 
--- one less, where there is such a program
+-- one less, if there is such a program
 abbrev pub one_less : Bool → ℕ → ℕ
 one_less there n = if there then n - 1 else n
 
@@ -95,15 +92,15 @@ one_less there n = if there then n - 1 else n
 abbrev pub others : Around → ℕ → ℕ
 others around units = one_less around.first (one_less around.last units)
 
--- the first program goes to its end; its unit is numbered behind those of the others
+-- the first program goes to its end; its unit is numbered after those of the others
 abbrev pub first_turns : Around → ℕ → List ℕ
 first_turns around units = if around.first then to_the_end (others around units + 1) else []
 
--- it is not the unit of the last program, which is numbered behind all
+-- it is not the unit of the last program, which has the highest number
 abbrev pub is_heard : Around → ℕ → ℕ → Bool
 is_heard around units u = not (around.last && u == units)
 
--- the turns that are told, without those of the last program's unit; where none are told each of the others goes to its end
+-- the turns that are given, without those of the last program's unit; if none are given each of the others goes to its end
 abbrev pub other_turns : Around → ℕ → Option (List ℕ) → List ℕ
 other_turns around units (Some turns) = filter (is_heard around units) turns
 other_turns around units None = one_by_one (others around units)
@@ -112,15 +109,15 @@ other_turns around units None = one_by_one (others around units)
 abbrev pub turns_before : Around → ℕ → Option (List ℕ) → List ℕ
 turns_before around units told = first_turns around units ++ other_turns around units told
 
--- no unit but the last can make a statement
+-- no unit except the last can make a statement
 abbrev pub have_ended : Lists → List Program → List Entry → Bool
 have_ended schema programs history = list_all (λ u. is_none (statement_of schema programs history u)) (range_with_len 1 (length programs - 1))
 
--- the last program goes to its end, where all others have ended
+-- the last program goes to its end, once all others have ended
 abbrev pub last_turns : Lists → List Program → Around → List Entry → List ℕ
 last_turns schema programs around history = if around.last && have_ended schema programs history then to_the_end (length programs) else []
 
--- all turns of programs, with those that are told
+-- all turns of programs, with those that are given
 abbrev pub turns_of : Lists → ℕ → List Program → Around → Option (List ℕ) → List ℕ
 turns_of schema capacity programs around told =
     turns_before around (length programs) told ++ last_turns schema programs around (after_turns schema capacity programs [] (turns_before around (length programs) told))

@@ -1,4 +1,4 @@
-//! Programs that run together: by turns, or one after the other, with a first and a last one around them.
+//! Programs that run together: by turns, or one after the other, possibly with a first and a last one.
 
 ghost use Rattle.dbtg_going.specs.Goings.{AreAfter};
 ghost use Rattle.dbtg_going.specs.Inside.Members.{AreAt, HaveTurned, IsUnderWay, reached_by};
@@ -9,14 +9,14 @@ ghost use Rattle.dbtg_step.specs.Core.Whole.{Making as SaidMaking};
 ghost use Rattle.std.specs.Prelude.{◌≡◌, ◌≤◌, ◌<◌, ◌∷◌, ◌+◌, ◌-◌, [], IfOk, OnOk, Some, false, filter, is_none, length, map, option_map};
 
 use crate::around::Around;
-use crate::member::{Going, MOST_STATEMENTS, Member, Reached};
+use crate::member::{Going, Member, Reached};
 use dbtg_program::Program;
 use dbtg_schema::{Row, Schema};
 use dbtg_step::{Run, WholeDatabase};
-use dbtg_unit::Statement;
+use dbtg_unit::{MOST_STATEMENTS, Statement};
 use std::alloc::{AllocError, Global};
 
-/// What a run of programs gives: the run, which has no results, and how far each program is.
+/// The result of a run of programs: the run, whose moves have no results, and how far each program is.
 #[derive(Drop)]
 pub struct ProgramRun {
     pub run: Run,
@@ -24,13 +24,13 @@ pub struct ProgramRun {
 }
 
 impl ProgramRun {
-    /// Lets go of it, and of its memory. Other crates end one by this, so that they need not prove what it is to drop its parts.
+    /// Drops the run. Other crates call this, so that they need not prove that its parts can be dropped.
     pub fn discard(self) {
         drop(self)
     }
 }
 
-/// Programs that run together, a unit for each.
+/// Programs that run together, one unit for each.
 #[derive(Drop)]
 struct Programs<'a> {
     alloc: Global,
@@ -95,7 +95,7 @@ impl<'a> Programs<'a> {
         }
     }
 
-    // A turn that is told of the unit, which the last program's unit does not hear.
+    // A turn that is given to the unit, unless it is the last program's unit, which ignores it.
     fn told_turn(
         &self,
         database: &mut WholeDatabase<'_>,
@@ -129,7 +129,7 @@ impl<'a> Programs<'a> {
         Ok(())
     }
 
-    // The program of the unit, to its end.
+    // Runs the program of the unit to its end.
     fn to_the_end(
         &self,
         database: &mut WholeDatabase<'_>,
@@ -147,7 +147,7 @@ impl<'a> Programs<'a> {
         Ok(())
     }
 
-    // Each program to its end, one after another.
+    // Runs each program to its end, one after another.
     fn one_by_one(
         &self,
         database: &mut WholeDatabase<'_>,
@@ -163,7 +163,7 @@ impl<'a> Programs<'a> {
         Ok(())
     }
 
-    // The first program, to its end.
+    // Runs the first program to its end.
     fn make_first(
         &self,
         database: &mut WholeDatabase<'_>,
@@ -180,7 +180,7 @@ impl<'a> Programs<'a> {
         self.to_the_end(database, members, others + 1)
     }
 
-    // The others by these turns, or without any each to its end.
+    // Runs the others by these turns, or, without turns, each to its end.
     fn make_others(
         &self,
         database: &mut WholeDatabase<'_>,
@@ -209,7 +209,7 @@ impl<'a> Programs<'a> {
         members[unit as usize - 1].has_ended(self.schema)
     }
 
-    // Can no unit but the last make a statement?
+    // Can no unit except the last make a statement?
     fn have_ended(&self, members: &[Member]) -> bool
         requires few { length self.now.list.now ≤ 255 }
         requires count { length members.now ≡ length self.now.list.now }
@@ -224,7 +224,7 @@ impl<'a> Programs<'a> {
         true
     }
 
-    // The last program to its end, where all others have ended.
+    // Runs the last program to its end, once all others have ended.
     fn make_last(
         &self,
         database: &mut WholeDatabase<'_>,
@@ -240,7 +240,7 @@ impl<'a> Programs<'a> {
         Ok(())
     }
 
-    // All programs, with the turns that are told.
+    // Runs all programs, by the turns that are given.
     fn make_all(
         &self,
         database: &mut WholeDatabase<'_>,
@@ -257,7 +257,7 @@ impl<'a> Programs<'a> {
         self.make_last(database, members)
     }
 
-    // These turns, of members in a vector.
+    // Takes these turns, with the members in a vector.
     fn go_by(
         &self,
         database: &mut WholeDatabase<'_>,
@@ -271,7 +271,7 @@ impl<'a> Programs<'a> {
         self.turns(database, members.as_mut_slice(), turns)
     }
 
-    // The same of members in a vector.
+    // The same for members in a vector.
     fn go(
         &self,
         database: &mut WholeDatabase<'_>,
@@ -298,7 +298,7 @@ fn reached_by_each(alloc: Global, members: Vec<Member>) -> Result<Row<Reached>, 
     Ok(Row::of(each))
 }
 
-// What the database and its members come to.
+// The result of the database and its members.
 fn finish(
     alloc: Global,
     database: WholeDatabase<'_>,
@@ -319,10 +319,10 @@ fn finish(
     }
 }
 
-/// The programs by these turns, from the opening database on, with a unit for each: in its turn a unit makes the statement that is
-/// due in its program, and nothing where there is no such unit or its program has ended. Without turns each program goes to its end,
-/// that of unit 1 first. A first program goes to its end before all this, a last one behind it, where all others have ended. A growth
-/// that is refused ends it.
+/// Runs the programs by these turns, starting with the opening database, with a unit for each: in its turn a unit makes the statement
+/// that is due in its program; nothing happens if there is no such unit or its program has ended. Without turns each program runs to its
+/// end, unit 1's first. A first program runs to its end before all this, a last one after it, once all others have ended. If memory is
+/// refused, it ends.
 pub fn run_programs(
     alloc: Global,
     schema: &Schema,
@@ -381,8 +381,8 @@ fn with_goings<'a>(
     }
 }
 
-/// The database and its programs after these turns, from the opening database on, with a unit for each program. A growth that is refused
-/// ends it.
+/// The database and its programs after these turns, starting with the opening database, with a unit for each program. If memory is refused
+/// it ends.
 pub fn programs_after<'a>(
     alloc: Global,
     schema: &'a Schema,

@@ -1,8 +1,8 @@
-//! The program of one unit, which stands at a statement or has ended; and the same with the count of its unit's statements, which has a limit.
+//! The program of one unit, which is at a statement or has ended; and the same with the count of its unit's statements, which has a limit.
 
 ghost use Rattle.dbtg_going.specs.Goings.{IsGoing, comes_of};
 ghost use Rattle.dbtg_going.specs.Inside.Members.{IsAt, reached_by};
-ghost use Rattle.dbtg_going.specs.Turns.{due_after, most, statement_due};
+ghost use Rattle.dbtg_going.specs.Turns.{due_after, statement_due};
 ghost use Rattle.dbtg_going.specs.declared.member.Reached.{Reached};
 ghost use Rattle.dbtg_program.specs.declared.going.Due.TheVariants as due;
 ghost use Rattle.dbtg_unit.specs.declared.unit.Entry.{Entry};
@@ -10,17 +10,14 @@ ghost use Rattle.std.specs.Prelude.{◌≡◌, ◌<◌, ◌++◌, ◌∷◌, [],
 
 use dbtg_program::{Due, End, Program, State, next};
 use dbtg_schema::Schema;
-use dbtg_unit::{Entry, Statement};
+use dbtg_unit::{Entry, MOST_STATEMENTS, Statement};
 use std::alloc::{AllocError, Global};
 
-/// A unit makes no more statements than this.
-pub const MOST_STATEMENTS: u64 = 65_535;
-
-/// How a program stands.
+/// Whether a program has ended, is spent, or goes on.
 #[derive(Clone, Copy, Debug, PartialEq, Eq)]
 pub enum Standing {
     Ended(End),
-    /// its unit can make no more statements, and another is due
+    /// its unit can make no more statements, but another is due
     Spent,
     /// a statement is due
     GoesOn,
@@ -33,7 +30,7 @@ pub struct Reached {
     pub state: State,
 }
 
-/// A program under way: what comes of it in its state.
+/// A program under way: its state, and what is due in it.
 #[derive(Drop)]
 pub struct Going {
     pub state: State,
@@ -83,7 +80,7 @@ impl Going {
 #[derive(Drop)]
 pub struct Member {
     pub going: Going,
-    pub made: u64,
+    pub made: usize,
 }
 
 impl Member {
@@ -124,7 +121,7 @@ impl Member {
         entry: &Entry,
     ) -> Result<(), AllocError>
         requires due { self.old.going.due ≡ due.Statement entry.now.statement }
-        requires few { self.old.made < most }
+        requires few { self.old.made < MOST_STATEMENTS }
         requires at { (entries : List Entry) × IsAt schema.now program.now entries self.old }
         ensures { (entries : List Entry) → IsAt schema.now program.now entries self.old → OnOk result (IsAt schema.now program.now (entries ++ entry.now ∷ []) self.new) }
     {

@@ -39,7 +39,7 @@ fn push_standing(out: &mut Vec<u8>, standing: Standing) -> Result<(), AllocError
     }
 }
 
-// How many fields stand before the counters.
+// How many fields come before the counters.
 fn count_items(program: &Program) -> usize
     ensures { result ≡ count_items program.now }
 {
@@ -80,7 +80,7 @@ fn push_program(
     Ok(())
 }
 
-/// Puts the lines of the programs behind a text.
+/// Appends the lines of the programs.
 pub fn push_programs(
     out: &mut Vec<u8>,
     programs: &[Program],
@@ -97,7 +97,7 @@ pub fn push_programs(
     Ok(())
 }
 
-/// All that a run of programs gives: answers, image and units, and a line for each program.
+/// The output of a run of programs: answers, image and units, and a line for each program.
 pub fn run_text(
     alloc: Global,
     schema: &Schema,

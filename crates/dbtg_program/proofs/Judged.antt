@@ -147,7 +147,7 @@ further : (b : Bool) (xs : List Holding) (at : ℕ) (x : Holding) (rest : List H
 further true xs at x rest h = let e : at + 1 ≡ suc at = omega arith in ap (λ (n : ℕ). drop n xs) e ∙ tail_of_drop xs at x rest h
 further false xs at x rest h = h
 
--- behind a line the sentences of the others are left
+-- after a line the sentences of the others are left
 pub stand_further : (text : Text) (at number : ℕ) (line : List ℕ) (ls : List (List ℕ)) → drop at text.sentences ≡ cut_lines number (line ∷ ls) → drop (behind_line at line) text.sentences ≡ cut_lines (number + 1) ls
 stand_further text at number line ls h = further (is_statement (trimmed line)) text.sentences at (cut number line) (cut_lines (number + 1) ls) h
 
@@ -165,7 +165,7 @@ unfolding sentence_line
 said_by_kind true text xs x rest = append_assoc xs (line_of text x ∷ []) (map (line_of text) rest)
 said_by_kind false text xs x rest = ap (λ (ys : List Line). ys ++ map (line_of text) rest) (append-nil xs)
 
--- the lines that are said behind a line of the text
+-- the lines that are said after a line of the text
 pub said_further : (text : Text) (number : ℕ) (line : List ℕ) (ls : List (List ℕ)) (xs : List Line)
     → (xs ++ line_said text (trimmed line) (cut number line)) ++ map (line_of text) (cut_lines (number + 1) ls) ≡ xs ++ map (line_of text) (cut_lines number (line ∷ ls))
 said_further text number line ls xs = said_by_kind (is_statement (trimmed line)) text xs (cut number line) (cut_lines (number + 1) ls)

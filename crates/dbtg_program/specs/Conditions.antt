@@ -1,4 +1,4 @@
--- What IF and ASSERT ask.
+-- The questions of IF and ASSERT.
 use Rattle.std.specs.Prelude.{ℕ, Bool, not, ◌&&◌, ◌==◌, length, if◌then◌else◌, slice_get, unwrap_or}
 use Rattle.dbtg_cells.specs.Keys.{value_below}
 use Rattle.dbtg_cells.specs.declared.key.Value.{Value}
@@ -12,16 +12,16 @@ use Rattle.dbtg_program.specs.declared.program.Condition.{Condition}
 use Rattle.dbtg_program.specs.declared.program.Condition.TheVariants.{Compare, Status}
 use Rattle.dbtg_program.specs.States.{ProgramState}
 
--- a text with spaces up to the length of another, and any other value
+-- a text padded with spaces to the length of another; any other value as it is
 abbrev pub filled_to : Value → Value → Value
 filled_to (Text other) (Text t) = Text (filled (length other) t)
 filled_to other v = v
 
--- the first is less than the second, a shorter text as if it had spaces
+-- the first is less than the second, a shorter text as if it were padded with spaces
 abbrev pub is_less : Value → Value → Bool
 is_less v w = value_below (filled_to w v) (filled_to v w)
 
--- two values stand so to each other; no program that is read compares a number with a text
+-- two values compare in this way; no program that is read compares a number with a text
 abbrev pub stand_so : Relation → Value → Value → Bool
 stand_so Less v w = is_less v w
 stand_so Equal v w = not (is_less v w) && not (is_less w v)

@@ -43,28 +43,28 @@ cause_number TwoKinds = 25
 cause_number CounterBehind = 26
 cause_number TooManyCounters = 27
 
--- the fault, where the test holds
+-- the fault, if the test holds
 abbrev pub when : Bool → ProgramCause → List ProgramCause
 when b c = if b then c ∷ [] else []
 
--- WHAT IS JUDGED AT A WORD
+-- HOW A WORD IS JUDGED
 
 -- a picture of a text
 abbrev pub is_text_picture : Picture → Bool
 is_text_picture (Number n) = false
 is_text_picture (TextPicture n) = true
 
--- the word has a text as its value, and no number
+-- the word's value is a text, and not a number
 abbrev pub is_text : Text → Token → Bool
 is_text text w = if is_literal w then is_none (plain_text w) else some_and is_text_picture (picture_in (fields_in text) w)
 
--- the value that a literal is, if a field could have it
+-- the value of a literal, if a field could have it
 abbrev pub literal_value : Token → Option Value
 literal_value (plain t) = spelled (Number 18) (plain t)
 literal_value equals = None
 literal_value (literal t) = if nat_le (length (stripped t)) 64 then Some (value.Text (stripped t)) else None
 
--- no literal, and no field
+-- neither a literal nor a field
 abbrev pub names_no_field : Text → Token → Bool
 names_no_field text w = not (is_literal w) && is_none (picture_in (fields_in text) w)
 
@@ -80,7 +80,7 @@ is_too_great_for p w = is_literal w && some_and (λ picture. not (some_and (can_
 abbrev pub are_two_kinds : Text → Token → Token → Bool
 are_two_kinds text v w = if is_text text v then not (is_text text w) else is_text text w
 
--- no name, that of a record type, or that of one of the counters before this one
+-- not a name, the name of a record type, or that of one of the counters before this one
 abbrev pub is_no_counter_name : Text → ℕ → List ℕ → Bool
 is_no_counter_name text at name = not (is_own_name name) || is_some (type_named text.schema name) || among name (map (λ c. c.name) (take at (counters_of text.sentences)))
 
@@ -100,7 +100,7 @@ said text at ws w role.CountedTo = when (names_no_field text w) UnknownField ++ 
 
 -- THE FAULTS OF A SENTENCE
 
--- the faults of the words that are left, which stand in these places, up to the first that does not fit
+-- the faults of the words that are left, in these places, up to the first that does not fit
 abbrev pub faults_from : Text → ℕ → List Token → List FormPlace → List Token → List ProgramCause
 faults_from text at ws [] [] = []
 faults_from text at ws [] (w ∷ left) = AsInScript cause.UnexpectedWord ∷ []
@@ -133,7 +133,7 @@ sentence_faults text at l = faults_of text at l.words l.paragraph (verb_of l.wor
 
 -- THE FAULTS OF A TEXT
 
--- the faults of a line as a whole, where `at` sentences stand before it
+-- the faults of a line as a whole, after `at` sentences
 abbrev pub whole_faults : ℕ → List ℕ → List ProgramCause
 whole_faults at line =
     when (is_statement line && nat_le MOST_STATEMENTS at) (AsInScript cause.TooMuch) ++ when (not (is_allowed line)) (AsInScript cause.LineNotAllowed)
@@ -147,7 +147,7 @@ line_faults text at number line = whole_faults at (trimmed line) ++ (if is_state
 abbrev pub behind_line : ℕ → List ℕ → ℕ
 behind_line at line = if is_statement (trimmed line) then at + 1 else at
 
--- the faults of lines, where `at` sentences stand before the first, and its line has this number
+-- the faults of lines, after `at` sentences; the first line has this number
 abbrev pub lines_faults : Text → ℕ → ℕ → List (List ℕ) → List Fault
 lines_faults text at number [] = []
 lines_faults text at number (l ∷ ls) = map (λ c. record { line = number; cause = c }) (line_faults text at number l) ++ lines_faults text (behind_line at l) (number + 1) ls

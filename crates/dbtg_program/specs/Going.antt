@@ -40,7 +40,7 @@ said_word state word.Equals = equals
 said_word state (word.Literal t) = literal t
 said_word state (word.Field f) = literal_of (field_value state f)
 
--- the statement that a script's reader says these words are, if they have no fault
+-- the statement that a script's reader would read from these words, if they have no fault
 abbrev pub read_words : Lists → List Token → Option said.Statement
 read_words schema words = if is_none (verdict schema [] statement words) then Some (statement_of schema (labels fits statement words)) else None
 
@@ -60,7 +60,7 @@ onward state = record state { at = state.at + 1 }
 abbrev pub has_room : Program → ℕ → Value → Bool
 has_room program f v = some_and (λ field. can_hold field.picture v) (slice_get program.fields f)
 
--- the field gets the value, if there is one for which it has room
+-- the field gets the value, if there is one and the field has room for it
 abbrev pub put : Program → ProgramState → ℕ → ℕ → Option Value → Step
 put program state line f None = ends (ending.Size line)
 put program state line f (Some v) = if has_room program f v then goes (record (onward state) { values = slice_set state.values f v }) else ends (ending.Size line)
@@ -70,7 +70,7 @@ abbrev pub made : ℕ → Option said.Statement → Step
 made line None = ends (ending.Size line)
 made line (Some s) = makes s
 
--- what a sentence does that stands in this line
+-- the effect of a sentence in this line
 abbrev pub done : Lists → Program → ProgramState → ℕ → Sentence → Step
 done schema program state line Heading = goes (onward state)
 done schema program state line (Statement s) = makes s
@@ -83,12 +83,12 @@ done schema program state line (If condition at) = goes (if holds state conditio
 done schema program state line (Assert condition) = if holds state condition then goes (onward state) else ends (ending.Assert line)
 done schema program state line Stop = ends ending.Stop
 
--- what the sentence of this line does; the end of the text is as STOP
+-- the effect of the sentence in this line; the end of the text counts as STOP
 abbrev pub at_line : Lists → Program → ProgramState → Option Line → Step
 at_line schema program state None = ends ending.Stop
 at_line schema program state (Some l) = done schema program state l.number l.sentence
 
--- the line in which the program stands, if it isn't at the end of its text
+-- the line in which the program is, if it is not at the end of its text
 abbrev pub line_at : Program → ProgramState → Option Line
 line_at program state = slice_get program.lines state.at
 
@@ -99,13 +99,13 @@ pub data Due : Type 0 where
   due : ProgramState → said.Statement → Due
   ended : ProgramState → End → Due
 
--- what comes of a step
+-- the result of a step
 abbrev pub from_step : Step → ProgramState → (ProgramState → Due) → Due
 from_step (goes behind) state further = further behind
 from_step (makes s) state further = due state s
 from_step (ends e) state further = ended state e
 
--- the number of the line in which the program stands
+-- the number of the line in which the program is
 abbrev pub line_number : Program → ProgramState → ℕ
 line_number program state = unwrap_or (option_map (λ l. l.number) (line_at program state)) 0
 
@@ -125,18 +125,18 @@ abbrev pub placed : List Value → ℕ → List Value → List Value
 placed values k [] = values
 placed values k (v ∷ vs) = slice_set (placed values (k + 1) vs) k v
 
--- the items of a record in their fields, which begin there
+-- the items of a record in their fields, of which this is the first
 abbrev pub with_record : List Value → Option ℕ → List Value → List Value
 with_record values None items = values
 with_record values (Some k) items = placed values k (map as_field items)
 
--- the fields behind an answer that has these items and this key
+-- the fields after an answer that has these items and this key
 abbrev pub filled : Program → List Value → Option (List Value) → Option DbKey → List Value
 filled program values (Some items) (Some key) = with_record values (slice_get program.records key.rtype) items
 filled program values (Some items) None = values
 filled program values None key = values
 
--- after this answer to the statement that was due; an answer has items where a GET was done
+-- the state after this answer to the statement that was due; an answer has items if a GET was done
 abbrev pub told : Program → ProgramState → said.Statement → Answer → ProgramState
 told program state s answer = record {
   at = state.at + 1;

@@ -1,4 +1,4 @@
--- The sentences that scripts have not: which word may stand in each place, and what is judged there.
+-- The sentences that scripts do not have: which word may come in each place, and how it is judged there.
 use Rattle.std.specs.Prelude.{ℕ, Bool, true, false, ◌&&◌, ◌||◌, ◌==◌, List, [], ◌∷◌, ◌++◌, length, is_some, codes}
 use Rattle.dbtg_schema.specs.Lookups.{some_and}
 use Rattle.dbtg_schema.specs.Texts.Spelling.{is_picture}
@@ -47,7 +47,7 @@ fits kind.PictureWord w = is_picture_word w
 fits kind.Picture w = some_and is_picture (plain_text w)
 fits kind.Code w = is_code w
 
--- a word of this kind, with what is judged at it
+-- a word of this kind, and how it is judged
 abbrev pub one : Kind → Role → FormPlace
 one k r = record { kind = k; role = r; optional = false }
 

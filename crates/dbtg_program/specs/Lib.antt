@@ -2,6 +2,7 @@ pub mod Values
 pub mod States
 pub mod Conditions
 pub mod Going
+pub mod Spelling
 pub mod Views
 pub mod Sentences
 pub mod Grammar

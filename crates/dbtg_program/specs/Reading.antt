@@ -1,4 +1,4 @@
--- The program that a text without faults is.
+-- The program that a text without faults says.
 use Rattle.std.specs.Prelude.{◌≡◌, ℕ, ◌+◌, Bool, true, false, List, map, Option, Some, None, if◌then◌else◌, unwrap_or, codes}
 use Rattle.std.specs.List.{list_any}
 use Rattle.dbtg_schema.specs.Lists.{Lists}
@@ -45,7 +45,7 @@ target_of text w = unwrap_or (paragraph_at text.sentences (text_in w)) 0
 abbrev pub relation_of : Token → Relation
 relation_of w = if is_equals w then Equal else (if is_spelled (codes "<") w then Less else Greater)
 
--- NOT stands behind the verb and the first value
+-- NOT follows the verb and the first value
 abbrev pub is_negated : List Token → Bool
 is_negated ws = is_word keyword.Not (word_at 2 ws)
 
@@ -53,7 +53,7 @@ is_negated ws = is_word keyword.Not (word_at 2 ws)
 abbrev pub relation_at : List Token → ℕ
 relation_at ws = if is_negated ws then 3 else 2
 
--- the condition behind a verb: STATUS [ NOT ] = dddd, or x [ NOT ] relation x
+-- the condition after a verb: STATUS [ NOT ] = dddd, or x [ NOT ] relation x
 abbrev pub condition_of : Text → List Token → Condition
 condition_of text ws =
     if is_word keyword.Status (word_at 1 ws) then Status (is_negated ws) (up_to 9999 (number (text_in (word_at (relation_at ws + 1) ws))))

@@ -36,7 +36,7 @@ spelling keyword.Status = codes "STATUS"
 spelling keyword.Not = codes "NOT"
 spelling keyword.Is = codes "IS"
 
--- the words that begin a sentence that scripts have not
+-- the words that begin a sentence that scripts do not have
 abbrev pub verbs : List Keyword
 verbs = keyword.Level ∷ keyword.Move ∷ keyword.Add ∷ keyword.Subtract ∷ keyword.Go ∷ keyword.If ∷ keyword.Assert ∷ keyword.Stop ∷ []
 
@@ -50,11 +50,11 @@ plain_text (plain t) = Some t
 plain_text equals = None
 plain_text (literal t) = None
 
--- the same, and nothing of other words
+-- the same; nothing for other words
 abbrev pub text_in : Token → List ℕ
 text_in w = unwrap_or (plain_text w) []
 
--- the word is spelled so
+-- the word is spelled like this
 abbrev pub is_spelled : List ℕ → Token → Bool
 is_spelled text w = some_and (λ t. bytes_eq t text) (plain_text w)
 
@@ -72,7 +72,7 @@ is_equals (literal t) = false
 abbrev pub is_sign : ℕ → Bool
 is_sign b = b == 60 || b == 62
 
--- the byte goes onto the part behind it, unless that is a sign
+-- the byte belongs to the part after it, unless that is a sign
 abbrev pub onto_part : ℕ → List (List ℕ) → List (List ℕ)
 onto_part b [] = (b ∷ []) ∷ []
 onto_part b (p ∷ ps) = if list_any is_sign p then (b ∷ []) ∷ p ∷ ps else (b ∷ p) ∷ ps
@@ -82,7 +82,7 @@ abbrev pub parts : List ℕ → List (List ℕ)
 parts [] = []
 parts (b ∷ bs) = if is_sign b then (b ∷ []) ∷ parts bs else onto_part b (parts bs)
 
--- the words that a word is where signs stand by themselves
+-- the words into which a word falls if signs are words of their own
 abbrev pub apart : Token → List Token
 apart (plain t) = map plain (parts t)
 apart equals = equals ∷ []
@@ -96,7 +96,7 @@ word_at k ws = unwrap_or (slice_get ws k) equals
 abbrev pub begins : Keyword → List Token → Bool
 begins k ws = is_word k (word_at 0 ws)
 
--- in IF and ASSERT signs stand by themselves
+-- in IF and ASSERT signs are words of their own
 abbrev pub with_signs : List Token → List Token
 with_signs ws = if begins keyword.If ws || begins keyword.Assert ws then flat_map apart ws else ws
 
@@ -125,7 +125,7 @@ holding number line ws = record { number = number; paragraph = paragraph_in (end
 abbrev pub cut : ℕ → List ℕ → Holding
 cut number line = holding number line (tokens false (trimmed line))
 
--- lines, cut into words, the first of this number; notes are left out
+-- lines, cut into words, the first with this number; notes are left out
 abbrev pub cut_lines : ℕ → List (List ℕ) → List Holding
 cut_lines number [] = []
 cut_lines number (l ∷ ls) = (if is_statement (trimmed l) then cut number l ∷ [] else []) ++ cut_lines (number + 1) ls
@@ -148,7 +148,7 @@ counter_picture ws = unwrap_or (spelled_picture (text_in (word_at (if is_word ke
 abbrev pub counter_of : List Token → Item
 counter_of ws = record { name = text_in (word_at 1 ws); picture = counter_picture ws }
 
--- the counters of a program, which stand before all else
+-- the counters of a program, which come before everything else
 abbrev pub counters_of : List Holding → List Item
 counters_of ls = map (λ l. counter_of l.words) (before (λ l. not (begins keyword.Level l.words)) ls)
 
@@ -161,7 +161,7 @@ pub record Text : Type 0 where
 abbrev pub fields_in : Text → List Item
 fields_in text = fields_with text.schema (counters_of text.sentences)
 
--- the number of the field of this name
+-- the number of the field with this name
 abbrev pub field_named : List Item → List ℕ → Option ℕ
 field_named fields name = place_of name (map (λ f. f.name) fields)
 
@@ -171,7 +171,7 @@ picture_in fields w = option_and_then (λ f. option_map (λ i. i.picture) (slice
 
 -- STATEMENTS WITH FIELDS
 
--- two parts, with the word's one period between them
+-- two parts, with one period between them
 abbrev pub is_two_parts : List ℕ → Bool
 is_two_parts w = nat_lt 0 (length (in_front 46 w)) && nat_lt 0 (length (behind 46 w)) && not (has_byte 46 (behind 46 w))
 
@@ -179,17 +179,17 @@ is_two_parts w = nat_lt 0 (length (in_front 46 w)) && nat_lt 0 (length (behind 4
 abbrev pub is_field_word : Token → Bool
 is_field_word w = some_and (λ t. is_own_name t || is_two_parts t) (plain_text w)
 
--- each word, and whether it is a field word; the flag says that the first stands in a value's place
+-- each word, and whether it is a field word; the flag says that the first is in a value's place
 abbrev pub marked_from : Bool → List Token → List (Token × Bool)
 marked_from here [] = []
 marked_from here (w ∷ ws) = (w, here && is_field_word w) ∷ marked_from (is_equals w) ws
 
--- the words of a statement: values stand behind =, and behind FIND SORTED
+-- the words of a statement: values follow =, and after FIND SORTED
 abbrev pub marked : List Token → List (Token × Bool)
 marked (v ∷ w ∷ ws) = if is_spelled (codes "FIND") v && is_spelled (codes "SORTED") w then (v, false) ∷ (w, false) ∷ marked_from true ws else marked_from false (v ∷ w ∷ ws)
 marked ws = marked_from false ws
 
--- a word that is no field
+-- a word that is not a field
 abbrev pub as_it_is : Token → Word
 as_it_is (plain t) = word.Plain t
 as_it_is equals = word.Equals

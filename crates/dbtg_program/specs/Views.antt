@@ -1,4 +1,4 @@
--- What the code gives, without where it lies in memory.
+-- The spec-level view of the code's results: without their references.
 use Rattle.std.specs.Prelude.{ℕ, ◌<◌, length}
 use Rattle.dbtg_cells.specs.declared.key.Value.{Value}
 use Rattle.dbtg_cells.specs.declared.key.Value.TheVariants.{Num, Text}
@@ -10,17 +10,17 @@ use Rattle.dbtg_program.specs.declared.program.Program.{Program}
 use Rattle.dbtg_program.specs.States.{ProgramState}
 use Rattle.dbtg_program.specs.Going.{Due, due, ended}
 
--- a value that is lent
+-- a value that is borrowed
 abbrev pub view : Borrowed → Value
 view (borrowed.Number n) = Num n
 view (borrowed.Text t) = Text t.now
 
--- what the code gives with the state in which it leaves the program
+-- a result of the code with the state in which it leaves the program
 abbrev pub view_due : ProgramState → going.Due → Due
 view_due state (code_due.Statement s) = due state s
 view_due state (code_due.End e) = ended state e
 
--- where a statement is due the program stands at one of its sentences
+-- if a statement is due the program is at one of its sentences
 abbrev pub Stands : Program → ProgramState → going.Due → Type 0
 Stands program state (code_due.Statement s) = state.at < length program.lines
 Stands program state (code_due.End e) = Unit {0}

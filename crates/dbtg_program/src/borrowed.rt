@@ -1,4 +1,4 @@
-//! Values that are lent, and how two of them stand to each other.
+//! Values that are borrowed, and how two of them compare.
 
 ghost use Rattle.dbtg_cells.specs.declared.key.Value.{Value as SaidValue};
 ghost use Rattle.dbtg_program.specs.Conditions.{is_less, stand_so};
@@ -39,7 +39,7 @@ pub fn owned(alloc: Global, value: Borrowed) -> Result<Value, AllocError>
     }
 }
 
-/// Are spaces, as many as this text has bytes, below it?
+/// Is this text greater than as many spaces?
 fn spaces_below(text: &[u8]) -> bool
     ensures { result ≡ bytes_below (replicate (length text.now) 32) text.now }
 {
@@ -49,7 +49,7 @@ fn spaces_below(text: &[u8]) -> bool
     }
 }
 
-/// Is this text below as many spaces?
+/// Is this text less than as many spaces?
 fn below_spaces(text: &[u8]) -> bool
     ensures { result ≡ bytes_below text.now (replicate (length text.now) 32) }
 {
@@ -59,7 +59,7 @@ fn below_spaces(text: &[u8]) -> bool
     }
 }
 
-/// Byte by byte; the shorter text as if it had spaces.
+/// Compares byte by byte, the shorter text as if it were padded with spaces.
 fn text_below(a: &[u8], b: &[u8]) -> bool
     ensures { result ≡ bytes_below (filled (length b.now) a.now) (filled (length a.now) b.now) }
 {
@@ -94,7 +94,7 @@ fn is_less(a: Borrowed, b: Borrowed) -> bool
     }
 }
 
-/// Do two values stand so to each other?
+/// Do two values compare in this way?
 pub fn stand_so(relation: Relation, a: Borrowed, b: Borrowed) -> bool
     ensures { result ≡ stand_so relation (view a.entry) (view b.entry) }
 {

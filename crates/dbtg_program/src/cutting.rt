@@ -32,7 +32,7 @@ fn is_sign(b: u8) -> bool
     b == b'<' || b == b'>'
 }
 
-/// How many bytes stand before the next sign, all where there is none.
+/// How many bytes come before the next sign; all if there is none.
 fn run_len(bytes: &[u8]) -> usize
     ensures in_range { result ≤ length bytes.now }
     ensures inside { (k : ℕ) → k < result → is_sign (slice_index bytes.now k) ≡ false }
@@ -82,7 +82,7 @@ fn push_parts<'a>(words: &mut Vec<Token<'a>>, word: &'a [u8]) -> Result<(), Allo
     Ok(())
 }
 
-/// Adds the words that a word is where signs stand by themselves.
+/// Adds the words into which a word falls if signs are words of their own.
 fn push_apart<'a>(words: &mut Vec<Token<'a>>, token: Token<'a>) -> Result<(), AllocError>
     ensures { OnOk result (map view words.new.items ≡ map view words.old.items ++ apart (view token.entry)) }
 {
@@ -103,7 +103,7 @@ fn all_apart<'a>(alloc: Global, words: &[Token<'a>]) -> Result<Vec<Token<'a>>, A
     Ok(all)
 }
 
-/// In IF and ASSERT signs stand by themselves.
+/// In IF and ASSERT signs are words of their own.
 fn with_signs<'a>(alloc: Global, words: Vec<Token<'a>>) -> Result<Vec<Token<'a>>, AllocError>
     ensures { IfOk result (λ v. map view v.items ≡ with_signs (map view words.entry.items)) }
 {

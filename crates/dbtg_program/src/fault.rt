@@ -13,13 +13,13 @@ use std::alloc::{AllocError, AllocFailed};
 pub enum ProgramCause {
     /// 1 to 14: as in a script
     AsInScript(Cause),
-    /// 21: a paragraph that does not stand in the text
+    /// 21: a paragraph that the text does not have
     UnknownParagraph,
-    /// 22: a paragraph that stands there before
+    /// 22: a paragraph that the text has already
     ParagraphTwice,
-    /// 23: no item and no counter
+    /// 23: neither an item nor a counter
     UnknownField,
-    /// 24: a counter that is there before, has the name of a record type, or has no name
+    /// 24: a counter that exists already, has the name of a record type, or has no name
     CounterName,
     /// 25: a number and a text together, or a text that is added or subtracted
     TwoKinds,
@@ -39,9 +39,9 @@ pub struct Fault {
 /// Why no program was read.
 #[derive(Debug, Drop)]
 pub enum ProgramFault {
-    /// The text has a fault; this is its first.
+    /// The first fault of the text.
     Refused { line: u64, cause: ProgramCause },
-    /// A growth was refused before a fault was met.
+    /// Memory was refused before a fault was met.
     Memory,
 }
 

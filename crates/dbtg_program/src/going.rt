@@ -17,7 +17,7 @@ use dbtg_schema::{Picture, Schema};
 use dbtg_unit::Statement;
 use std::alloc::{AllocError, Global};
 
-/// What comes of one sentence.
+/// The result of one sentence.
 #[derive(Drop)]
 pub enum Progress {
     Goes,
@@ -25,10 +25,10 @@ pub enum Progress {
     Ends(End),
 }
 
-/// What comes of a program up to its next statement.
+/// The result of a program up to its next statement.
 #[derive(Drop)]
 pub enum Due {
-    /// this statement is to be made, in the state in which the program is now
+    /// this statement is to be made, in the state that the program has now
     Statement(Statement),
     End(End),
 }
@@ -119,7 +119,7 @@ fn onward(state: &mut State)
     state.go_to(at + 1);
 }
 
-/// The field gets the value, if there is one for which it has room.
+/// The field gets the value, if there is one and the field has room for it.
 fn put(
     program: &Program,
     state: &mut State,
@@ -155,7 +155,7 @@ fn made(line: u64, statement: Option<Statement>) -> Progress
     }
 }
 
-/// The sentence at which the condition leads on.
+/// The sentence at which the condition goes on.
 fn branch(state: &mut State, condition: &Condition, at: usize)
     requires { state.old.at + 1 < 2 ^ 64 }
     ensures { state.new ≡ if holds state.old condition.now then record state.old { at = at } else onward state.old }
@@ -180,7 +180,7 @@ fn assertion(state: &mut State, line: u64, condition: &Condition) -> Progress
     }
 }
 
-/// Goes by one sentence.
+/// Carries out one sentence.
 fn go_by(
     alloc: Global,
     schema: &Schema,
@@ -227,7 +227,7 @@ fn go_by(
     }
 }
 
-/// Goes by the sentence at which the program stands; the end of the text is as STOP.
+/// Carries out the sentence at which the program is; the end of the text counts as STOP.
 fn go(
     alloc: Global,
     schema: &Schema,
@@ -245,7 +245,7 @@ fn go(
     }
 }
 
-/// The number of the line in which the program stands.
+/// The number of the line in which the program is.
 fn line_number(program: &Program, state: &State) -> u64
     ensures { result ≡ line_number program.now state.now }
 {
@@ -255,7 +255,7 @@ fn line_number(program: &Program, state: &State) -> u64
     }
 }
 
-/// The statement that is due, and the state in which it is; or how the program ends.
+/// The statement that is due, and the state in which it is made; or how the program ends.
 pub fn next(
     alloc: Global,
     schema: &Schema,

@@ -1,10 +1,10 @@
-//! The sentences that scripts have not: which word may stand in each place, and what is judged there.
+//! The sentences that scripts do not have: which word may come in each place, and how it is judged there.
 
 ghost use Rattle.dbtg_program.specs.Grammar.{form};
 ghost use Rattle.dbtg_program.specs.Sentences.{spelling};
 ghost use Rattle.std.specs.Prelude.{◌≡◌};
 
-/// A word of the sentences that scripts have not.
+/// A word of the sentences that scripts do not have.
 #[derive(Clone, Copy, Debug, PartialEq, Eq)]
 pub enum Keyword {
     /// 01, as a level number
@@ -23,7 +23,7 @@ pub enum Keyword {
     Is,
 }
 
-/// What a word has to be.
+/// What a word must be.
 #[derive(Clone, Copy, Debug, PartialEq, Eq)]
 pub enum Kind {
     /// this very word
@@ -43,10 +43,10 @@ pub enum Kind {
     Code,
 }
 
-/// What is judged at a word.
+/// How a word is judged.
 #[derive(Clone, Copy, Debug, PartialEq, Eq)]
 pub enum Role {
-    /// nothing more than that it fits
+    /// only by whether it fits
     Plain,
     Counter,
     CounterName,

@@ -1,4 +1,4 @@
-//! What is wrong with a word of a sentence that scripts have not, and with its words from left to right.
+//! What is wrong with a word of a sentence that scripts do not have, and with its words from left to right.
 
 ghost use Rattle.dbtg_schema.specs.Lookups.{first, some_and};
 ghost use Rattle.dbtg_schema.specs.Texts.Spelling.{among};
@@ -28,7 +28,7 @@ const UNEXPECTED: ProgramCause = ProgramCause::AsInScript(Cause::UnexpectedWord)
 
 const TOO_GREAT: ProgramCause = ProgramCause::AsInScript(Cause::TooGreat);
 
-/// The value that a literal is, if a field could have it.
+/// The value of a literal, if a field could have it.
 pub fn literal_value(token: Token<'_>) -> Option<Borrowed<'_>>
     ensures { option_map seen result ≡ literal_value (view token.entry) }
 {
@@ -59,7 +59,7 @@ fn is_text_picture(picture: Option<Picture>) -> bool
     matches!(picture, Some(Picture::Text(_)))
 }
 
-/// Has the word a text as its value, and no number?
+/// Is the word's value a text, and not a number?
 fn is_text(text: &Text, token: Token) -> bool
     ensures { result ≡ is_text text.now (view token.entry) }
 {
@@ -70,14 +70,14 @@ fn is_text(text: &Text, token: Token) -> bool
     }
 }
 
-/// No literal, and no field?
+/// Is this neither a literal nor a field?
 fn names_no_field(text: &Text, token: Token) -> bool
     ensures { result ≡ names_no_field text.now (view token.entry) }
 {
     !is_literal(token) && text.picture(token).is_none()
 }
 
-/// A literal that no field could have?
+/// Is this a literal that no field could have?
 fn is_too_great(token: Token) -> bool
     ensures { result ≡ is_too_great (view token.entry) }
 {
@@ -93,7 +93,7 @@ fn has_room(picture: Picture, value: Option<Borrowed>) -> bool
     }
 }
 
-/// A literal that the field of this picture cannot hold?
+/// Is this a literal that a field with this picture cannot hold?
 fn is_too_great_for(picture: Option<Picture>, token: Token) -> bool
     ensures { result ≡ is_too_great_for picture (view token.entry) }
 {
@@ -103,7 +103,7 @@ fn is_too_great_for(picture: Option<Picture>, token: Token) -> bool
     }
 }
 
-/// A number and a text?
+/// Is this a number and a text?
 fn are_two_kinds(text: &Text, left: Token, right: Token) -> bool
     ensures { result ≡ are_two_kinds text.now (view left.entry) (view right.entry) }
 {
@@ -121,7 +121,7 @@ fn is_among(name: &[u8], counters: &[Item]) -> bool
     false
 }
 
-/// Has one of the first counters this name?
+/// Does one of the first counters have this name?
 fn is_taken(text: &Text, at: usize, name: &[u8]) -> bool
     ensures { result ≡ among name.now (map (λ c. c.name) (take at (counters_of text.now.sentences))) }
 {
@@ -133,7 +133,7 @@ fn is_taken(text: &Text, at: usize, name: &[u8]) -> bool
     }
 }
 
-/// No name, that of a record type, or that of one of the counters before this one?
+/// Is this not a name, the name of a record type, or that of one of the counters before this one?
 fn is_no_counter_name(text: &Text, at: usize, name: &[u8]) -> bool
     ensures { result ≡ is_no_counter_name text.now at name.now }
 {
@@ -248,7 +248,7 @@ fn said(text: &Text, at: usize, words: &[Token], token: Token, role: Role) -> Op
     }
 }
 
-/// The first fault of the words that are left, which stand in these places.
+/// The first fault of the words that are left, in these places.
 #[tactic(auto, using(crate::proofs::Judged::first_then, crate::proofs::Judged::first_else))]
 pub fn fault_from(
     text: &Text,

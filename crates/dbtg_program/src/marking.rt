@@ -24,7 +24,7 @@ pub struct Marked<'a> {
     pub is_field: bool,
 }
 
-/// Adds words; the flag says that the first stands in a value's place.
+/// Adds words; the flag says that the first is in a value's place.
 fn push_marked<'a>(
     marked: &mut Vec<Marked<'a>>,
     here: bool,
@@ -44,7 +44,7 @@ fn push_marked<'a>(
     Ok(())
 }
 
-/// Adds the words of a FIND SORTED: a value stands behind its first two.
+/// Adds the words of a FIND SORTED: a value follows its first two.
 fn push_sorted<'a>(
     marked: &mut Vec<Marked<'a>>,
     words: &[Token<'a>],
@@ -67,7 +67,7 @@ fn is_sorted(words: &[Token]) -> bool
     words.len() > 1 && is_spelled(words[0], "FIND") && is_spelled(words[1], "SORTED")
 }
 
-/// The words of a statement: values stand behind =, and behind FIND SORTED.
+/// The words of a statement: values follow =, and FIND SORTED.
 pub fn mark<'a>(alloc: Global, words: &[Token<'a>]) -> Result<Vec<Marked<'a>>, AllocError>
     ensures { IfOk result (λ v. map view_marked v.items ≡ marked (map view words.now)) }
 {

@@ -1,4 +1,4 @@
-//! From names to places in a list, at once. Of equal names the first counts.
+//! From names to places in a list, by an index. If names are equal, the first counts.
 
 ghost use Rattle.dbtg_program.specs.Inside.Gathered.{leads_to};
 ghost use Rattle.std.specs.Option.{option_or};
@@ -8,14 +8,14 @@ ghost use Rattle.std.specs.Str.{bytes_eq};
 use indexmap::IndexMap;
 use std::alloc::{AllocError, Global};
 
-/// Leads from each name of a list to where it first stands.
+/// Maps each name of a list to its first place.
 #[derive(Drop)]
 pub struct Places {
     numbers: IndexMap<Vec<u8>, usize>,
 }
 
 impl Places {
-    /// Leads nowhere.
+    /// An empty map.
     pub fn none(alloc: Global) -> Self
         ensures { (q : List ℕ) → leads_to result q ≡ None }
     {
@@ -24,7 +24,7 @@ impl Places {
         }
     }
 
-    /// Leads from this name to this place, if it led nowhere.
+    /// Maps this name to this place, unless it has one already.
     pub fn enter(&mut self, alloc: Global, name: &[u8], place: usize) -> Result<(), AllocError>
         ensures { OnOk result ((q : List ℕ) → leads_to self.new q ≡ option_or (leads_to self.old q) (cond (bytes_eq q name.now) (Some place) None)) }
     {
@@ -35,7 +35,7 @@ impl Places {
         Ok(())
     }
 
-    /// The place of this name.
+    /// The place with this name.
     pub fn place(&self, name: &[u8]) -> Option<usize>
         ensures { result ≡ leads_to self.now name.now }
     {

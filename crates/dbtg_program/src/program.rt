@@ -1,4 +1,4 @@
-//! What a program is, as it was read.
+//! A program, as it was read.
 //!
 //! Its fields are numbered from 0: first the items of the record types, type by type in the schema's order, each named r.i; then its
 //! counters. A text in a program has no spaces at its end.
@@ -14,7 +14,7 @@ pub enum Operand {
     Field(usize),
 }
 
-/// How two values stand to each other.
+/// How two values compare.
 #[derive(Clone, Copy, Debug, PartialEq, Eq)]
 pub enum Relation {
     Less,
@@ -22,7 +22,7 @@ pub enum Relation {
     Greater,
 }
 
-/// What IF and ASSERT ask.
+/// The question of IF and ASSERT.
 #[derive(Drop)]
 pub enum Condition {
     Compare {
@@ -59,7 +59,7 @@ pub enum End {
     Astray(u64),
 }
 
-/// What a line says that is no note. A jump names the sentence to which it goes.
+/// What a line says, unless it is a note. A jump names the sentence to which it goes.
 #[derive(Drop)]
 pub enum Sentence {
     /// a paragraph begins, or a counter is named: nothing is done

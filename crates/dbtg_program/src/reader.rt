@@ -15,26 +15,24 @@ use crate::statement::read_sentence;
 use crate::text::Text;
 use dbtg_schema::Schema;
 use dbtg_script::{Cause, Lines, ends_in_text, is_allowed, is_statement, trimmed};
+use dbtg_unit::MOST_STATEMENTS;
 use std::alloc::Global;
 
-/// The most sentences that a program has.
-const SENTENCES: usize = 65_535;
-
-/// Sentence 65,536, or a later one?
+/// Is this a sentence too many?
 fn is_too_much(at: usize, line: &[u8]) -> bool
-    ensures { result ≡ (is_statement line.now && nat_le 65535 at) }
+    ensures { result ≡ (is_statement line.now && nat_le MOST_STATEMENTS at) }
 {
-    is_statement(line) && SENTENCES <= at
+    is_statement(line) && MOST_STATEMENTS <= at
 }
 
-/// A sentence with a text that is not closed?
+/// Is this a sentence with a text that is not closed?
 fn is_open(line: &[u8]) -> bool
     ensures { result ≡ (is_statement line.now && ends_in_text false line.now) }
 {
     is_statement(line) && ends_in_text(line)
 }
 
-/// The first fault of a line as a whole, where this many sentences stand before it.
+/// The first fault of a line as a whole, after this many sentences.
 #[tactic(auto, unfolding(crate::specs::Inside::Reading::whole_verdict))]
 fn whole_fault(at: usize, line: &[u8]) -> Option<ProgramCause>
     ensures { result ≡ whole_verdict at line.now }
@@ -75,7 +73,7 @@ fn take_sentence(alloc: Global, text: &Text, lines: &mut Vec<Line>) -> Result<()
     Ok(())
 }
 
-/// Takes a line: its sentence, if it holds one, goes behind those before it.
+/// Takes a line: its sentence, if it holds one, is appended to those before it.
 fn take_line(
     alloc: Global,
     text: &Text,
@@ -107,7 +105,7 @@ fn at_line(number: u64, fault: LineFault) -> ProgramFault
     }
 }
 
-/// The lines of a text that is gathered.
+/// The lines of a text whose names are known.
 fn read_lines(alloc: Global, text: &Text, bytes: &[u8]) -> Result<Vec<Line>, ProgramFault>
     requires sentences { text.now.sentences ≡ sentences_of bytes.now }
     requires few { length bytes.now ≤ 1048576 }
@@ -139,8 +137,8 @@ fn read_short(alloc: Global, schema: &Schema, text: &[u8]) -> Result<Program, Pr
     Ok(gathered.into_program(lines))
 }
 
-/// Reads a program of this schema. The text may hold any bytes. A refused text is refused for its first fault; `Memory` is the
-/// answer where a growth was refused before a fault was met, and never the answer to a text that is too long.
+/// Reads a program of this schema. The text may hold any bytes. A refused text is refused for its first fault; `Memory` is
+/// given if memory was refused before a fault was met, and never for a text that is too long.
 pub fn read_program(alloc: Global, schema: &Schema, text: &[u8]) -> Result<Program, ProgramFault>
     ensures accepted { OnOk result (refusal schema.now text.now ≡ None) }
     ensures program { IfOk result (λ p. p ≡ program schema.now text.now) }

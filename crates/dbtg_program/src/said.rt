@@ -73,7 +73,7 @@ fn tokens_of<'a>(
     Ok(tokens)
 }
 
-/// The statement that a script's reader says these words are in this state.
+/// The statement that a script's reader would read from these words in this state.
 pub fn read_said(
     alloc: Global,
     schema: &Schema,

@@ -1,4 +1,4 @@
-//! What the words of a sentence say that has no fault.
+//! What the words of a sentence without faults say.
 
 ghost use Rattle.dbtg_script.specs.Tokens.{view};
 ghost use Rattle.dbtg_program.specs.Reading.{condition_of, field_in, is_negated, operand_of, relation_at, relation_of, said_by, target_of};
@@ -70,7 +70,7 @@ fn relation_of(token: Token) -> Relation
     }
 }
 
-/// Does NOT stand behind the verb and the first value?
+/// Does NOT follow the verb and the first value?
 fn is_negated(words: &[Token]) -> bool
     ensures { result ≡ is_negated (map view words.now) }
 {

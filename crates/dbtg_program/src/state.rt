@@ -15,7 +15,7 @@ use dbtg_unit::{Answer, Statement, Status};
 use std::alloc::{AllocError, Global};
 use std::marker::Model;
 
-/// Where a program is: the sentence at which it stands, the value of each field, the status of its last statement.
+/// Where a program is: its next sentence, the value of each field, the status of its last statement.
 #[derive(Drop)]
 pub struct State {
     at: usize,
@@ -54,7 +54,7 @@ pub fn stripped_len(text: &[u8]) -> usize
     }
 }
 
-/// A value of the database, as a field has it.
+/// A value of the database, as a field holds it.
 fn as_field(alloc: Global, value: &Value) -> Result<Value, AllocError>
     ensures { IfOk result (λ v. v ≡ as_field value.now) }
 {
@@ -111,7 +111,7 @@ fn put_behind(fields: &mut [Value], first: usize, behind: usize, value: Value)
     }
 }
 
-/// These values in the fields from number `first` on; the last of them is the first to be taken out.
+/// Puts these values into the fields from number `first` on; the last of them is taken out first.
 fn place(fields: &mut [Value], first: usize, mut values: Vec<Value>)
     ensures { fields.new ≡ placed fields.old first values.items }
 {
@@ -121,7 +121,7 @@ fn place(fields: &mut [Value], first: usize, mut values: Vec<Value>)
 }
 
 impl State {
-    /// Before any sentence of a program with these fields.
+    /// The state before any sentence of a program with these fields.
     pub(crate) fn beginning_with(alloc: Global, fields: &[Item]) -> Result<Self, AllocError>
         ensures { IfOk result (λ state. state ≡ beginning_with fields.now) }
     {
@@ -136,14 +136,14 @@ impl State {
         })
     }
 
-    /// Before any sentence.
+    /// The state before any sentence.
     pub fn beginning(alloc: Global, program: &Program) -> Result<Self, AllocError>
         ensures { IfOk result (λ state. state ≡ beginning program.now) }
     {
         Self::beginning_with(alloc, program.fields.as_slice())
     }
 
-    /// The number of the sentence at which the program stands, from 0.
+    /// The number of the program's next sentence, from 0.
     pub fn at(&self) -> usize
         ensures { result ≡ self.now.at }
     {
@@ -213,7 +213,7 @@ impl State {
         put(self.values.as_mut_slice(), field, value);
     }
 
-    /// After this answer to the statement that was due. Want of memory leaves the state as it was.
+    /// The state after this answer to the statement that was due. If memory is refused the state does not change.
     pub fn told(
         &mut self,
         alloc: Global,
@@ -233,7 +233,7 @@ impl State {
         Ok(())
     }
 
-    /// The fields with the items that the answer has.
+    /// The fields with the items of the answer.
     fn fill(&mut self, alloc: Global, program: &Program, answer: &Answer) -> Result<(), AllocError>
         ensures filled { OnOk result (self.new ≡ record self.old { values = filled program.now self.old.values answer.now.items answer.now.key }) }
         ensures kept { OnErr result (self.new ≡ self.old) }

@@ -61,7 +61,7 @@ fn filled_or_said(has_field: bool, words: Vec<Word>, statement: Statement) -> Se
     }
 }
 
-/// The same of words whose fields are known.
+/// The same for words whose fields are known.
 fn read_marked(alloc: Global, text: &Text, marked: &[Marked]) -> Result<Sentence, LineFault>
     ensures accepted { OnOk result (words_verdict text.now (map (word_of (fields_in text.now)) (map view_marked marked.now)) ≡ None) }
     ensures sentence { IfOk result (λ s. s ≡ said_with text.now (map view_marked marked.now)) }
@@ -117,7 +117,7 @@ fn read_verb(
     Ok(said_by(alloc, text, words, verb)?)
 }
 
-/// The sentence of this number.
+/// The sentence with this number.
 #[tactic(auto, unfolding(crate::specs::Inside::Reading::sentence_verdict, crate::specs::Inside::Reading::statement_verdict))]
 pub fn read_sentence(
     alloc: Global,

@@ -1,4 +1,4 @@
-//! What the sentences of a program are judged by: the schema, the sentences themselves, and what is gathered of them.
+//! What the sentences of a program are judged by: the schema, the sentences themselves, and the names that they declare.
 
 ghost use Rattle.dbtg_schema.specs.Lookups.{some_and};
 ghost use Rattle.dbtg_script.specs.Tokens.{view};
@@ -23,7 +23,7 @@ use dbtg_script::Token;
 use std::alloc::{AllocError, Global};
 use std::marker::Model;
 
-/// A text with all that is gathered of it.
+/// A text with the names that it declares.
 #[derive(Drop)]
 pub struct Text<'a> {
     schema: &'a Schema,
@@ -65,7 +65,7 @@ fn enter_paragraph(
     }
 }
 
-/// Where each paragraph begins.
+/// The first sentence of each paragraph.
 fn paragraphs_of(alloc: Global, sentences: &[Holding]) -> Result<Places, AllocError>
     ensures { IfOk result (λ places. (name : List ℕ) → leads_to places name ≡ paragraph_at (map view_holding sentences.now) name) }
 {
@@ -100,7 +100,7 @@ fn counter_of(alloc: Global, words: &[Token]) -> Result<Item, AllocError>
     })
 }
 
-/// The counters, which stand before all else.
+/// The counters, which come before everything else.
 fn counters_of(alloc: Global, sentences: &[Holding]) -> Result<Vec<Item>, AllocError>
     ensures { IfOk result (λ v. v.items ≡ counters_of (map view_holding sentences.now)) }
 {
@@ -126,7 +126,7 @@ fn places_of(alloc: Global, fields: &[Item]) -> Result<Places, AllocError>
 }
 
 impl<'a> Text<'a> {
-    /// Gathers what the bytes of a program have.
+    /// Gathers the names that the bytes of a program declare.
     pub fn gather(alloc: Global, schema: &'a Schema, text: &'a [u8]) -> Result<Self, AllocError>
         requires { length text.now ≤ 1048576 }
         ensures { IfOk result (λ t. t ≡ record { schema = schema.now; sentences = sentences_of text.now }) }
@@ -154,7 +154,7 @@ impl<'a> Text<'a> {
         self.schema
     }
 
-    /// The sentence of this number.
+    /// The sentence with this number.
     pub fn sentence(&self, at: usize) -> Option<&Holding<'a>>
         ensures { option_map (λ h. view_holding h.now) result ≡ slice_get self.now.sentences at }
     {
@@ -174,7 +174,7 @@ impl<'a> Text<'a> {
         self.counters.as_slice()
     }
 
-    /// The number of the field of this name.
+    /// The number of the field with this name.
     pub fn field(&self, name: &[u8]) -> Option<usize>
         ensures { result ≡ field_named (fields_in self.now) name.now }
     {

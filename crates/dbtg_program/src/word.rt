@@ -10,7 +10,7 @@ use crate::grammar::Keyword;
 use dbtg_schema::is_name;
 use dbtg_script::{Token, behind, has_byte, in_front};
 
-/// The words that are no names of paragraphs and counters: TO, STATUS, and those that begin a sentence that scripts have not.
+/// The words that cannot name paragraphs and counters: TO, STATUS, and those that begin a sentence that scripts do not have.
 const NO_NAMES: [Keyword; 10] = [
     Keyword::To,
     Keyword::Status,
@@ -24,7 +24,7 @@ const NO_NAMES: [Keyword; 10] = [
     Keyword::Stop,
 ];
 
-/// The words that begin a sentence that scripts have not.
+/// The words that begin a sentence that scripts do not have.
 const VERBS: [Keyword; 8] = [
     Keyword::Level,
     Keyword::Move,
@@ -47,7 +47,7 @@ pub fn plain_text(token: Token<'_>) -> Option<&[u8]>
     }
 }
 
-/// The same, and nothing of other words.
+/// The same; nothing for other words.
 pub fn text_in(token: Token<'_>) -> &[u8]
     ensures { result.now ≡ text_in (view token.entry) }
 {
@@ -58,7 +58,7 @@ pub fn text_in(token: Token<'_>) -> &[u8]
     }
 }
 
-/// Is the word spelled so?
+/// Is the word spelled like this?
 pub fn is_spelled(token: Token, text: &str) -> bool
     ensures { result ≡ is_spelled text.now (view token.entry) }
 {
@@ -105,7 +105,7 @@ pub fn is_own_name(word: &[u8]) -> bool
     is_name(word) && !is_among(word, &NO_NAMES)
 }
 
-/// Two parts, with the word's one period between them?
+/// Does the word have two parts, with one period between them?
 fn is_two_parts(word: &[u8]) -> bool
     ensures { result ≡ is_two_parts word.now }
 {
@@ -113,7 +113,7 @@ fn is_two_parts(word: &[u8]) -> bool
     !in_front(word, b'.').is_empty() && !item.is_empty() && !has_byte(item, b'.')
 }
 
-/// Is it a field, where it stands in a value's place?
+/// Is it a field, in a value's place?
 pub fn is_field_word(token: Token) -> bool
     ensures { result ≡ is_field_word (view token.entry) }
 {

@@ -1,4 +1,4 @@
--- What `check` prints of programs, and which fault it tells.
+-- What `check` prints of programs, and which fault it reports.
 use Rattle.std.specs.Prelude.{ℕ, ◌≡◌, ◌+◌, List, [], ◌∷◌, ◌++◌, ◌⊎◌, codes, decimal, length, map}
 use Rattle.dbtg_schema.specs.Lists.{Lists}
 use Rattle.dbtg_script.specs.Printing.Texts.{schema_line}
@@ -9,7 +9,7 @@ use Rattle.dbtg_command.specs.declared.place.TextPlace.{TextPlace}
 use Rattle.dbtg_command.specs.Sources.{ReadSchema, ToldOfSchema}
 use Rattle.dbtg_running.specs.Reading.{ReadPrograms, ToldOfPrograms}
 
--- how many sentences the program of this number has
+-- how many sentences the program with this number has
 abbrev pub program_line : ℕ → Program → List ℕ
 program_line n program = codes "program " ++ decimal n ++ codes ": " ++ decimal (length program.lines) ++ codes " sentences" ++ 10 ∷ []
 
@@ -25,6 +25,6 @@ pub record ChecksPrograms (holds : TextPlace → List ℕ → Type 0) (count : �
   pub programs : ReadPrograms holds lists count
   pub is_text : out ≡ schema_line lists ++ program_lines 1 (map (program lists) programs.texts)
 
--- the fault is told of the schema, or the schema is held and accepted and it is told of a program
+-- the fault is reported for the schema, or the schema is held and accepted and it is reported for a program
 abbrev pub ToldOfCheck : (TextPlace → List ℕ → Type 0) → (TextPlace → Fault → Type 0) → Fault → ℕ → Type 0
 ToldOfCheck holds fails fault count = ToldOfSchema holds fails fault ⊎ ((lists : Lists) × ReadSchema holds lists × ToldOfPrograms holds fails fault lists count)

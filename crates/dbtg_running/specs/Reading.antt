@@ -1,4 +1,4 @@
--- Programs that a source gives, which stand in the places of scripts, and which fault is told of them.
+-- Programs that a source gives, in the places of scripts, and which fault is reported for them.
 -- texts are bytes, lists the schema that a text says.
 use Rattle.std.specs.Prelude.{ℕ, ◌≡◌, ◌+◌, ◌<◌, List, [], ◌∷◌, None, length}
 use Rattle.dbtg_schema.specs.Lists.{Lists}
@@ -21,7 +21,7 @@ pub record ReadPrograms (holds : TextPlace → List ℕ → Type 0) (lists : Lis
   pub held : HoldsScripts holds 1 texts
   pub accepted : AllAccepted lists texts
 
--- the fault is told of one of the first programs, of which count says how many they are, and all before it are held and accepted
+-- the fault is reported for one of the first programs, of which count says how many they are, and all before it are held and accepted
 pub record ToldOfPrograms (holds : TextPlace → List ℕ → Type 0) (fails : TextPlace → Fault → Type 0) (fault : Fault) (lists : Lists) (count : ℕ) : Type 0 where
   pub before : ℕ
   pub read : ReadPrograms holds lists before

@@ -1,4 +1,4 @@
--- What `run` prints of the texts that a source gives, and which fault it tells.
+-- What `run` prints of the texts that a source gives, and which fault it reports.
 -- texts, turns are bytes, lists the schema that a text says; programs stand in the places of scripts.
 use Rattle.std.specs.Prelude.{ℕ, ◌≡◌, ◌++◌, Bool, true, false, List, Option, Some, None, ◌⊎◌, map}
 use Rattle.std.specs.List.{list_any}
@@ -9,7 +9,7 @@ use Rattle.dbtg_program.specs.Reading.{program}
 use Rattle.dbtg_going.specs.declared.going.ProgramRun.{ProgramRun}
 use Rattle.dbtg_going.specs.declared.member.Standing.{Standing}
 use Rattle.dbtg_going.specs.declared.member.Standing.TheVariants.{Ended, Spent, GoesOn}
-use Rattle.dbtg_going.specs.Texts.{given_text, programs_text}
+use Rattle.dbtg_going.specs.Texts.{programs_text}
 use Rattle.dbtg_going.specs.Turns.{IsRunOf, turns_of}
 use Rattle.dbtg_command.specs.declared.fault.Fault.{Fault}
 use Rattle.dbtg_command.specs.declared.fault.Fault.TheVariants.{ScriptCount}
@@ -18,7 +18,8 @@ use Rattle.dbtg_command.specs.declared.order.OrderKind.TheVariants as kind
 use Rattle.dbtg_command.specs.declared.place.TextPlace.{TextPlace}
 use Rattle.dbtg_command.specs.Refusals.{is_count}
 use Rattle.dbtg_command.specs.Sources.{ReadSchema, ReadTurns, ToldOfOrder, ToldOfSchema}
-use Rattle.dbtg_replay.specs.declared.replay.AnswerForm.TheVariants.{Echo}
+use Rattle.dbtg_replay.specs.declared.replay.AnswerForm.{AnswerForm}
+use Rattle.dbtg_replay.specs.declared.replay.AnswerForm.TheVariants.{Trace}
 use Rattle.dbtg_replay.specs.Replaying.{shown_text}
 use Rattle.dbtg_running.specs.declared.command.Printed.{Printed}
 use Rattle.dbtg_running.specs.declared.command.RunOptions.{RunOptions}
@@ -43,10 +44,16 @@ failed (Ended (Astray line)) = true
 failed Spent = false
 failed GoesOn = false
 
--- the text of a run of the programs of these texts; with an echo each answer has its statement beside it, as the program's text has it
-abbrev pub run_text : Lists → Bool → List (List ℕ) → ProgramRun → List ℕ
-run_text lists false texts given = given_text lists (map (program lists) texts) given
-run_text lists true texts given = shown_text lists Echo (scripts_made lists 1 texts given.run.history) given.run ++ programs_text 1 (map (program lists) texts) given.programs
+-- in a trace each field of a program stands as the literal of its value
+abbrev pub has_values : AnswerForm → Bool
+has_values Trace = true
+has_values _ = false
+
+-- the text of a run of the programs of these texts: the answers alone, or with the statement of each beside it, as the program's text
+-- has it, or as a trace
+abbrev pub run_text : Lists → AnswerForm → List (List ℕ) → ProgramRun → List ℕ
+run_text lists form texts given =
+    shown_text lists form (scripts_made lists (has_values form) 1 texts given.run.history) given.run ++ programs_text 1 (map (program lists) texts) given.programs
 
 -- 1 to 8 programs, nothing is refused, and what is printed is the text of the run of what the texts say; it is said whether a program failed
 pub record RunsHeld (holds : TextPlace → List ℕ → Type 0) (count : ℕ) (which : OrderKind) (options : RunOptions) (printed : Printed) : Type 0 where
@@ -58,12 +65,12 @@ pub record RunsHeld (holds : TextPlace → List ℕ → Type 0) (count : ℕ) (w
   pub turns_too : ReadsTurns holds which turns
   pub given : ProgramRun
   pub is_run : IsRunOf lists options.capacity (map (program lists) programs.texts) (turns_of lists options.capacity (map (program lists) programs.texts) options.around turns) given
-  pub text : printed.text.items ≡ run_text lists options.echo programs.texts given
+  pub text : printed.text.items ≡ run_text lists options.form programs.texts given
   pub failed_is : printed.failed ≡ list_any (λ r. failed r.standing) given.programs
 
--- WHICH FAULT IS TOLD
+-- WHICH FAULT IS REPORTED
 
--- a wrong number of programs, or else a fault that is told of the schema, of a program, or of the turns, where all that is read before it
+-- a wrong number of programs, or else a fault that is reported for the schema, a program, or the turns, if all that is read before it
 -- is held and accepted
 abbrev pub ToldOfRun : (TextPlace → List ℕ → Type 0) → (TextPlace → Fault → Type 0) → Fault → ℕ → OrderKind → Type 0
 ToldOfRun holds fails fault count which =

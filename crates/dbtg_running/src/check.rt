@@ -43,7 +43,7 @@ fn check_known<S: Source>(alloc: Global, source: &S, known: &Schema) -> Result<V
     Ok(out)
 }
 
-/// What `check` prints of the schema and the programs that a source gives, or the first fault. The programs stand in the places of
+/// What `check` prints of the schema and the programs that a source gives, or the first fault. The programs take the places of
 /// scripts.
 pub fn check_programs<S: Source>(alloc: Global, source: &S) -> Result<Vec<u8>, Fault>
     ensures done { IfOk result (λ out. ChecksPrograms (S.holds source.now) (S.count source.now) out.items) }

@@ -5,7 +5,7 @@ ghost use Rattle.dbtg_command.specs.Sources.{ReadSchema, ToldOfOrder};
 ghost use Rattle.dbtg_going.specs.Turns.{IsRunOf, turns_of};
 ghost use Rattle.dbtg_program.specs.Reading.{program};
 ghost use Rattle.dbtg_running.specs.Reading.{ReadPrograms};
-ghost use Rattle.dbtg_running.specs.Running.{ReadsTurns, RunsHeld, ToldOfRun, failed, run_text as said_text};
+ghost use Rattle.dbtg_running.specs.Running.{ReadsTurns, RunsHeld, ToldOfRun, failed, has_values, run_text as said_text};
 ghost use Rattle.dbtg_schema.specs.Sound.{IsSound};
 ghost use Rattle.std.specs.List.{list_any};
 ghost use Rattle.std.specs.Prelude.{◌≡◌, ◌≤◌, IfErr, IfOk, length, map, true};
@@ -19,13 +19,12 @@ use dbtg_replay::replay::{AnswerForm, Shown, check_count, push_given};
 use dbtg_schema::{Row, Schema};
 use std::alloc::{AllocError, Global};
 
-/// How programs are run, and what is printed of it.
+/// How programs are run, and what is printed.
 #[derive(Clone, Copy)]
 pub struct RunOptions {
     pub capacity: u16,
     pub around: Around,
-    /// Each answer has its statement beside it.
-    pub echo: bool,
+    pub form: AnswerForm,
 }
 
 /// What is printed, and whether a program ended by ASSERT, SIZE or ASTRAY.
@@ -50,24 +49,32 @@ fn any_failed(programs: &[Reached]) -> bool
     programs.iter().any(|reached| failed(reached.standing))
 }
 
+// Does each field of a program stand as the literal of its value? In a trace it does, which another engine reads.
+fn has_values(form: AnswerForm) -> bool
+    ensures { result ≡ has_values form }
+{
+    matches!(form, AnswerForm::Trace)
+}
+
 // The text of a run of these programs, in which each answer has its statement beside it.
-fn echoed_text(
+fn text_with_statements(
     alloc: Global,
     schema: &Schema,
     programs: &Programs,
+    form: AnswerForm,
     given: &ProgramRun,
 ) -> Result<Vec<u8>, AllocError>
     requires few { length programs.now.texts.items ≤ 255 }
     requires are { programs.now.list.items ≡ map (program schema.now) programs.now.texts.items }
-    ensures { IfOk result (λ out. out.items ≡ said_text schema.now true programs.now.texts.items given.now) }
+    ensures { IfOk result (λ out. out.items ≡ said_text schema.now form programs.now.texts.items given.now) }
 {
     let list = programs.list.as_slice();
     let texts = programs.texts.as_slice();
     let history = given.run.history.as_slice();
-    let made = scripts_made(alloc, schema, list, texts, history)?;
+    let made = scripts_made(alloc, schema, has_values(form), list, texts, history)?;
     let mut out = Vec::new(alloc);
     let shown = Shown {
-        form: AnswerForm::Echo,
+        form,
         texts: made.as_slice(),
     };
     push_given(alloc, &mut out, schema, shown, &given.run)?;
@@ -80,18 +87,17 @@ fn print_run(
     alloc: Global,
     schema: &Schema,
     programs: &Programs,
-    echo: bool,
+    form: AnswerForm,
     given: &ProgramRun,
 ) -> Result<Printed, AllocError>
     requires few { length programs.now.texts.items ≤ 255 }
     requires are { programs.now.list.items ≡ map (program schema.now) programs.now.texts.items }
-    ensures text { IfOk result (λ printed. printed.text.items ≡ said_text schema.now echo programs.now.texts.items given.now) }
+    ensures text { IfOk result (λ printed. printed.text.items ≡ said_text schema.now form programs.now.texts.items given.now) }
     ensures failed { IfOk result (λ printed. printed.failed ≡ list_any (λ r. failed r.standing) given.now.programs) }
 {
-    let text = if echo {
-        echoed_text(alloc, schema, programs, given)?
-    } else {
-        run_text(alloc, schema, programs.list.as_slice(), given)?
+    let text = match form {
+        AnswerForm::Plain => run_text(alloc, schema, programs.list.as_slice(), given)?,
+        _ => text_with_statements(alloc, schema, programs, form, given)?,
     };
     Ok(Printed {
         text,
@@ -154,7 +160,7 @@ fn run_read<S: Source>(
 {
     let turns = turns_wanted(alloc, source)?;
     let given = run_wanted(alloc, known, programs.list.as_slice(), &turns, options)?;
-    let printed = print_run(alloc, known, programs, options.echo, &given);
+    let printed = print_run(alloc, known, programs, options.form, &given);
     given.discard();
     Ok(printed?)
 }
@@ -176,8 +182,8 @@ fn run_known<S: Source>(
     run_read(alloc, source, known, &programs, options)
 }
 
-/// What `run` prints of the schema, the programs and the turns that a source gives, or the first fault. The programs stand in the
-/// places of scripts. Without turns each goes to its end, one after another.
+/// What `run` prints of the schema, the programs and the turns that a source gives, or the first fault. The programs take the
+/// places of scripts. Without turns each runs to its end, one after another.
 pub fn run<S: Source>(alloc: Global, source: &S, options: RunOptions) -> Result<Printed, Fault>
     ensures done { IfOk result (λ printed. RunsHeld (S.holds source.now) (S.count source.now) (S.order source.now) options printed) }
     ensures refused { IfErr result (λ fault. ToldOfRun (S.holds source.now) (S.fails source.now) fault (S.count source.now) (S.order source.now)) }

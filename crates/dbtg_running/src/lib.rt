@@ -1,4 +1,4 @@
-//! The command `run`: programs that a source gives, and what comes of them; and what `check` says of them.
+//! The command `run`: the programs that a source gives, and their output; and what `check` says of them.
 #![tactic(auto)]
 
 mod check;

@@ -1,5 +1,6 @@
 -- The unit in front of the colon; one byte further on the way to the arrow.
-use Rattle.std.proofs.Common.{◌≡◌, ℕ, suc, ◌+◌, ◌^◌, ◌<◌, ◌≤◌, Bool, true, false, not, ◌&&◌, List, [], ◌∷◌, length, Option, Some, None, refl, sym, ap, ◌∙◌, arith}
+use Rattle.std.proofs.Common.{◌≡◌, ℕ, suc, ◌+◌, ◌^◌, ◌<◌, ◌≤◌, Bool, true, false, not, ◌&&◌, List, [], ◌∷◌, drop, length, take, zero, ◌-◌, Option, Some, None, refl, sym, ap, ◌∙◌, arith}
+use Rattle.std.proofs.lemmas.List.{drop_all}
 use Rattle.std.specs.Prelude.{◌==◌, IfSome, is_some, min, option_map, if◌then◌else◌}
 use Rattle.std.proofs.lemmas.Bool.Decides.{nat_tests}
 use Rattle.dbtg_trace.specs.Parts.{arrow_at, begins_arrow, is_unit}
@@ -49,3 +50,27 @@ further at inside left b bs is h =
     let none : not inside && begins_arrow (b ∷ bs) ≡ false = ap (λ (xs : List ℕ). not inside && begins_arrow xs) (sym is) ∙ h in
     sym (one_further at (arrow_at (if b == 34 then not inside else inside) bs)) ∙ ap (option_map (λ n. at + n)) (sym (not_here inside b bs none))
     ∙ ap (λ (xs : List ℕ). option_map (λ n. at + n) (arrow_at inside xs)) (sym is)
+
+-- where an arrow is here, it is the first
+pub found_here : (at : ℕ) (inside : Bool) (left : List ℕ) (b : ℕ) (bs : List ℕ) (o : Option ℕ) → left ≡ b ∷ bs → not inside && begins_arrow (b ∷ bs) ≡ true → option_map (λ n. at + n) (arrow_at inside left) ≡ o → Some at ≡ o
+found_here at inside left b bs o is h e =
+    let z : at ≡ at + 0 = omega arith in
+    ap (λ (k : ℕ). Some k) z ∙ sym (ap (λ (xs : List ℕ). option_map (λ n. at + n) (arrow_at inside xs)) is ∙ ap (option_map (λ n. at + n)) (here inside b bs h)) ∙ e
+
+take_full : (xs : List ℕ) → take (length xs) xs ≡ xs
+take_full [] = refl
+take_full (x ∷ xs) = ap (λ (ys : List ℕ). x ∷ ys) (take_full xs)
+
+take_none : (k : ℕ) (xs : List ℕ) → xs ≡ [] → take k xs ≡ []
+take_none zero xs e = refl
+take_none (suc k) xs e = ap (take (suc k)) e
+
+-- the slice from a place on
+pub rest_from : (n : ℕ) (xs : List ℕ) → take (length xs - n) (drop n xs) ≡ drop n xs
+rest_from zero xs = let all : length xs - 0 ≡ length xs = omega arith in ap (λ (n : ℕ). take n xs) all ∙ take_full xs
+rest_from (suc n) [] = take_none _ (drop (suc n) []) refl
+rest_from (suc n) (x ∷ xs) = let less : length (x ∷ xs) - suc n ≡ length xs - n = omega arith in ap (λ (k : ℕ). take k (drop n xs)) less ∙ rest_from n xs
+
+-- behind all bytes there is none
+pub past_all : (at : ℕ) (inside : Bool) (text : List ℕ) (o : Option ℕ) → length text ≤ at → option_map (λ n. at + n) (arrow_at inside (drop at text)) ≡ o → None ≡ o
+past_all at inside text o past e = sym (ap (λ (xs : List ℕ). option_map (λ n. at + n) (arrow_at inside xs)) (drop_all at text past) ∙ ap (option_map (λ n. at + n)) (nowhere inside)) ∙ e

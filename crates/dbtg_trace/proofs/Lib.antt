@@ -2,6 +2,9 @@ mod Firsts
 mod ArrowSteps
 mod WordSteps
 mod EntrySteps
+mod KnownSteps
+mod AnswersKept
 mod TraceSteps
 mod PrintedSteps
+mod ReadBack
 mod Rows

@@ -19,16 +19,16 @@ cause_number NoUnit = 31
 cause_number NoArrow = 32
 cause_number NoAnswer = 33
 
--- the fault, where the test holds
+-- the fault, if the test holds
 abbrev pub when : Bool → TraceCause → List TraceCause
 when b c = if b then c ∷ [] else []
 
--- the faults of what should be a statement: that it is none, then those of the line of a script that it is
+-- the faults of what should be a statement: that it is none, then those that it has as a line of a script
 abbrev pub part_faults : Lists → List ℕ → List TraceCause
 part_faults schema part =
     when (not (is_statement (trimmed part))) (AsInScript cause.NoStatementWord) ++ map AsInScript (script.line_faults schema 0 (trimmed part))
 
--- the faults behind a unit: no arrow, then the statement's, then those of the answer
+-- the faults after a unit: no arrow, then the statement's, then those of the answer
 abbrev pub halves_faults : Lists → Option (List ℕ × List ℕ) → List TraceCause
 halves_faults schema None = NoArrow ∷ []
 halves_faults schema (Some h) = part_faults schema h.0 ++ when (is_none (answer_in schema h.1)) NoAnswer
@@ -37,7 +37,7 @@ halves_faults schema (Some h) = part_faults schema h.0 ++ when (is_none (answer_
 abbrev pub entry_faults : Lists → ℕ → List ℕ → List TraceCause
 entry_faults schema units line = when (is_none (unit_named units line)) NoUnit ++ halves_faults schema (halves line)
 
--- the faults of a line as a whole, behind `count` statements; of a line without a statement those that it has in a script
+-- the faults of a line as a whole, after `count` statements; for a line without a statement those that it has in a script
 abbrev pub whole_faults : ℕ → List ℕ → List TraceCause
 whole_faults count line =
     if is_statement line then when (nat_le 524280 count) (AsInScript cause.TooMuch) ++ when (not (is_printable line)) (AsInScript cause.LineNotAllowed)

@@ -4,4 +4,5 @@ pub mod Faults
 pub mod Traces
 pub mod Reading
 pub mod Printing
+pub mod Laws
 pub mod Inside

@@ -7,7 +7,7 @@ use Rattle.dbtg_script.specs.Lines.{statement_lines}
 use Rattle.dbtg_script.specs.Printing.Echo.{lines_beside}
 use Rattle.dbtg_script.specs.Printing.Texts.{answered_text}
 
--- the line of an entry, whose statement is spelled so: its unit, the statement, the answer
+-- the line of an entry, with its statement in this spelling: its unit, the statement, the answer
 abbrev pub trace_line : Lists → List ℕ → Entry → List ℕ
 trace_line schema statement e =
     decimal e.unit ++ codes ": " ++ statement ++ codes " => " ++ answered_text schema (status_code e.statement e.answer.status) e.answer.key e.answer.items ++ 10 ∷ []

@@ -1,4 +1,4 @@
--- The refusal, as it is reached from left to right.
+-- The refusal, as the reader reaches it from left to right.
 use Rattle.std.specs.Prelude.{◌≡◌, ℕ, ◌+◌, not, List, [], ◌∷◌, ◌++◌, map, Option, Some, None, is_none, if◌then◌else◌}
 use Rattle.dbtg_schema.specs.Lists.{Lists}
 use Rattle.dbtg_schema.specs.Lookups.{first}
@@ -18,16 +18,16 @@ abbrev pub part_faults_at_once : Lists → List ℕ → List TraceCause
 part_faults_at_once schema part =
     when (not (is_statement (trimmed part))) (AsInScript cause.NoStatementWord) ++ map AsInScript (script.faults_at_once schema 0 (trimmed part))
 
--- the same behind a unit
+-- the same after a unit
 abbrev pub halves_faults_at_once : Lists → Option (List ℕ × List ℕ) → List TraceCause
 halves_faults_at_once schema None = NoArrow ∷ []
 halves_faults_at_once schema (Some h) = part_faults_at_once schema h.0
 
--- the same of a line that holds a statement
+-- the same for a line that holds a statement
 abbrev pub entry_faults_at_once : Lists → ℕ → List ℕ → List TraceCause
 entry_faults_at_once schema units line = when (is_none (unit_named units line)) NoUnit ++ halves_faults_at_once schema (halves line)
 
--- the same of any line behind `count` statements
+-- the same for any line behind `count` statements
 abbrev pub line_faults_at_once : Lists → ℕ → ℕ → List ℕ → List TraceCause
 line_faults_at_once schema units count line = whole_faults count line ++ (if is_statement line then entry_faults_at_once schema units line else [])
 

@@ -1,4 +1,4 @@
-//! Reading what stands behind the arrow: the answer that a line says was given.
+//! Reading what follows the arrow: the answer that a line says was given.
 
 ghost use Rattle.dbtg_script.specs.Tokens.{Token as SeenToken, equals, plain, tokens};
 ghost use Rattle.dbtg_trace.specs.Answers.{answer_in, key_in, said_of, said_of_key, said_of_status, status_in, value_in, values_in};
@@ -90,7 +90,7 @@ fn values_in(
     }
 }
 
-/// The answer with this status and key, and with the items that the words behind the key say.
+/// The answer with this status and key, and with the items that the words after the key say.
 fn said_of_key(
     alloc: Global,
     schema: &Schema,
@@ -118,7 +118,7 @@ fn said_of_key(
     }
 }
 
-/// The answer with this status, and with what the words behind it say.
+/// The answer with this status, and with what the words after it say.
 fn said_of_status(
     alloc: Global,
     schema: &Schema,
@@ -143,7 +143,7 @@ fn said_of_status(
     }
 }
 
-/// The answer that is written behind an arrow.
+/// The answer that is written after an arrow.
 pub fn answer_in(alloc: Global, schema: &Schema, text: &[u8]) -> Result<Option<Said>, AllocError>
     ensures { IfOk result (λ found. found ≡ answer_in schema.now text.now) }
 {

@@ -13,11 +13,11 @@ use thiserror::Error;
 pub enum TraceCause {
     /// 1 to 14: as in a script, but 14 is a text of more than 67,108,864 bytes, or statement 524,281
     AsInScript(Cause),
-    /// 31: no unit in front of the first colon, or one that there is not
+    /// 31: no unit before the first colon, or one that does not exist
     NoUnit,
-    /// 32: no arrow behind the unit
+    /// 32: no arrow after the unit
     NoArrow,
-    /// 33: behind the arrow no status, no key, or not the items of the key's record type
+    /// 33: after the arrow no status, no key, or not the items of the key's record type
     NoAnswer,
 }
 
@@ -45,10 +45,10 @@ pub struct Fault {
 /// Why no trace was read.
 #[derive(Debug, Drop, Error)]
 pub enum TraceFault {
-    /// The text has a fault; this is its first.
+    /// The first fault of the text.
     #[error("trace fault {} line {line}", .cause.number())]
     Refused { line: u64, cause: TraceCause },
-    /// A growth was refused before a fault was met.
+    /// Memory was refused before a fault was met.
     #[error("want of memory")]
     Memory,
 }

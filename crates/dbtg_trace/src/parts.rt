@@ -2,11 +2,11 @@
 
 ghost use Rattle.dbtg_script.specs.Moves.{begins_with};
 ghost use Rattle.dbtg_trace.specs.Parts.{arrow_at, begins_arrow, halves, is_unit, unit_named, without_space};
-ghost use Rattle.std.specs.Prelude.{◌≡◌, ◌+◌, ◌≤◌, ◌==◌, IfSome, MatchOption, None, Some, false, if◌then◌else◌, is_some, length, not};
+ghost use Rattle.std.specs.Prelude.{◌≡◌, ◌∷◌, ◌+◌, ◌≤◌, ◌==◌, IfSome, MatchOption, None, Some, false, if◌then◌else◌, is_some, length, not};
 
 use dbtg_script::{behind, has_byte, in_front, is_number, number, without_last};
 
-/// The unit that stands in front of the first colon, if it is one of those that there are.
+/// The unit before the first colon, if there is such a unit.
 #[tactic(auto, using(crate::proofs::ArrowSteps::named))]
 pub fn unit_named(units: u8, line: &[u8]) -> Option<u8>
     ensures { result ≡ unit_named units line.now }
@@ -40,43 +40,37 @@ fn begins_with(text: &[u8], c: u8) -> bool
     }
 }
 
-fn begins_arrow(text: &[u8]) -> bool
-    ensures { result ≡ begins_arrow text.now }
+/// Does an arrow begin with this byte, in front of these bytes?
+fn begins_arrow(byte: u8, behind: &[u8]) -> bool
+    ensures { result ≡ begins_arrow (byte ∷ behind.now) }
 {
-    match text.split_first() {
-        Some((b'=', rest)) => begins_with(rest, b'>'),
-        _ => false,
-    }
+    byte == b'=' && begins_with(behind, b'>')
 }
 
-/// Is what stands behind this byte in a text, if the byte itself is or is not?
+/// Does what follows this byte belong to a text, given whether the byte itself does?
 fn is_inside_behind(inside: bool, byte: u8) -> bool
     ensures { result ≡ (if byte == 34 then not inside else inside) }
 {
     if byte == b'"' { !inside } else { inside }
 }
 
-/// How many bytes stand in front of the first arrow outside of texts.
-#[tactic(auto, using(crate::proofs::ArrowSteps::here, crate::proofs::ArrowSteps::nowhere, crate::proofs::ArrowSteps::two_bytes))]
+/// How many bytes come before the first arrow outside of texts.
+#[tactic(auto, using(crate::proofs::ArrowSteps::found_here, crate::proofs::ArrowSteps::two_bytes))]
 fn arrow_at(text: &[u8]) -> Option<usize>
     ensures place { result ≡ arrow_at false text.now }
     ensures bound { IfSome result (λ n. n + 2 ≤ length text.now) }
 {
     let mut inside = false;
-    let mut at = 0;
-    let mut left = text;
-    while let Some((first, rest)) = left.split_first() {
-        if !inside & begins_arrow(left) {
+    for (at, byte) in text.iter().enumerate() {
+        if !inside & begins_arrow(*byte, &text[at + 1..]) {
             return Some(at);
         }
-        inside = is_inside_behind(inside, *first);
-        left = rest;
-        at += 1;
+        inside = is_inside_behind(inside, *byte);
     }
     None
 }
 
-/// One space less in front, if there is one.
+/// The line without one leading space, if there is one.
 fn without_space(bytes: &[u8]) -> &[u8]
     ensures { result.now ≡ without_space bytes.now }
 {
@@ -86,7 +80,7 @@ fn without_space(bytes: &[u8]) -> &[u8]
     }
 }
 
-/// The statement and the answer of a line, if there is an arrow behind its first colon.
+/// The statement and the answer of a line, if there is an arrow after its first colon.
 pub fn halves(line: &[u8]) -> Option<(&[u8], &[u8])>
     ensures { MatchOption result (halves line.now ≡ None) (λ h. halves line.now ≡ Some (h.0.now, h.1.now)) }
 {

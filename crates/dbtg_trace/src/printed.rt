@@ -9,7 +9,7 @@ use dbtg_script::{lines_of_history, push_answered, push_number, push_rest};
 use dbtg_unit::{Entry, Image, Unit};
 use std::alloc::{AllocError, Global};
 
-// The line of an entry, whose statement is spelled so.
+// The line of an entry, with its statement in this spelling.
 fn push_line(
     out: &mut Vec<u8>,
     schema: &Schema,
@@ -46,7 +46,7 @@ fn push_lines(
     Ok(())
 }
 
-/// The trace of a history behind a text. Each statement is spelled as the texts of the scripts have it.
+/// Appends the trace of a history. Each statement is spelled as the texts of the scripts have it.
 pub fn push_trace(
     alloc: Global,
     out: &mut Vec<u8>,
@@ -60,7 +60,7 @@ pub fn push_trace(
     push_lines(out, schema, statements.as_slice(), history)
 }
 
-/// All that a run gives but its moves, with the trace of its history in place of the answers.
+/// The output of a run without its moves, with the trace of its history in place of the answers.
 pub fn push_traced_run(
     alloc: Global,
     out: &mut Vec<u8>,

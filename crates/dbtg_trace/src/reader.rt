@@ -1,30 +1,37 @@
 //! Reading a trace: what each line says, or the first fault.
 
+ghost use Rattle.dbtg_schema.specs.Lists.{Lists};
 ghost use Rattle.dbtg_schema.specs.Lookups.{first};
 ghost use Rattle.dbtg_schema.specs.Sound.{IsSound};
+ghost use Rattle.dbtg_script.specs.Known.{IsKnown, IsRead};
 ghost use Rattle.dbtg_script.specs.Lines.{is_statement, trimmed};
 ghost use Rattle.dbtg_script.specs.StatementFaults.{count_after};
 ghost use Rattle.dbtg_script.specs.Statements.{line_statement};
 ghost use Rattle.dbtg_trace.specs.Faults.{refusal, whole_faults};
-ghost use Rattle.dbtg_trace.specs.Inside.Reading.{IsToldAtOnce, Refuses, at_line, entry_verdict, in_entry, line_verdict, part_verdict};
+ghost use Rattle.dbtg_trace.specs.Answers.{answer_in};
+ghost use Rattle.dbtg_trace.specs.Inside.Known.{AreSaid, IsKept};
+ghost use Rattle.dbtg_trace.specs.Inside.Reading.{IsToldAtOnce, Refuses, at_line, entry_verdict, in_entry, line_verdict, part_verdict, statements_in};
 ghost use Rattle.dbtg_trace.specs.Parts.{is_unit};
 ghost use Rattle.dbtg_trace.specs.Reading.{RefusesTrace, entry_faults_at_once, faults_at_once, line_faults_at_once, part_faults_at_once};
 ghost use Rattle.dbtg_trace.specs.Traces.{entry_of, line_entry, trace};
 ghost use Rattle.dbtg_trace.specs.declared.fault.Fault.{Fault as SeenFault};
 ghost use Rattle.dbtg_unit.specs.Database.Statements.Fits.{fits};
-ghost use Rattle.std.specs.Prelude.{◌≡◌, ◌++◌, IfErr, IfOk, MatchResult, None, OnOk, Some, false, length, true};
+ghost use Rattle.dbtg_unit.specs.declared.statement.Statement.{Statement as SaidStatement};
+ghost use Rattle.std.specs.Prelude.{◌≡◌, ◌++◌, ◌∷◌, [], IfErr, IfOk, IfSome, List, MatchResult, None, OnErr, OnOk, Some, false, length, true};
 ghost use Rattle.std.specs.List.{list_all};
 
 use crate::answer::answer_in;
 use crate::fault::{EntryFault, TraceCause, TraceFault};
+use crate::known::AnswerCache;
 use crate::parts::{halves, unit_named};
-use crate::traced::Traced;
+use crate::traced::{Said, Traced};
 use dbtg_schema::Schema;
 use dbtg_script::{
-    Cause, LineFault, Lines, is_allowed, is_printable, is_statement, read_script_line, trimmed,
+    Cause, LineCache, LineFault, Lines, is_allowed, is_printable, is_statement, read_script_line,
+    trimmed,
 };
 use dbtg_unit::Statement;
-use std::alloc::Global;
+use std::alloc::{AllocError, Global};
 
 /// How many statements a trace has at most: as many as eight scripts.
 const STATEMENTS: usize = 524_280;
@@ -39,6 +46,14 @@ struct NumberedLine<'a> {
     text: &'a [u8],
 }
 
+/// What the lines say that were read, and the lines of scripts and the answers in them that were read before.
+#[derive(Drop)]
+struct ReadSoFar<'a> {
+    known: LineCache<'a>,
+    answers: AnswerCache<'a>,
+    entries: Vec<Traced>,
+}
+
 /// The fault of a line of a script that is a part of a line.
 fn in_entry(fault: LineFault) -> EntryFault
     ensures { result ≡ in_entry fault }
@@ -49,11 +64,38 @@ fn in_entry(fault: LineFault) -> EntryFault
     }
 }
 
-/// The statement of what stands between a unit and an arrow: it is a line of a script, and has to hold one.
+/// The statement of a line of a script, if the line was read before.
+fn said_again(
+    alloc: Global,
+    so_far: &ReadSoFar,
+    line: &[u8],
+) -> Result<Option<Statement>, AllocError>
+    ensures says { (schema : Lists) → IsKnown schema (statements_in so_far.now.entries.items) so_far.now.known.places → IfOk result (λ found. IfSome found (λ s. IsRead schema (s ∷ []) line.now 0)) }
+    ensures memory { (schema : Lists) → IsKnown schema (statements_in so_far.now.entries.items) so_far.now.known.places → OnErr result ((s : SaidStatement) × IsRead schema (s ∷ []) line.now 0) }
+{
+    let Some(at) = so_far.known.find(line) else {
+        return Ok(None);
+    };
+    match so_far.entries.get(at) {
+        None => Ok(None),
+        Some(entry) => Ok(Some(entry.statement.copy(alloc)?)),
+    }
+}
+
+/// The same where the line is read anew; then it is kept as that of the next entry.
 #[tactic(auto, using(crate::proofs::EntrySteps::no_statement, crate::proofs::EntrySteps::of_line))]
-fn read_part(alloc: Global, schema: &Schema, part: &[u8]) -> Result<Statement, EntryFault>
+fn read_new<'a>(
+    alloc: Global,
+    schema: &Schema,
+    so_far: &mut ReadSoFar<'a>,
+    part: &'a [u8],
+) -> Result<Statement, EntryFault>
+    requires { IsKnown schema.now (statements_in so_far.old.entries.items) so_far.old.known.places }
     ensures accepted { OnOk result (part_verdict schema.now part.now ≡ None) }
     ensures statement { IfOk result (λ s. line_statement schema.now (trimmed part.now) ≡ Some s) }
+    ensures known { IfOk result (λ s. IsKnown schema.now (statements_in so_far.old.entries.items ++ s ∷ []) so_far.new.known.places) }
+    ensures entries { so_far.new.entries.items ≡ so_far.old.entries.items }
+    ensures answers { so_far.new.answers.places ≡ so_far.old.answers.places }
     ensures fitting { IsSound schema.now → IfOk result (λ s. fits schema.now s ≡ true) }
     ensures refused { IfErr result (λ e. Refuses e (part_verdict schema.now part.now)) }
     ensures at_once { IsToldAtOnce (part_faults_at_once schema.now part.now) result }
@@ -64,19 +106,83 @@ fn read_part(alloc: Global, schema: &Schema, part: &[u8]) -> Result<Statement, E
     match read_script_line(alloc, schema, 0, part) {
         Err(fault) => Err(in_entry(fault)),
         Ok(None) => Err(EntryFault::Refused(TraceCause::AsInScript(Cause::NoStatementWord))),
-        Ok(Some(statement)) => Ok(statement),
+        Ok(Some(statement)) => {
+            so_far.known.note(trimmed(part), so_far.entries.len());
+            Ok(statement)
+        }
+    }
+}
+
+/// The statement of what stands between a unit and an arrow: it is a line of a script, and has to hold one.
+fn read_part<'a>(
+    alloc: Global,
+    schema: &Schema,
+    so_far: &mut ReadSoFar<'a>,
+    part: &'a [u8],
+) -> Result<Statement, EntryFault>
+    requires { IsKnown schema.now (statements_in so_far.old.entries.items) so_far.old.known.places }
+    ensures accepted { OnOk result (part_verdict schema.now part.now ≡ None) }
+    ensures statement { IfOk result (λ s. line_statement schema.now (trimmed part.now) ≡ Some s) }
+    ensures known { IfOk result (λ s. IsKnown schema.now (statements_in so_far.old.entries.items ++ s ∷ []) so_far.new.known.places) }
+    ensures entries { so_far.new.entries.items ≡ so_far.old.entries.items }
+    ensures answers { so_far.new.answers.places ≡ so_far.old.answers.places }
+    ensures fitting { IsSound schema.now → IfOk result (λ s. fits schema.now s ≡ true) }
+    ensures refused { IfErr result (λ e. Refuses e (part_verdict schema.now part.now)) }
+    ensures at_once { IsToldAtOnce (part_faults_at_once schema.now part.now) result }
+{
+    match said_again(alloc, so_far, trimmed(part))? {
+        Some(again) => Ok(again),
+        None => read_new(alloc, schema, so_far, part),
+    }
+}
+
+/// The answer that these bytes say, if they were read before.
+fn answered_again(
+    alloc: Global,
+    so_far: &ReadSoFar,
+    answer: &[u8],
+) -> Result<Option<Said>, AllocError>
+    ensures { (schema : Lists) → AreSaid schema so_far.now.entries.items so_far.now.answers.places → IfOk result (λ found. IfSome found (λ said. answer_in schema answer.now ≡ Some said)) }
+{
+    let Some(at) = so_far.answers.find(answer) else {
+        return Ok(None);
+    };
+    match so_far.entries.get(at) {
+        None => Ok(None),
+        Some(entry) => Ok(Some(entry.said.copy(alloc)?)),
+    }
+}
+
+/// The answer that is written behind an arrow.
+fn read_answer(
+    alloc: Global,
+    schema: &Schema,
+    so_far: &ReadSoFar,
+    answer: &[u8],
+) -> Result<Option<Said>, AllocError>
+    requires { AreSaid schema.now so_far.now.entries.items so_far.now.answers.places }
+    ensures { IfOk result (λ found. found ≡ answer_in schema.now answer.now) }
+{
+    match answered_again(alloc, so_far, answer)? {
+        Some(said) => Ok(Some(said)),
+        None => answer_in(alloc, schema, answer),
     }
 }
 
 /// What a line that holds a statement says.
 #[tactic(auto, using(crate::proofs::EntrySteps::no_unit, crate::proofs::EntrySteps::no_arrow, crate::proofs::EntrySteps::part_stops, crate::proofs::EntrySteps::no_answer, crate::proofs::EntrySteps::all_said))]
-fn read_entry(
+fn read_entry<'a>(
     alloc: Global,
     schema: &Schema,
     units: u8,
-    line: NumberedLine,
+    so_far: &mut ReadSoFar<'a>,
+    line: NumberedLine<'a>,
 ) -> Result<Traced, EntryFault>
+    requires { IsKept schema.now so_far.old.entries.items so_far.old.known.places so_far.old.answers.places }
     ensures accepted { OnOk result (entry_verdict schema.now units line.entry.text.now ≡ None) }
+    ensures known { IfOk result (λ t. IsKnown schema.now (statements_in so_far.old.entries.items ++ t.statement ∷ []) so_far.new.known.places) }
+    ensures said { IfOk result (λ t. AreSaid schema.now (so_far.old.entries.items ++ t ∷ []) so_far.new.answers.places) }
+    ensures entries { so_far.new.entries.items ≡ so_far.old.entries.items }
     ensures entry { IfOk result (λ t. entry_of schema.now units line.entry.number line.entry.text.now ≡ Some t) }
     ensures fitting { IsSound schema.now → IfOk result (λ t. fits schema.now t.statement ≡ true) }
     ensures unit { IfOk result (λ t. is_unit units t.unit ≡ true) }
@@ -89,19 +195,22 @@ fn read_entry(
     let Some((part, answer)) = halves(line.text) else {
         return Err(EntryFault::Refused(TraceCause::NoArrow));
     };
-    let statement = read_part(alloc, schema, part)?;
-    match answer_in(alloc, schema, answer)? {
+    let statement = read_part(alloc, schema, so_far, part)?;
+    match read_answer(alloc, schema, so_far, answer)? {
         None => Err(EntryFault::Refused(TraceCause::NoAnswer)),
-        Some(said) => Ok(Traced {
-            line: line.number,
-            unit,
-            statement,
-            said,
-        }),
+        Some(said) => {
+            so_far.answers.note(answer, so_far.entries.len());
+            Ok(Traced {
+                line: line.number,
+                unit,
+                statement,
+                said,
+            })
+        }
     }
 }
 
-/// The first fault of a line as a whole, behind `count` statements.
+/// The first fault of a line as a whole, after `count` statements.
 fn whole_fault(line: &[u8], count: usize) -> Option<TraceCause>
     ensures { result ≡ first (whole_faults count line.now) }
 {
@@ -121,34 +230,36 @@ fn whole_fault(line: &[u8], count: usize) -> Option<TraceCause>
     }
 }
 
-/// Takes a line: what it says goes behind what the lines before it say.
+/// Takes a line: what it says is appended to what the earlier lines say.
 #[tactic(auto, using(crate::proofs::TraceSteps::whole_stops, crate::proofs::TraceSteps::note_passes, crate::proofs::TraceSteps::entry_decides, crate::proofs::TraceSteps::nothing_said, crate::proofs::TraceSteps::one_said))]
-fn take_line(
+fn take_line<'a>(
     alloc: Global,
     schema: &Schema,
     units: u8,
-    entries: &mut Vec<Traced>,
-    line: NumberedLine,
+    so_far: &mut ReadSoFar<'a>,
+    line: NumberedLine<'a>,
 ) -> Result<(), EntryFault>
-    ensures accepted { OnOk result (line_verdict schema.now units (length entries.old.items) line.entry.text.now ≡ None) }
-    ensures taken { OnOk result (entries.new.items ≡ entries.old.items ++ line_entry schema.now units line.entry.number line.entry.text.now) }
+    requires { IsKept schema.now so_far.old.entries.items so_far.old.known.places so_far.old.answers.places }
+    ensures kept { OnOk result (IsKept schema.now so_far.new.entries.items so_far.new.known.places so_far.new.answers.places) }
+    ensures accepted { OnOk result (line_verdict schema.now units (length so_far.old.entries.items) line.entry.text.now ≡ None) }
+    ensures taken { OnOk result (so_far.new.entries.items ≡ so_far.old.entries.items ++ line_entry schema.now units line.entry.number line.entry.text.now) }
     ensures fitting { IsSound schema.now → OnOk result (list_all (λ t. fits schema.now t.statement) (line_entry schema.now units line.entry.number line.entry.text.now) ≡ true) }
-    ensures counted { OnOk result (length entries.new.items ≡ count_after (length entries.old.items) line.entry.text.now) }
+    ensures counted { OnOk result (length so_far.new.entries.items ≡ count_after (length so_far.old.entries.items) line.entry.text.now) }
     ensures units { OnOk result (list_all (λ t. is_unit units t.unit) (line_entry schema.now units line.entry.number line.entry.text.now) ≡ true) }
-    ensures refused { IfErr result (λ e. Refuses e (line_verdict schema.now units (length entries.old.items) line.entry.text.now)) }
-    ensures at_once { IsToldAtOnce (line_faults_at_once schema.now units (length entries.old.items) line.entry.text.now) result }
+    ensures refused { IfErr result (λ e. Refuses e (line_verdict schema.now units (length so_far.old.entries.items) line.entry.text.now)) }
+    ensures at_once { IsToldAtOnce (line_faults_at_once schema.now units (length so_far.old.entries.items) line.entry.text.now) result }
     ensures note { is_statement line.entry.text.now ≡ false → IfErr result (λ e. e ≡ EntryFault.Memory → ⊥) }
 {
-    if let Some(cause) = whole_fault(line.text, entries.len()) {
+    if let Some(cause) = whole_fault(line.text, so_far.entries.len()) {
         return Err(EntryFault::Refused(cause));
     }
     if !is_statement(line.text) {
         return Ok(());
     }
-    match read_entry(alloc, schema, units, line) {
+    match read_entry(alloc, schema, units, so_far, line) {
         Err(fault) => Err(fault),
         Ok(entry) => {
-            entries.push(entry)?;
+            so_far.entries.push(entry)?;
             Ok(())
         }
     }
@@ -166,9 +277,9 @@ fn at_line(number: u64, fault: EntryFault) -> TraceFault
     }
 }
 
-/// Reads a trace of a schema and so many units: what it says line by line, in the order of the lines. The text may hold any bytes.
-/// A refused text is refused for its first fault; `Memory` is the answer where a growth was refused before a fault was met. So it is
-/// never the answer to a text that is too long, nor to one with a fault in a line before its first statement, or in the unit, the
+/// Reads a trace of a schema and this many units: what it says line by line, in the order of the lines. The text may hold any bytes.
+/// A refused text is refused for its first fault; `Memory` is given if memory was refused before a fault was met. So it is
+/// never given for a text that is too long, nor for one with a fault in a line before its first statement, or in the unit, the
 /// arrow or the first word of that statement.
 pub fn read_trace(
     alloc: Global,
@@ -189,7 +300,11 @@ pub fn read_trace(
             cause: TraceCause::AsInScript(Cause::TooMuch),
         });
     }
-    let mut entries = Vec::new(alloc);
+    let mut so_far = ReadSoFar {
+        known: LineCache::none(),
+        answers: AnswerCache::none(),
+        entries: Vec::new(alloc),
+    };
     let mut number: u64 = 1;
     let mut left = Lines { rest: text };
     while let Some(line) = left.next() {
@@ -197,10 +312,15 @@ pub fn read_trace(
             number,
             text: trimmed(line),
         };
-        if let Err(fault) = take_line(alloc, schema, units, &mut entries, line) {
+        if let Err(fault) = take_line(alloc, schema, units, &mut so_far, line) {
             return Err(at_line(number, fault));
         }
         number += 1;
     }
+    let ReadSoFar {
+        known: _,
+        answers: _,
+        entries,
+    } = so_far;
     Ok(entries)
 }

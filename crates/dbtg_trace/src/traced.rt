@@ -1,16 +1,36 @@
 //! What the lines of a trace say.
 
-use dbtg_cells::{DbKey, Value};
+ghost use Rattle.std.specs.Prelude.{◌≡◌, IfOk};
+
+use dbtg_cells::{DbKey, Value, copy_items};
 use dbtg_schema::Row;
 use dbtg_unit::Statement;
+use std::alloc::{AllocError, Global};
 
-/// What a line says was answered: its status as a number of four digits; key and items are none where the line leaves them out.
+/// The answer that a line gives: its status as a number of four digits; key and items are none if the line leaves them out.
 #[derive(Drop)]
 pub struct Said {
     pub status: u16,
     pub key: Option<DbKey>,
-    /// All items of the key's record type, in the order of the schema; none where there is no key.
+    /// All items of the key's record type, in the order of the schema; none if there is no key.
     pub items: Option<Row<Value>>,
+}
+
+impl Said {
+    /// The same again.
+    pub(crate) fn copy(&self, alloc: Global) -> Result<Self, AllocError>
+        ensures { IfOk result (λ said. said ≡ self.now) }
+    {
+        let items = match &self.items {
+            None => None,
+            Some(items) => Some(copy_items(items, alloc)?),
+        };
+        Ok(Self {
+            status: self.status,
+            key: self.key,
+            items,
+        })
+    }
 }
 
 /// A line with a statement: its number in the text from 1, the unit that asked, what it asked, and what it says was answered.

@@ -9,12 +9,12 @@ use Rattle.dbtg_trace.specs.declared.traced.Said.{Said}
 use Rattle.dbtg_trace.specs.declared.traced.Traced.{Traced}
 use Rattle.dbtg_audit.specs.Auditing.{all_so, asked, differences_text, is_so, loads, units_with}
 
--- just the script that is made first is made, by the unit behind those of the trace
+-- just the script that is made first is made, by the unit after those of the trace
 pub record IsLoaded (schema : Lists) (capacity units : ℕ) (load : Option (List Statement)) (m : Making) : Type 0 where
   pub same : m ≡ record { schema = schema; capacity = capacity; units = units_with units load; history = m.history }
   pub statements : statements_of m.history ≡ loads units load
 
--- just these statements are made, behind those before, in these entries
+-- just these statements are made, after the earlier ones, in these entries
 pub record HasMadeThese (old : Making) (traced : List Traced) (new : Making) : Type 0 where
   pub made : List Entry
   pub same : new ≡ record old { history = old.history ++ made }
@@ -25,7 +25,7 @@ pub record HasMadeSo (statuses : Bool) (old : Making) (traced : List Traced) (ne
   pub these : HasMadeThese old traced new
   pub so : all_so statuses traced these.made ≡ true
 
--- the same of the statements before one, and that one is made too: what is said is not so of its entry
+-- the same for the statements before one, and that one is made too: what is said does not hold for its entry
 pub record HasMadeOther (statuses : Bool) (old : Making) (traced : List Traced) (line : ℕ) (said : Said) (new : Making) : Type 0 where
   pub before : List Traced
   pub here : Traced
@@ -40,12 +40,12 @@ pub record HasMadeOther (statuses : Bool) (old : Making) (traced : List Traced) 
   pub so_before : all_so statuses before past ≡ true
   pub differs : is_so statuses here.said entry ≡ false
 
--- all statements are made, or those up to the first of whose answer something else is said, with its line and what that says
+-- all statements are made, or those up to the first whose answer differs, with its line and what that says
 abbrev pub HasMadeUpTo : Bool → Making → List Traced → Option (ℕ × Said) → Making → Type 0
 HasMadeUpTo statuses old traced None new = HasMadeSo statuses old traced new
 HasMadeUpTo statuses old traced (Some found) new = HasMadeOther statuses old traced found.0 found.1 new
 
--- all statements are made, what differs is told behind a text, and whether all is so is known
+-- all statements are made, what differs is appended to a text, and it is known whether everything holds
 pub record HasToldAll (statuses : Bool) (schema : Lists) (old : Making) (traced : List Traced) (new : Making) (before told : List ℕ) (so : Bool) : Type 0 where
   pub these : HasMadeThese old traced new
   pub told_is : told ≡ before ++ differences_text statuses schema traced these.made

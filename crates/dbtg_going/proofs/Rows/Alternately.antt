@@ -22,7 +22,7 @@ use Rattle.dbtg_step.specs.Machine.SequentialDatabase.{unit_at}
 use Rattle.dbtg_going.specs.declared.member.Standing.TheVariants.{Ended, GoesOn}
 use Rattle.dbtg_going.specs.Turns.{after_turns, reached}
 
--- it looks for a record, and frees all where there is none
+-- it looks for a record, and frees all if there is none
 abbrev pub looker : Program
 looker = of_lines card ("01 SEEN PIC 9(2)" ∷ "GET" ∷ "IF STATUS = 0413 GO TO NOTHING" ∷ "ADD 1 TO SEEN" ∷ "STOP" ∷ "NOTHING." ∷ "FREE ALL" ∷ "ADD 7 TO SEEN" ∷ [])
 
@@ -54,7 +54,7 @@ once_more : after_turns card 5 (looker ∷ storer ∷ []) two_made (1 ∷ 1 ∷ 
 unfolding after_turns unit_at replay within verdict onto into digits effect
 once_more = refl
 
--- the first has ended, and its counter was raised behind its last statement; the other has a statement to make
+-- the first has ended, and its counter was raised after its last statement; the other has a statement to make
 looker_ended : reached card looker 1 then_made ≡ record { standing = Ended Stop; state = record { at = 8; values = Num 0 ∷ text "" ∷ Num 7 ∷ []; status = 0 } }
 unfolding within verdict onto into digits
 looker_ended = refl

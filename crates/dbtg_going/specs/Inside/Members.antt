@@ -18,17 +18,17 @@ pub record IsAt (schema : Lists) (program : Program) (entries : List Entry) (m :
   pub made : m.made ≡ length entries
   pub going : IsGoing schema program entries m.going
 
--- and so is each of these members
+-- the same for each of these members
 abbrev pub AreAt : Lists → List Program → List Entry → List Member → Type 0
 AreAt schema = AreEach (IsAt schema)
 
--- the database has a unit for each program, and has made what the members were told
+-- the database has a unit for each program, and the members are where its history has led them
 pub record IsUnderWay (schema : Lists) (programs : List Program) (m : Making) (members : List Member) : Type 0 where
   pub schema_is : m.schema ≡ schema
   pub units : m.units ≡ length programs
   pub are_at : AreAt schema programs m.history members
 
--- these turns were taken, and with the members all is under way
+-- these turns were taken, and everything is under way with the members
 pub record HaveTurned (schema : Lists) (programs : List Program) (old : Making) (turns : List ℕ) (new : Making) (members : List Member) : Type 0 where
   pub under_way : IsUnderWay schema programs new members
   pub database : new ≡ record old { history = after_turns schema old.capacity programs old.history turns }

@@ -23,7 +23,7 @@ unclosed : refusal card (34 ∷ []) ≡ Some (record { line = 1; cause = AsInScr
 unfolding lines tokens onto into digits
 unclosed = refl
 
--- a note, and a line with one word behind it
+-- a note, and a line with one word after it
 second_line : refusal card (42 ∷ 10 ∷ 88 ∷ []) ≡ Some (record { line = 2; cause = AsInScript NoStatementWord })
 unfolding lines tokens onto into digits
 second_line = refl

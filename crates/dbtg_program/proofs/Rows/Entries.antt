@@ -30,7 +30,7 @@ not_kept : AreOf card keeper (entry 0 (Get None) (no NoCurrentOfRunUnit) ∷ ent
 unfolding within verdict onto into digits
 not_kept h = let e : Free false ≡ Keep = h.1.0 in absurd cc
 
--- after a GET that was done it keeps, and makes nothing behind its STOP
+-- after a GET that was done it keeps, and makes nothing after its STOP
 kept : AreOf card keeper (entry 0 (Get None) done ∷ entry 1 Keep done ∷ [])
 unfolding within verdict onto into digits
 kept = (refl, (refl, tt))

@@ -9,7 +9,7 @@ use Rattle.dbtg_program.specs.Faults.{cause_number, sentence_faults}
 use Rattle.dbtg_program.specs.Sentences.{Holding, Text}
 use Rattle.dbtg_program.proofs.Rows.Words.{lines_at_once}
 
--- the line and the number of each fault of sentences, the first of this number
+-- the line and the number of each fault of sentences, the first with this number
 abbrev pub faults_in : Text → ℕ → List Holding → List (ℕ × ℕ)
 faults_in text at [] = []
 faults_in text at (l ∷ ls) = map (λ c. (l.number, cause_number c)) (sentence_faults text at l) ++ faults_in text (at + 1) ls
@@ -86,7 +86,7 @@ fraction : fault_of ("MOVE 1.5 TO CUSTOMER.CNO" ∷ []) ≡ Some (1, 23)
 unfolding onto into digits
 fraction = refl
 
--- a field word is judged before the words in front of it
+-- a field word is judged before the words before it
 unknown_field_word : fault_of ("STORE CUSTOMR CNO = N" ∷ []) ≡ Some (1, 23)
 unfolding onto into digits
 unknown_field_word = refl

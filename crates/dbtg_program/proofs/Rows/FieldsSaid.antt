@@ -1,18 +1,19 @@
 -- Fields in every place where a value may stand.
-use Rattle.std.specs.Prelude.{◌≡◌, refl, [], ◌∷◌, Some}
+use Rattle.std.specs.Prelude.{◌≡◌, refl, [], ◌∷◌, Some, codes}
 use Rattle.std.specs.Fmt.{digits}
 use Rattle.dbtg_cells.specs.declared.key.Value.TheVariants.{Num}
 use Rattle.dbtg_unit.specs.declared.statement.Form.TheVariants.{Calc, Sorted}
 use Rattle.dbtg_unit.specs.declared.statement.Statement.TheVariants.{Modify}
 use Rattle.dbtg_unit.proofs.Rows.Words.{find, store, text}
 use Rattle.dbtg_unit.proofs.Rows.Defined.Schemas.{shop, items, lines}
-use Rattle.dbtg_script.specs.Tokens.{into, onto}
+use Rattle.dbtg_script.specs.Tokens.{plain, equals, literal, into, onto}
 use Rattle.dbtg_script.specs.Reading.{verdict}
 use Rattle.dbtg_program.specs.declared.program.End.TheVariants.{Stop}
 use Rattle.dbtg_program.specs.Going.{within}
+use Rattle.dbtg_program.specs.Spelling.{words_text}
 use Rattle.dbtg_program.proofs.Rows.Words.{of_lines, played, done}
 
--- behind STORE, MODIFY and USING, and behind FIND SORTED; a text goes in with the spaces that its item wants
+-- after STORE, MODIFY and USING, and after FIND SORTED; a text goes in with the spaces that its item wants
 in_every_place : played shop (of_lines shop (
     "01 WORD PIC X(4)"
     ∷ "01 COUNT PIC 9(3)"
@@ -38,3 +39,10 @@ in_every_place : played shop (of_lines shop (
     }
 unfolding within verdict onto into digits
 in_every_place = refl
+
+-- words as a script has them, one space between two
+as_spelled : words_text (plain (codes "STORE") ∷ plain (codes "ITEM") ∷ plain (codes "PART") ∷ equals ∷ literal (codes "A B") ∷ plain (codes "QTY") ∷ equals ∷ plain (codes "12") ∷ []) ≡ codes "STORE ITEM PART = \"A B\" QTY = 12"
+as_spelled = refl
+
+nothing_spelled : words_text [] ≡ []
+nothing_spelled = refl

@@ -35,7 +35,7 @@ clerk = of_lines shop (
     ∷ "FREE"
     ∷ [])
 
--- BOLT is found, kept and got with so many pieces
+-- BOLT is found, kept and got with this many pieces
 abbrev pub bolt : Statement
 bolt = find (Calc items (text "BOLT" ∷ []))
 

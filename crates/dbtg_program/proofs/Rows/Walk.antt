@@ -18,7 +18,7 @@ use Rattle.std.specs.Prelude.{false}
 use Rattle.dbtg_program.specs.Going.{within}
 use Rattle.dbtg_program.proofs.Rows.Words.{of_lines, played, found, got, no}
 
--- the fields of SHOP are CNO, CNAME, ONO, PART and QTY, numbered from 0; SUM and COUNT come behind them
+-- the fields of SHOP are CNO, CNAME, ONO, PART and QTY, numbered from 0; SUM and COUNT come after them
 abbrev pub walk : Program
 walk = of_lines shop (
     "01 SUM PIC 9(4)."

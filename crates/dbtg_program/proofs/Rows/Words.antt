@@ -72,7 +72,7 @@ no cause = record { status = Refused cause; key = None; items = None }
 
 -- WHAT A PROGRAM DOES
 
--- the statements that are made where these are the answers, and how it ends behind them
+-- the statements that are made where these are the answers, and how it ends after them
 pub record Played : Type 0 where
   pub statements : List Statement
   pub values : List Value

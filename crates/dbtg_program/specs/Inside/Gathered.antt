@@ -1,4 +1,4 @@
--- What is gathered of a text before its sentences are judged.
+-- What is known of a text before its sentences are judged.
 use Rattle.std.specs.Prelude.{◌≡◌, ℕ, List, Option}
 use Rattle.std.specs.Str.{bytes_eq}
 use Rattle.indexmap.specs.IndexMap.{get_by}
@@ -9,7 +9,7 @@ use Rattle.dbtg_program.specs.Values.{records_from}
 use Rattle.dbtg_program.specs.declared.fields.Fields.{Fields}
 use Rattle.dbtg_program.specs.declared.places.Places.{Places}
 
--- where places lead from a name
+-- the place to which a name leads
 abbrev pub leads_to : Places → List ℕ → Option ℕ
 leads_to places name = get_by (λ key. bytes_eq name key.items) places.numbers
 

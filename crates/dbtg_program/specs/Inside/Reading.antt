@@ -58,7 +58,7 @@ sentence_verdict text at l = first (sentence_faults text at l)
 unfoldable pub whole_verdict : ℕ → List ℕ → Option ProgramCause
 whole_verdict at line = first (whole_faults at line)
 
--- the first fault of a line, where this is its sentence, if it holds one
+-- the first fault of a line, if this is its sentence or it holds none
 unfoldable pub line_verdict : Text → ℕ → List ℕ → Holding → Option ProgramCause
 line_verdict text at line l = first (whole_faults at line ++ (if is_statement line then sentence_faults text at l else []))
 
@@ -78,7 +78,7 @@ Stands text at l = slice_get text.sentences at ≡ Some l
 unfoldable pub sentence_line : Text → Holding → Line
 sentence_line = line_of
 
--- the same of a line of its text, if it holds that sentence
+-- the same for a line of its text, if it holds that sentence
 abbrev pub line_said : Text → List ℕ → Holding → List Line
 line_said text line l = if is_statement line then sentence_line text l ∷ [] else []
 

@@ -1,4 +1,4 @@
--- Values, words and steps of the code, without where they lie in memory.
+-- The spec-level view of values, words and steps: the code's values without their references.
 use Rattle.std.specs.Prelude.{◌≡◌, ℕ, ◌<◌, Bool, List, [], decimal, length, map, option_map}
 use Rattle.dbtg_cells.specs.declared.key.Value.{Value}
 use Rattle.dbtg_cells.specs.declared.key.Value.TheVariants.{Num, Text}
@@ -30,18 +30,18 @@ Stays old new progress.Goes = Unit {0}
 Stays old new (progress.Makes s) = new ≡ old
 Stays old new (progress.Ends e) = new ≡ old
 
--- where a statement is made there was a sentence
+-- if a statement is made there was a sentence
 abbrev pub Stood : Program → ProgramState → Progress → Type 0
 Stood program state progress.Goes = Unit {0}
 Stood program state (progress.Makes s) = state.at < length program.lines
 Stood program state (progress.Ends e) = Unit {0}
 
--- the digits of a number, none of a text
+-- the digits of a number; none for a text
 abbrev pub digits : Value → List ℕ
 digits (Num n) = decimal n
 digits (Text t) = []
 
--- the digits of the number that a word stands for, where it is a field that has one
+-- the digits of the number that a word stands for, if it is a field that has one
 abbrev pub digits_of : ProgramState → Word → List ℕ
 digits_of state (word.Plain t) = []
 digits_of state word.Equals = []

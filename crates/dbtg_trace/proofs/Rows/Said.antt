@@ -1,12 +1,18 @@
 -- What is said behind an arrow, and by a trace.
-use Rattle.std.specs.Prelude.{◌≡◌, refl, [], ◌∷◌, Some, None, codes}
+use Rattle.std.specs.Prelude.{◌≡◌, refl, List, [], ◌∷◌, Some, None, codes}
+use Rattle.std.specs.Fmt.{digits}
 use Rattle.dbtg_unit.proofs.Rows.Defined.Schemas.{shop}
 use Rattle.dbtg_cells.specs.declared.key.Value.TheVariants.{Num, Text}
 use Rattle.dbtg_unit.specs.declared.statement.Statement.TheVariants.{Get, Keep}
+use Rattle.dbtg_unit.specs.declared.unit.Cause.TheVariants.{NoCurrentOfRunUnit}
+use Rattle.dbtg_unit.specs.declared.unit.Entry.{Entry}
+use Rattle.dbtg_unit.specs.declared.unit.Status.TheVariants.{Done, Refused}
 use Rattle.dbtg_script.specs.Lines.{lines}
 use Rattle.dbtg_script.specs.Tokens.{into, onto, tokens}
 use Rattle.dbtg_trace.specs.Answers.{answer_in}
 use Rattle.dbtg_trace.specs.Parts.{arrow_at}
+use Rattle.dbtg_trace.specs.Laws.{all_said}
+use Rattle.dbtg_trace.specs.Printing.{trace_lines}
 use Rattle.dbtg_trace.specs.Traces.{trace}
 
 status_alone : answer_in shop (codes " 0307") ≡ Some (record { status = 307; key = None; items = None })
@@ -72,3 +78,13 @@ two_of_three_lines : trace shop 2 (codes "* load\n1: KEEP => 0000\n2:GET.=>0413.
     ∷ record { line = 3; unit = 2; statement = Get None; said = record { status = 413; key = None; items = None } } ∷ []
 unfolding tokens onto into lines arrow_at
 two_of_three_lines = refl
+
+-- what is printed of two entries is read back
+abbrev made : List Entry
+made =
+    record { ticket = 0; unit = 1; statement = Keep; answer = record { status = Done; key = None; items = None } }
+    ∷ record { ticket = 1; unit = 2; statement = Get None; answer = record { status = Refused NoCurrentOfRunUnit; key = None; items = None } } ∷ []
+
+printed_back : trace shop 2 (trace_lines shop (codes "KEEP" ∷ codes "GET" ∷ []) made) ≡ all_said 1 made
+unfolding tokens onto into lines arrow_at digits
+printed_back = refl

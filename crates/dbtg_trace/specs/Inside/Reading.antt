@@ -1,7 +1,8 @@
 -- Words beside `Reading` that private functions and lemmas use.
-use Rattle.std.specs.Prelude.{◌≡◌, ℕ, List, Option, Some, Result, MatchResult}
+use Rattle.std.specs.Prelude.{◌≡◌, ℕ, List, map, Option, Some, Result, MatchResult}
 use Rattle.dbtg_schema.specs.Lists.{Lists}
 use Rattle.dbtg_schema.specs.Lookups.{first}
+use Rattle.dbtg_unit.specs.declared.statement.Statement.{Statement}
 use Rattle.dbtg_script.specs.declared.fault.LineFault.{LineFault}
 use Rattle.dbtg_script.specs.declared.fault.LineFault.TheVariants as script
 use Rattle.dbtg_trace.specs.declared.fault.EntryFault.{EntryFault}
@@ -11,7 +12,12 @@ use Rattle.dbtg_trace.specs.declared.fault.TraceCause.{TraceCause}
 use Rattle.dbtg_trace.specs.declared.fault.TraceCause.TheVariants.{AsInScript}
 use Rattle.dbtg_trace.specs.declared.fault.TraceFault.{TraceFault}
 use Rattle.dbtg_trace.specs.declared.fault.TraceFault.TheVariants as trace
+use Rattle.dbtg_trace.specs.declared.traced.Traced.{Traced}
 use Rattle.dbtg_trace.specs.Faults.{entry_faults, line_faults, lines_faults, part_faults}
+
+-- what was asked
+abbrev pub statements_in : List Traced → List Statement
+statements_in ts = map (λ t. t.statement) ts
 
 -- the first fault of what should be a statement
 unfoldable pub part_verdict : Lists → List ℕ → Option TraceCause
@@ -34,7 +40,7 @@ abbrev pub Refuses : EntryFault → Option TraceCause → Type 0
 Refuses entry.Memory v = Unit {0}
 Refuses (entry.Refused cause) v = v ≡ Some cause
 
--- the first of these faults is told, and not want of memory
+-- the first of these faults is told, and not a refusal of memory
 abbrev pub IsToldAtOnce : {A : Type 0} → List TraceCause → Result A EntryFault → Type 0
 IsToldAtOnce causes result = (c : TraceCause) → first causes ≡ Some c → MatchResult result (λ _. ⊥) (λ e. e ≡ entry.Refused c)
 

@@ -1,7 +1,11 @@
-use Rattle.std.proofs.Common.{rules, ◌≡◌, None, Some}
+use Rattle.std.proofs.Common.{rules, ◌≡◌, ◌∷◌, ◌++◌, [], List, None, Option, Some, ap, arith, length, subst, sym, ℕ}
 use Rattle.std.proofs.lemmas.Result.{err_from_is_err_and}
 use Rattle.dbtg_trace.specs.Answers.{answer_in}
 use Rattle.dbtg_trace.specs.Parts.{halves, unit_named}
+use Rattle.dbtg_script.specs.declared.known.Seen.{Seen}
+use Rattle.dbtg_trace.specs.declared.traced.Traced.{Traced}
+use Rattle.dbtg_trace.specs.Inside.Known.{AreSaid, IsSaid}
+use Rattle.dbtg_trace.proofs.AnswersKept.{said_next, still_said}
 use Rattle.dbtg_trace.proofs.EntrySteps.{all_said, entry_refused, no_answer}
 use Rattle.dbtg_trace.proofs.reader.read_entry.Goals as goal
 
@@ -28,3 +32,16 @@ returns-in-Some-2-clause-accepted c =
     let parts : halves line ≡ Some (c.in-Some-halves.part.now, c.in-Some-halves.answer.now) = search rules in
     let said : answer_in c.args.schema.now c.in-Some-halves.answer.now ≡ Some c.in-Some-2.said = search rules in
     all_said c.args.schema.now c.args.units c.in-Some.unit line (c.in-Some-halves.part.now, c.in-Some-halves.answer.now) c.in-Some-2.said (unit, parts) c.in_ok-statement.ensures.accepted said
+
+pub returns-in-Some-2-clause-said : goal.returns-in-Some-2-clause-said
+returns-in-Some-2-clause-said c =
+    let schema = c.args.schema.now in
+    let ts = c.args.so_far.now.entries.items in
+    let answer = c.in-Some-halves.answer.now in
+    let t : Traced = record { line = c.args.line.number; unit = c.in-Some.unit; statement = c.in_ok-statement.statement; said = c.in-Some-2.said } in
+    let said : answer_in schema answer ≡ Some c.in-Some-2.said = search rules in
+    let same = ap (λ (xs : List Traced). length xs) c.in_ok-statement.ensures.entries in
+    let at : length ts ≡ c.len.result = omega (arith, same) in
+    let next = subst (λ (n : ℕ). IsSaid schema (ts ++ t ∷ []) answer n) at (said_next schema ts t answer said) in
+    let kept = subst (λ (ps : List (Option Seen)). AreSaid schema (ts ++ t ∷ []) ps) (sym c.in_ok-statement.ensures.answers) (still_said schema ts t c.args.so_far.now.answers.places c.requires.said) in
+    c.note.ensures schema (ts ++ t ∷ []) kept next

@@ -1,4 +1,4 @@
-use Rattle.std.proofs.Common.{◌≡◌, ◌∙◌, ◌+◌, ◌++◌, List, ℕ, Option, Some, ap, append_assoc, arith, length, refl, subst, sym}
+use Rattle.std.proofs.Common.{◌≡◌, ◌∙◌, ◌+◌, ◌++◌, [], List, ℕ, Option, Some, ap, append_assoc, arith, length, refl, subst, sym}
 use Rattle.std.specs.List.{list_all}
 use Rattle.dbtg_schema.specs.Lookups.{first}
 use Rattle.dbtg_script.specs.Lines.{lines, trimmed}
@@ -16,7 +16,7 @@ pub returns-in-Err-clause-refused : goal.returns-in-Err-clause-refused
 returns-in-Err-clause-refused c =
     let schema = c.args.schema.now in
     let units = c.args.units in
-    let n = length c.loop-line.entries.items in
+    let n = length c.loop-line.so_far.entries.items in
     let number = c.loop-line.number in
     let line = c.in-Some.line.now in
     let after = lines c.next.new.self.rest.now in
@@ -42,13 +42,14 @@ returns-then-text-gt-BYTES-clause-at_once c = λ f wrong. long_told c.args.schem
 
 pub loop-line-init : goal.loop-line-init
 loop-line-init c =
-    let none = c.new-entries.ensures.items in
+    let none = c.new.ensures.items in
     record {
       reached = rw none refl;
       said = rw none refl;
       fitting = λ sound. rw none refl;
       named = rw none refl;
       at_once = λ f wrong. (none, subst (λ (fs : List Fault). first fs ≡ Some f) (short_told c.args.schema.now c.args.units c.args.text.now (omega arith)) wrong);
+      kept = rw none (record { known = c.none.ensures c.args.schema.now []; said = c.none-2.ensures c.args.schema.now [] });
       in_range = omega arith;
     }
 
@@ -56,7 +57,7 @@ pub loop-line-preserved : goal.loop-line-preserved
 loop-line-preserved c =
     let schema = c.args.schema.now in
     let units = c.args.units in
-    let es = c.loop-line.entries.items in
+    let es = c.loop-line.so_far.entries.items in
     let number = c.loop-line.number in
     let line = c.in-Some.line.now in
     let after = lines c.next.new.self.rest.now in
@@ -85,6 +86,7 @@ loop-line-preserved c =
           let told = rw (c.trimmed.ensures, now.0) at c.in_default-take_line.ensures.at_once in
           let b = behind_line schema units number line after f (none_told _ told) left in
           (taken ∙ none_kept schema units number (trimmed line) es b.0 now.0, b.1);
+      kept = c.in_default-take_line.ensures.kept;
       in_range = omega (arith, c.in-Some.ensures.shorter);
     }
 
@@ -92,7 +94,7 @@ pub returns-clause-accepted : goal.returns-clause-accepted
 returns-clause-accepted c =
     let schema = c.args.schema.now in
     short_trace schema c.args.units c.args.text.now (omega arith) ∙ sym c.loop-line.invariant.reached
-    ∙ no_lines schema c.args.units (length c.loop-line.entries.items) c.loop-line.number (lines c.loop-line.left.rest.now) c.in_default.ensures.found
+    ∙ no_lines schema c.args.units (length c.loop-line.so_far.entries.items) c.loop-line.number (lines c.loop-line.left.rest.now) c.in_default.ensures.found
 
 pub returns-clause-at_once : goal.returns-clause-at_once
 returns-clause-at_once c = λ f wrong.

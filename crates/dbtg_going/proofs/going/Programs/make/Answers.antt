@@ -2,7 +2,7 @@ use Rattle.std.proofs.Common.{◌≡◌, ◌<◌, ◌-◌, ◌++◌, [], ◌∷�
 use Rattle.std.proofs.lemmas.Bool.Decides.{nat_tests}
 use Rattle.dbtg_unit.specs.Database.Laws.Replay.{entries_of}
 use Rattle.dbtg_program.specs.declared.going.Due.TheVariants as due
-use Rattle.dbtg_going.specs.Turns.{most}
+use Rattle.dbtg_unit.specs.declared.limits.TheConstants.{MOST_STATEMENTS}
 use Rattle.dbtg_going.specs.Inside.Members.{HaveTurned, IsAt}
 use Rattle.dbtg_going.proofs.Turning.{awaits, entry, history_is, index_at, last_is, on_ok, turn_made, written}
 use Rattle.dbtg_going.proofs.going.Programs.make.Goals as goal
@@ -32,8 +32,8 @@ told-requires-clause-few c =
     let programs = c.args.self.now.list.now in
     let a = awaits schema programs c.args.database.now c.args.members.now c.requires.under_way c.args.unit c.args.statement c.requires.due c.requires.numbered c.requires.within in
     let member_is = index_at c.args.members.now c.args.unit a.member c.index-members-place.result a.member_found in
-    let below : a.member.made < most = grind (arith, nat_tests, a.few) in
-    subst (λ m. m.made < most) (sym member_is) below
+    let below : a.member.made < MOST_STATEMENTS = grind (arith, nat_tests, a.few) in
+    subst (λ m. m.made < MOST_STATEMENTS) (sym member_is) below
 
 pub told-requires-clause-at : goal.told-requires-clause-at
 told-requires-clause-at c =

@@ -1,0 +1,9 @@
+-- What is printed of a history is read back as it is.
+pub mod Grammar
+pub mod Bytes
+pub mod Periods
+pub mod Words
+pub mod Spelled
+pub mod Said
+pub mod Lines
+pub mod Scripts

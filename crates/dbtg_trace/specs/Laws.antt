@@ -1,0 +1,77 @@
+-- The trace that is printed of a history is read back.
+-- lines are those of the entries' statements, n the number of a line.
+use Rattle.std.specs.Prelude.{◌≡◌, ℕ, ◌+◌, ◌≤◌, ◌<◌, true, List, [], ◌∷◌, length, Option, Some, None}
+use Rattle.std.specs.List.{AllByRecursion}
+use Rattle.dbtg_schema.specs.Lists.{Lists}
+use Rattle.dbtg_schema.specs.Lookups.{first}
+use Rattle.dbtg_schema.specs.Named.{IsNamed}
+use Rattle.dbtg_schema.specs.Sound.{IsSound}
+use Rattle.dbtg_schema.specs.Structure.{pictures}
+use Rattle.dbtg_cells.specs.declared.key.DbKey.{DbKey}
+use Rattle.dbtg_cells.specs.declared.key.Value.{Value}
+use Rattle.dbtg_unit.specs.Database.Statements.Codes.{status_code}
+use Rattle.dbtg_unit.specs.Database.Statements.Fits.{values_fit}
+use Rattle.dbtg_unit.specs.declared.unit.Entry.{Entry}
+use Rattle.dbtg_script.specs.Laws.{BeginScripts, HaveScripts, IsKeyOf}
+use Rattle.dbtg_script.specs.StatementFaults.{line_faults, refusal as script_refusal}
+use Rattle.dbtg_script.specs.Statements.{line_statement}
+use Rattle.dbtg_trace.specs.declared.traced.Traced.{Traced}
+use Rattle.dbtg_trace.specs.Faults.{refusal}
+use Rattle.dbtg_trace.specs.Parts.{is_unit}
+use Rattle.dbtg_trace.specs.Printing.{trace_lines, trace_text}
+use Rattle.dbtg_trace.specs.Traces.{trace}
+
+-- a key of one of the schema's record types
+abbrev pub IsWithin : Lists → DbKey → Type 0
+IsWithin schema k = IsKeyOf schema k × (k.rtype < length schema.types)
+
+-- an answer has a key of the schema, and no items but of its record type; or neither
+abbrev pub IsSayable : Lists → Option DbKey → Option (List Value) → Type 0
+IsSayable schema None items = items ≡ None
+IsSayable schema (Some k) None = IsWithin schema k
+IsSayable schema (Some k) (Some vs) = IsWithin schema k × (values_fit (pictures schema k.rtype) vs ≡ true)
+
+-- the entry is of one of so many units, and the line is one of a script, has no fault and says its statement
+pub record IsLineOf (schema : Lists) (units : ℕ) (line : List ℕ) (e : Entry) : Type 0 where
+  pub unit : is_unit units e.unit ≡ true
+  pub accepted : first (line_faults schema 0 line) ≡ None
+  pub says : line_statement schema line ≡ Some e.statement
+  pub answer : IsSayable schema e.answer.key e.answer.items
+
+-- so is each line of its entry
+abbrev pub AreLinesOf : Lists → ℕ → List (List ℕ) → List Entry → Type 0
+AreLinesOf schema units [] [] = Unit {0}
+AreLinesOf schema units [] (e ∷ es) = ⊥
+AreLinesOf schema units (l ∷ ls) [] = ⊥
+AreLinesOf schema units (l ∷ ls) (e ∷ es) = IsLineOf schema units l e × AreLinesOf schema units ls es
+
+-- an entry, as the line of this number says it in full
+abbrev pub as_said : ℕ → Entry → Traced
+as_said n e = record { line = n; unit = e.unit; statement = e.statement; said = record { status = status_code e.statement e.answer.status; key = e.answer.key; items = e.answer.items } }
+
+-- entries, from line n on
+abbrev pub all_said : ℕ → List Entry → List Traced
+all_said n [] = []
+all_said n (e ∷ es) = as_said n e ∷ all_said (n + 1) es
+
+-- what is printed of so many entries is accepted as a trace, and says each of them in full
+abbrev pub PrintedTraceIsReadBack : Type 0
+PrintedTraceIsReadBack =
+    (schema : Lists) → IsSound schema → IsNamed schema → (units : ℕ) → units ≤ 255 → (lines : List (List ℕ)) (history : List Entry) → AreLinesOf schema units lines history
+    → length history ≤ 524280 → length (trace_lines schema lines history) ≤ 67108864
+    → (refusal schema units (trace_lines schema lines history) ≡ None) × (trace schema units (trace_lines schema lines history) ≡ all_said 1 history)
+
+-- the texts of scripts are accepted; each unit made the beginning of its script, and no other unit made anything; and each answer can be
+-- said in a line
+pub record AreOfScripts (schema : Lists) (texts : List (List ℕ)) (history : List Entry) : Type 0 where
+  pub accepted : AllByRecursion (λ text. script_refusal schema text ≡ None) texts
+  pub begin : BeginScripts schema texts history
+  pub have : HaveScripts texts history
+  pub answers : AllByRecursion (λ e. IsSayable schema e.answer.key e.answer.items) history
+
+-- the same of a history of scripts, as their texts have the statements
+abbrev pub PrintedHistoryIsReadBack : Type 0
+PrintedHistoryIsReadBack =
+    (schema : Lists) → IsSound schema → IsNamed schema → (texts : List (List ℕ)) → length texts ≤ 255 → (history : List Entry) → AreOfScripts schema texts history
+    → length history ≤ 524280 → length (trace_text schema texts history) ≤ 67108864
+    → (refusal schema (length texts) (trace_text schema texts history) ≡ None) × (trace schema (length texts) (trace_text schema texts history) ≡ all_said 1 history)

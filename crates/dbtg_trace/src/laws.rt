@@ -1,0 +1,14 @@
+//! The laws of printed traces, as contracts of functions that do nothing.
+
+ghost use Rattle.dbtg_trace.specs.Laws.{PrintedHistoryIsReadBack, PrintedTraceIsReadBack};
+
+/// What is printed of entries with the lines of their statements is accepted as a trace, and says the unit, the statement and the answer
+/// of each in full.
+pub fn a_printed_trace_is_read_back()
+    ensures { PrintedTraceIsReadBack }
+{}
+
+/// So is what is printed of a history in which each unit makes the beginning of its script, with the lines of the scripts.
+pub fn a_printed_history_is_read_back()
+    ensures { PrintedHistoryIsReadBack }
+{}
