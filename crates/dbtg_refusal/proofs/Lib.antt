@@ -4,4 +4,10 @@ mod FoundInLists
 mod ImageView
 mod SameObstacle
 mod LegalNow
+mod MadeAgain
+mod FirstCauses
+mod RefusedAtOnce
+mod RefusedOnCells
+mod EachRefusal
+mod JustRefusals
 pub mod Rows

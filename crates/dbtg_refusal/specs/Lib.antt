@@ -1,4 +1,5 @@
 pub mod Obstacles
 pub mod Said
 pub mod Sentences
+pub mod Laws
 pub mod Inside

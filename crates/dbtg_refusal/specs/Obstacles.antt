@@ -1,5 +1,5 @@
 -- What stands in the way of a statement that is refused: for each cause the unit, the area, the record type, the set or the record that
--- it is about. The conditions are those of the checks (`Checks`, `Conditions` and `Found` of dbtg_unit); here stands which one they hold of.
+-- it is about. The conditions are those of the checks (`Checks`, `Conditions`, `Found` of dbtg_unit); here it is said for which they hold.
 -- k is a key, s a set, o an owner, t and r record types, a an area, v a sort key, db a database.
 use Rattle.std.specs.Prelude.{ℕ, Bool, not, ◌&&◌, nat_lt, List, Option, Some, None, is_none, is_some, length, map, option_map, option_and_then, if◌then◌else◌}
 use Rattle.std.specs.List.{find}
@@ -61,7 +61,7 @@ current_for (NextDuplicate r) = Some (obstacle.RecordType r)
 current_for (Sorted value s) = Some (obstacle.Set s)
 current_for _ = None
 
--- what has no current; of a STORE the first automatic set
+-- what has no current; for a STORE the first automatic set
 abbrev pub without_current : Lists → Unit → Statement → Option Obstacle
 without_current schema unit (Find form suppress) = current_for form
 without_current schema unit (Store t items suppress) = option_map obstacle.Set (find (λ s. is_none (place_in schema unit s)) (automatic_sets schema t))
@@ -70,7 +70,7 @@ without_current schema unit _ = None
 
 -- WHAT IS STORED
 
--- of records of a type with some CALC items, beside the one that is left out, the first
+-- the first of the records of a type with some CALC items, other than the one that is left out
 abbrev pub Holder : Type 0
 Holder = ℕ → List Value → Option DbKey → Option DbKey
 
@@ -78,7 +78,7 @@ Holder = ℕ → List Value → Option DbKey → Option DbKey
 abbrev pub holder_in : Lists → ℕ → Database → Holder
 holder_in schema capacity db t values left = find (λ x. not (is_left_out left x)) (with_calc schema capacity db t values)
 
--- the first member of o's list of set s with this sort key, beside the one that is left out
+-- the first member of o's list of set s with this sort key, other than the one that is left out
 abbrev pub member_with : Lists → View → ℕ → Owner → Option DbKey → Option Value → Option DbKey
 member_with schema view s o left v =
     find (λ x. not (is_left_out left x) && option_value_eq (key_item schema s x.rtype (view.items x)) v) (view.members s o)
@@ -193,7 +193,7 @@ owning schema view unit =
 
 -- EVERY CAUSE
 
--- what is in the way by what a view answers
+-- what is in the way, by what a view answers
 abbrev pub obstacle_by : Lists → View → Holder → Unit → Statement → Cause → Option Obstacle
 obstacle_by schema view holder unit statement NoCurrentOfRunUnit = Some (obstacle.RunUnit unit.number)
 obstacle_by schema view holder unit statement OtherRecordType = option_map obstacle.Record unit.currency.run_unit

@@ -74,6 +74,6 @@ whereabouts schema thing = []
 abbrev pub sentence : Lists → Cause → Obstacle → List ℕ
 sentence schema why thing = subject schema thing ++ predicate why thing ++ whereabouts schema thing
 
--- what is said of a statement that is refused for this cause; nothing where nothing is in the way
+-- what is said of a statement that is refused for this cause; nothing if nothing is in the way
 abbrev pub refusal_text : Lists → ℕ → Database → Unit → Statement → Cause → List ℕ
 refusal_text schema capacity db unit statement why = unwrap_or (option_map (sentence schema why) (obstacle_of schema capacity db unit statement why)) []

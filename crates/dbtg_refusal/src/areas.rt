@@ -15,7 +15,7 @@ use dbtg_cells::Mode;
 use dbtg_schema::{AreaNo, Schema};
 use dbtg_unit::{Image, Statement, Unit, entry_at, has_area};
 
-/// How a unit has an area open, where it is asked for.
+/// How a unit has an area open, for a question about it.
 #[derive(Clone, Copy)]
 pub(crate) enum Opening {
     /// In whatever mode.
@@ -36,7 +36,7 @@ fn passes(opening: Opening, mode: Option<Mode>) -> bool
     }
 }
 
-// Is it one of the statement's areas, which its unit has open so?
+// Is it one of the statement's areas, and does its unit have it open in this way?
 fn is_opened_so(
     schema: &Schema,
     unit: &Unit,
@@ -56,7 +56,7 @@ fn area_count(schema: &Schema) -> u8
     schema.areas().len() as u8
 }
 
-/// The first of a statement's areas, ascending, that its unit has open so.
+/// The first of a statement's areas, ascending, that its unit has open in this way.
 #[tactic(auto, using(dbtg_unit::proofs::Public::numbers_end))]
 pub(crate) fn area_with(
     schema: &Schema,

@@ -28,7 +28,7 @@ use dbtg_schema::{Schema, SetNo};
 use dbtg_unit::{Cause, Form, Image, Statement, Unit, set_count};
 use std::alloc::{AllocError, Global};
 
-// The current of run-unit of an INSERT, or where it lives the owner in the current of the set.
+// The current of run-unit of an INSERT, or, if it lives, the owner in the current of the set.
 fn deleted_for_insert(schema: &Schema, image: &Image, unit: &Unit, set: SetNo) -> Option<Obstacle>
     ensures { result ≡ deleted_for schema.now (imaged schema.now image.now) unit.now (Insert set) }
 {

@@ -45,7 +45,7 @@ fn same_calc(schema: &Schema, rtype: RecordNo, one: &[Value], two: &[Value]) -> 
     }
 }
 
-// Is the record of a type, and not the one that is left out, and has it the CALC items of these?
+// Is the record of this type, not the one that is left out, and does it have the CALC items of these?
 fn holds(
     schema: &Schema,
     entry: &(DbKey, Row<Value>),
@@ -59,7 +59,7 @@ fn holds(
         && is_other(left_out, &entry.0)
 }
 
-// The first record that has the CALC items of these, beside the one that is left out.
+// The first record that has the CALC items of these, other than the one that is left out.
 fn holder_of(
     schema: &Schema,
     image: &Image,
@@ -76,7 +76,7 @@ fn holder_of(
     None
 }
 
-// Does another record have the CALC items, where their duplicates are not allowed?
+// Does another record have the CALC items, if their duplicates are not allowed?
 fn calc_taken(schema: &Schema, image: &Image, items: &Items<'_>, left_out: &Option<DbKey>) -> bool
     ensures { result ≡ calc_taken schema.now (imaged schema.now image.now) items.now.rtype items.now.values.now left_out.now }
 {
@@ -141,7 +141,7 @@ fn member_beside(
     }
 }
 
-// Is it such a set, in which another member has the sort key?
+// Is this such a set, and does another member have the sort key in it?
 fn is_taken(schema: &Schema, image: &Image, key: &DbKey, items: &[Value], set: SetNo) -> bool
     ensures { result ≡ (refuses_equal (order_of schema.now set) && sort_key_taken schema.now (imaged schema.now image.now) key.now items.now set) }
 {
@@ -161,7 +161,7 @@ fn is_taken_anew(
     is_rekeyed_in(schema, set, key.rtype, changes) && is_taken(schema, image, key, items, set)
 }
 
-// The first set, sorted by an item that is named, in which another member has the sort key.
+// The first set that is sorted by a named item and in which another member has the sort key.
 #[tactic(auto, using(dbtg_unit::proofs::Public::numbers_end))]
 fn taken_set(
     schema: &Schema,
@@ -181,7 +181,7 @@ fn taken_set(
     None
 }
 
-// Does a MODIFY name a CALC item, and has another record the CALC items that this one would have with these values?
+// Does a MODIFY name a CALC item, and does another record have the CALC items that this one would have with these values?
 fn takes_calc(
     schema: &Schema,
     image: &Image,
@@ -232,7 +232,7 @@ fn in_modify(
     }
 }
 
-// The same of the values that it would have after a MODIFY.
+// The same for the values that it would have after a MODIFY.
 fn in_modifying(
     alloc: Global,
     schema: &Schema,

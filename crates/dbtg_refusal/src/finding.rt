@@ -84,7 +84,7 @@ fn set_of(set: Option<SetNo>) -> Option<Obstacle>
     }
 }
 
-/// What has no current that a statement wants.
+/// The thing without a current that a statement wants.
 pub(crate) fn without_current(
     schema: &Schema,
     unit: &Unit,

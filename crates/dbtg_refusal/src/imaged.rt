@@ -7,7 +7,7 @@ use dbtg_cells::{DbKey, Mode, Owner, Value, same_key, same_owner};
 use dbtg_schema::{AreaNo, Row, SetNo};
 use dbtg_unit::Image;
 
-/// Is there a record of this key?
+/// Is there a record with this key?
 pub(crate) fn is_live(image: &Image, key: &DbKey) -> bool
     ensures { result ≡ live_in image.now key.now }
 {
@@ -19,7 +19,7 @@ pub(crate) fn is_live(image: &Image, key: &DbKey) -> bool
     false
 }
 
-/// The items of a record; none where there is no such record.
+/// The items of a record; none if there is no such record.
 pub(crate) fn items_in<'a>(image: &'a Image, key: &DbKey) -> &'a [Value]
     ensures { result.now ≡ items_in image.now key.now }
 {
@@ -31,7 +31,7 @@ pub(crate) fn items_in<'a>(image: &'a Image, key: &DbKey) -> &'a [Value]
     &[]
 }
 
-/// The version of a record; 0 where there is no such record.
+/// The version of a record; 0 if there is no such record.
 pub(crate) fn version_in(image: &Image, key: &DbKey) -> u64
     ensures { result ≡ version_in image.now key.now }
 {
@@ -64,7 +64,7 @@ fn lists_in<'a>(image: &'a Image, set: SetNo) -> &'a [(Owner, Row<DbKey>)]
     }
 }
 
-/// The members of an owner in a set, in order; none where the set has no such occurrence.
+/// The members of an owner in a set, in order; none if the set has no such occurrence.
 pub(crate) fn list_in<'a>(image: &'a Image, set: SetNo, owner: &Owner) -> Option<&'a [DbKey]>
     ensures { option_map (λ l. l.now) result ≡ list_in image.now set owner.now }
 {
@@ -76,7 +76,7 @@ pub(crate) fn list_in<'a>(image: &'a Image, set: SetNo, owner: &Owner) -> Option
     None
 }
 
-/// Whose list of a set has a record.
+/// To whose list of a set a record belongs.
 pub(crate) fn owner_in(image: &Image, set: SetNo, key: &DbKey) -> Option<Owner>
     ensures { result ≡ owner_in image.now set key.now }
 {

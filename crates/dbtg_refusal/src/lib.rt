@@ -6,12 +6,14 @@ mod causes;
 mod duplicates;
 mod finding;
 mod imaged;
+mod laws;
 mod obstacle;
 mod placing;
 mod said;
 mod sentence;
 
 pub use causes::obstacle_of;
+pub use laws::{each_refusal_has_an_obstacle, just_refusals_are_explained};
 pub use obstacle::Obstacle;
-pub use said::said_of;
+pub use said::{said_of, said_of_history};
 pub use sentence::refusal_text;

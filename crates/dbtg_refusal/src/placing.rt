@@ -26,7 +26,7 @@ pub(crate) struct Items<'a> {
     pub(crate) values: &'a [Value],
 }
 
-/// The current of a set; SYSTEM where there is none.
+/// The current of a set; SYSTEM if there is none.
 pub(crate) fn joined_place(schema: &Schema, unit: &Unit, set: SetNo) -> Place
     ensures { result ≡ joined_place schema.now unit.now set }
 {
@@ -41,7 +41,7 @@ pub(crate) fn joined_place(schema: &Schema, unit: &Unit, set: SetNo) -> Place
     }
 }
 
-/// Is the key not the one that is left out?
+/// Is this not the key that is left out?
 pub(crate) fn is_other(left_out: &Option<DbKey>, key: &DbKey) -> bool
     ensures { result ≡ not (is_left_out left_out.now key.now) }
 {
@@ -60,7 +60,7 @@ fn is_zero(value: &Value) -> bool
     }
 }
 
-/// Do two records have the same value of an item each?
+/// Do two records have the same value in an item each?
 pub(crate) fn same_item(one: &[Value], item: ItemNo, two: &[Value], other: ItemNo) -> bool
     ensures { result ≡ value_eq (slice_index_or one.now item (Num 0)) (slice_index_or two.now other (Num 0)) }
 {
@@ -97,7 +97,7 @@ fn same_sort_key(schema: &Schema, set: SetNo, one: &Items<'_>, two: &Items<'_>) 
     }
 }
 
-/// The members of an occurrence; none where there is no such occurrence.
+/// The members of an occurrence; none if there is no such occurrence.
 pub(crate) fn members_in<'a>(image: &'a Image, set: SetNo, owner: &Owner) -> &'a [DbKey]
     ensures { result.now ≡ members_in image.now set owner.now }
 {
@@ -107,7 +107,7 @@ pub(crate) fn members_in<'a>(image: &'a Image, set: SetNo, owner: &Owner) -> &'a
     }
 }
 
-// Is a member not the one that is left out, and has it the sort key of these items?
+// Is this not the member that is left out, and does it have the sort key of these items?
 fn has_same_key(
     schema: &Schema,
     image: &Image,
@@ -125,7 +125,7 @@ fn has_same_key(
     is_other(left_out, member) && same_sort_key(schema, set, &own, items)
 }
 
-/// The first member of an occurrence that has the sort key of these items, beside the one that is left out.
+/// The first member of an occurrence that has the sort key of these items, other than the one that is left out.
 pub(crate) fn member_with(
     schema: &Schema,
     image: &Image,
@@ -144,7 +144,7 @@ pub(crate) fn member_with(
     None
 }
 
-// Is the position lost, where the order goes by it?
+// Is the position lost, and does the order depend on it?
 fn loses_position(order: Order, at: Option<DbKey>, members: &[DbKey]) -> bool
     ensures { result ≡ (uses_position order && is_lost at members.now) }
 {
@@ -167,7 +167,7 @@ pub(crate) fn refuses_equal(order: Order) -> bool
     }
 }
 
-// Has a member the sort key of these items, where the order refuses equal ones?
+// Does a member have the sort key of these items, and does the order refuse equal ones?
 fn takes_twice(schema: &Schema, image: &Image, set: SetNo, owner: &Owner, items: &Items<'_>) -> bool
     ensures { result ≡ (refuses_equal (order_of schema.now set) && is_some (member_with schema.now (imaged schema.now image.now) set owner.now None (key_item schema.now set items.now.rtype items.now.values.now))) }
 {

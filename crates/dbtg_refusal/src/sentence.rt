@@ -41,7 +41,7 @@ fn type_name(schema: &Schema, rtype: RecordNo) -> &[u8]
     }
 }
 
-// A name behind what kind of thing it names.
+// A name after the kind of thing that it names.
 fn push_named(out: &mut Vec<u8>, kind: &[u8], name: &[u8]) -> Result<(), AllocError>
     ensures { OnOk result (out.new.items ≡ out.old.items ++ kind.now ++ name.now) }
 {
@@ -103,7 +103,7 @@ fn predicate(cause: Cause, obstacle: &Obstacle) -> &'static [u8]
     }
 }
 
-// A number behind what is said of it.
+// A number after what is said of it.
 fn push_counted(out: &mut Vec<u8>, said: &[u8], number: u64) -> Result<(), AllocError>
     ensures { OnOk result (out.new.items ≡ out.old.items ++ said.now ++ decimal number) }
 {
@@ -172,7 +172,7 @@ fn push_sentence(
     push_whereabouts(out, schema, obstacle)
 }
 
-// The sentence, where something is in the way.
+// The sentence, if something is in the way.
 fn sentence_of(
     alloc: Global,
     schema: &Schema,

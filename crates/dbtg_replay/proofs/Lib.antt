@@ -1,5 +1,6 @@
 mod ReplaysRead
 mod UnitEntries
+mod CanBeMade
 mod ScriptLength
 mod UnitsOfTurns
 mod SameRun

@@ -13,6 +13,7 @@ use Rattle.dbtg_unit.specs.declared.unit.Unit.{Unit}
 use Rattle.dbtg_unit.specs.Database.State.Image.{Image}
 use Rattle.dbtg_unit.specs.Database.Laws.Replay.{entries_of, opening_state}
 use Rattle.dbtg_unit.proofs.Public.{opening_length}
+use Rattle.dbtg_step.specs.declared.results.Run.{Run}
 use Rattle.dbtg_step.specs.Machine.SequentialDatabase.{unit_at}
 use Rattle.dbtg_step.specs.Machine.Headline.{IsSequential}
 use Rattle.dbtg_step.specs.Core.Turns.{made_turns}
@@ -27,8 +28,9 @@ use Rattle.dbtg_script.proofs.Public.{turns_read_back}
 use Rattle.dbtg_command.specs.declared.order.Order.TheVariants.{Turns}
 use Rattle.dbtg_command.specs.Refusals.{AcceptsTexts, AllAccepted, is_count, schema_in, turns_in}
 use Rattle.dbtg_replay.specs.Ordering.{first_turns}
+use Rattle.dbtg_replay.specs.declared.replay.AnswerForm.{AnswerForm}
 use Rattle.dbtg_replay.specs.declared.replay.AnswerForm.TheVariants.{Plain}
-use Rattle.dbtg_replay.specs.Replaying.{IsReplay, IsShownReplay}
+use Rattle.dbtg_replay.specs.Replaying.{IsReplay, IsShownReplay, shown_text}
 use Rattle.dbtg_replay.proofs.SameRun.{same_text}
 use Rattle.dbtg_replay.proofs.ScriptLength.{few_statements}
 use Rattle.dbtg_replay.proofs.UnitEntries.{AllWithin, Begins, Few, all_made, all_within, total, total_few}
@@ -62,14 +64,17 @@ numbers n (e ∷ es) most within =
     let high : e.unit ≤ 99 = omega (arith, within.1, most) in
     and_from (is_unit_number e.unit) (list_all is_unit_number (map (λ (f : Entry). f.unit) es)) (and_from (nat_le 1 e.unit) (nat_le e.unit 99) (le-leb 1 e.unit low) (le-leb e.unit 99 high)) (numbers n es most within.2)
 
--- the turns behind those of a script that is made first are accepted, and what is printed of the run by them is what the history
--- leads to
-pub made_again_behind : (first : Bool) (text : List ℕ) (scripts : List (List ℕ)) (capacity : ℕ) (history : List Entry) (image : Image) (units : List Unit) (behind turns : List ℕ) → is_count (length scripts) ≡ true
-    → AcceptsTexts text scripts → IsSequential (schema_in text) capacity (map (script (schema_in text)) scripts) history image units
-    → map (λ (e : Entry). e.unit) history ≡ first_turns first (map (script (schema_in text)) scripts) ++ behind → turns ≡ turns_text behind
-    → (turns_refusal turns ≡ None) × ((printed : List ℕ) → IsShownReplay first Plain text scripts (Turns turns) capacity printed → printed ≡ run_text (schema_in text) history image.records image.lists image.next image.usage units)
-made_again_behind first text scripts capacity history image after behind turns right accepted law split are = (ap turns_refusal are ∙ back.0, again)
+-- the turns behind those of a script that is made first are accepted, and what is printed of the run by them is what is shown of a run
+-- with this history, and with the image and the units to which it leads
+pub made_again_behind : (first : Bool) (form : AnswerForm) (text : List ℕ) (scripts : List (List ℕ)) (capacity : ℕ) (made : Run) (behind turns : List ℕ) → is_count (length scripts) ≡ true
+    → AcceptsTexts text scripts → IsSequential (schema_in text) capacity (map (script (schema_in text)) scripts) made.history made.image made.units
+    → map (λ (e : Entry). e.unit) made.history ≡ first_turns first (map (script (schema_in text)) scripts) ++ behind → turns ≡ turns_text behind
+    → (turns_refusal turns ≡ None) × ((printed : List ℕ) → IsShownReplay first form text scripts (Turns turns) capacity printed → printed ≡ shown_text (schema_in text) form scripts made)
+made_again_behind first form text scripts capacity run behind turns right accepted law split are = (ap turns_refusal are ∙ back.0, again)
   where
+    history : List Entry
+    history = run.history
+
     lists : Lists
     lists = schema_in text
 
@@ -116,14 +121,16 @@ made_again_behind first text scripts capacity history image after behind turns r
     says : front ++ turns_in turns ≡ units
     says = ap (λ us. front ++ us) (ap turns_in are ∙ back.1) ∙ sym split
 
-    again : (printed : List ℕ) → IsShownReplay first Plain text scripts (Turns turns) capacity printed → printed ≡ run_text lists history image.records image.lists image.next image.usage after
+    again : (printed : List ℕ) → IsShownReplay first form text scripts (Turns turns) capacity printed → printed ≡ shown_text lists form scripts run
     again printed r =
         let given = r.run.given in
         let same : units ≡ map (λ (e : Entry). e.unit) given.history = sym (r.run.is_run.1.in_turn ∙ ap (made_turns (map length all)) says ∙ made.0) in
-        r.run.is_text ∙ sym (same_text lists capacity all history given.history image given.image after given.units law r.run.is_run.1.sequential same)
+        r.run.is_text ∙ sym (same_text lists capacity all form scripts run given law r.run.is_run.1.sequential same)
 
 -- the same where no script is made first
 pub made_again : (text : List ℕ) (scripts : List (List ℕ)) (capacity : ℕ) (history : List Entry) (image : Image) (units : List Unit) (turns : List ℕ) → is_count (length scripts) ≡ true → AcceptsTexts text scripts
     → IsSequential (schema_in text) capacity (map (script (schema_in text)) scripts) history image units → turns ≡ turns_text (map (λ (e : Entry). e.unit) history)
     → (turns_refusal turns ≡ None) × ((printed : List ℕ) → IsReplay text scripts (Turns turns) capacity printed → printed ≡ run_text (schema_in text) history image.records image.lists image.next image.usage units)
-made_again text scripts capacity history image units turns right accepted law are = made_again_behind false text scripts capacity history image units (map (λ (e : Entry). e.unit) history) turns right accepted law refl are
+made_again text scripts capacity history image units turns right accepted law are =
+    let made : Run = record { results = []; image = image; history = history; units = units } in
+    made_again_behind false Plain text scripts capacity made (map (λ (e : Entry). e.unit) history) turns right accepted law refl are

@@ -39,7 +39,7 @@ module _ (D : SequentialDatabase) (opening : SequentialState D) where
   events_named u named (m ∷ ms) s t e =
       and_from (has_unit_number m) (list_all has_unit_number ms) (ap has_unit_number e.1 ∙ named) (events_named u named ms e.0 t e.3)
 
-  -- the moves of a turn of a unit with so many left
+  -- the moves of a turn of a unit with this many statements left
   left_named : (n : ℕ) → nat_le (suc n) 99 ≡ true → (xs : List D.Statement) (s t : State D) (ms : List Move) → IsTurnOf D opening (suc n) xs s ms t → list_all has_unit_number ms ≡ true
   left_named n small [] s t ms e = ap (list_all has_unit_number) e.0
   left_named n small (x ∷ xs) s t ms e = events_named (suc n) (and_from (nat_le 1 (suc n)) (nat_le (suc n) 99) (le-leb 1 (suc n) (omega arith)) small) ms s t e.0

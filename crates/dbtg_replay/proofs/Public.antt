@@ -3,5 +3,5 @@
 -- the turns of a history in which each unit makes its script are accepted, and `replay` by them prints what the history leads to; the
 -- same of those behind the turns of a script that is made first
 pub use Rattle.dbtg_replay.proofs.MadeAgain.{made_again, made_again_behind}
--- a line without a fault that holds a statement has room behind so many
+-- after this many statements, a line without a fault that holds one has room
 pub use Rattle.dbtg_replay.proofs.ScriptLength.{room_for}

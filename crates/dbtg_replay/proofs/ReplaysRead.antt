@@ -23,7 +23,7 @@ use Rattle.dbtg_command.proofs.Public.{all_accepted, read_texts}
 use Rattle.dbtg_replay.specs.Ordering.{AreFirstMoves, first_turns}
 use Rattle.dbtg_replay.specs.Replaying.{InTurnIs, IsPrinted, IsPrintedRun, ReplaysHeld, RunByTurnsIs, shown_text}
 use Rattle.dbtg_replay.specs.declared.replay.AnswerForm.{AnswerForm}
-use Rattle.dbtg_replay.specs.declared.replay.AnswerForm.TheVariants.{Plain, Echo, Trace}
+use Rattle.dbtg_replay.specs.declared.replay.AnswerForm.TheVariants.{Plain, Echo, Explained, Trace}
 
 -- statements that fit behind scripts that fit
 pub fit_behind : (lists : Lists) (statements : List Statement) (before after : List (List Statement)) → after ≡ before ++ statements ∷ [] → scripts_fit lists before ≡ true → list_all (fits lists) statements ≡ true → scripts_fit lists after ≡ true
@@ -48,6 +48,7 @@ replays holds lists count order first form capacity out right read scripts held 
 same_shown : (lists : Lists) (form : AnswerForm) (texts : List (List ℕ)) (given : Run) (results : List Stepped) → shown_text lists form texts given ≡ shown_text lists form texts (record given { results = results })
 same_shown lists Plain texts given results = refl
 same_shown lists Echo texts given results = refl
+same_shown lists (Explained capacity) texts given results = refl
 same_shown lists Trace texts given results = refl
 
 -- the same of what was read: nothing that says the order, moves, or turns; and the texts that are shown
@@ -62,7 +63,7 @@ module _ (holds : TextPlace → List ℕ → Type 0) (lists : Lists) (count capa
   pub replays_serially : IsPrinted (InTurnIs first lists capacity statements) (shown_text lists form texts) out → ReplaysHeld holds count kind.Serial first form capacity out
   replays_serially run = replays_in Serial tt tt run
 
-  -- all moves are those of the first script, so many, and those that were read
+  -- all moves are those of the first script, as many as it has, and those that were read
   pub replays_moves : (moves before all : List Move) (many : ℕ) → ReadMoves holds moves → AreFirstMoves first lists capacity statements before → all ≡ before ++ moves → many ≡ length before
       → IsPrinted (RunIs lists capacity statements all) (λ given. moves_text (drop many given.results) ++ shown_text lists form texts given) out → ReplaysHeld holds count kind.Moves first form capacity out
   replays_moves moves before all many by are_first all_is many_is run =

@@ -5,29 +5,36 @@ use Rattle.dbtg_unit.specs.declared.moves.Move.{Move}
 use Rattle.dbtg_unit.specs.declared.moves.Stepped.{Stepped}
 use Rattle.dbtg_unit.specs.declared.statement.Statement.{Statement}
 use Rattle.dbtg_unit.specs.declared.unit.Entry.{Entry}
-use Rattle.dbtg_unit.specs.declared.unit.Unit.{Unit}
-use Rattle.dbtg_unit.specs.Database.State.Image.{Image, image_of}
+use Rattle.dbtg_unit.specs.Database.State.Image.{image_of}
 use Rattle.dbtg_unit.specs.Database.Laws.Replay.{opening_state, replay}
 use Rattle.dbtg_unit.proofs.Public.{opening_length}
 use Rattle.dbtg_step.specs.declared.results.Run.{Run}
 use Rattle.dbtg_step.specs.Machine.Headline.{IsSequential, RunIs}
 use Rattle.dbtg_script.specs.Statements.{script}
-use Rattle.dbtg_script.specs.Printing.Texts.{moves_text, run_text}
+use Rattle.dbtg_script.specs.Printing.Texts.{moves_text}
 use Rattle.dbtg_command.specs.declared.order.Order.TheVariants.{Moves, Turns}
 use Rattle.dbtg_replay.specs.Ordering.{StandFor}
 use Rattle.dbtg_command.specs.Refusals.{moves_in, schema_in, turns_in}
-use Rattle.dbtg_replay.specs.Replaying.{IsReplay, MovedIs}
+use Rattle.dbtg_replay.specs.declared.replay.AnswerForm.{AnswerForm}
+use Rattle.dbtg_replay.specs.declared.replay.AnswerForm.TheVariants.{Plain, Echo, Trace}
+use Rattle.dbtg_replay.specs.Replaying.{IsReplay, MovedIs, shown_text}
 use Rattle.dbtg_replay.proofs.UnitEntries.{same_history}
 
-pub same_text : (lists : Lists) (capacity : ℕ) (scripts : List (List Statement)) (es fs : List Entry) (image other : Image) (units others : List Unit)
-    → IsSequential lists capacity scripts es image units → IsSequential lists capacity scripts fs other others → map (λ (e : Entry). e.unit) es ≡ map (λ (e : Entry). e.unit) fs
-    → run_text lists es image.records image.lists image.next image.usage units ≡ run_text lists fs other.records other.lists other.next other.usage others
-same_text lists capacity scripts es fs image other units others a b turns =
+-- what is shown is the same of the same history, image and units
+shown_alike : (lists : Lists) (form : AnswerForm) (texts : List (List ℕ)) (a b : Run) → a.history ≡ b.history → a.image ≡ b.image → a.units ≡ b.units → shown_text lists form texts a ≡ shown_text lists form texts b
+shown_alike lists Plain texts a b h m u = λ i. shown_text lists Plain texts (record a { history = h i; image = m i; units = u i })
+shown_alike lists Echo texts a b h m u = λ i. shown_text lists Echo texts (record a { history = h i; image = m i; units = u i })
+shown_alike lists Trace texts a b h m u = λ i. shown_text lists Trace texts (record a { history = h i; image = m i; units = u i })
+
+pub same_text : (lists : Lists) (capacity : ℕ) (scripts : List (List Statement)) (form : AnswerForm) (texts : List (List ℕ)) (a b : Run)
+    → IsSequential lists capacity scripts a.history a.image a.units → IsSequential lists capacity scripts b.history b.image b.units → map (λ (e : Entry). e.unit) a.history ≡ map (λ (e : Entry). e.unit) b.history
+    → shown_text lists form texts a ≡ shown_text lists form texts b
+same_text lists capacity scripts form texts a b one other turns =
     let before = opening_state lists (length scripts) in
-    let history = same_history lists capacity before scripts es fs (opening_length lists (length scripts)) a.tickets b.tickets a.answers b.answers a.scripts_begin b.scripts_begin turns in
-    let shown : image ≡ other = a.image_is ∙ ap (λ h. image_of lists capacity (replay lists capacity before h).database) history ∙ sym b.image_is in
-    let left : units ≡ others = a.units_are ∙ ap (λ h. (replay lists capacity before h).units) history ∙ sym b.units_are in
-    λ i. run_text lists (history i) (shown i).records (shown i).lists (shown i).next (shown i).usage (left i)
+    let history = same_history lists capacity before scripts a.history b.history (opening_length lists (length scripts)) one.tickets other.tickets one.answers other.answers one.scripts_begin other.scripts_begin turns in
+    let shown = one.image_is ∙ ap (λ h. image_of lists capacity (replay lists capacity before h).database) history ∙ sym other.image_is in
+    let left = one.units_are ∙ ap (λ h. (replay lists capacity before h).units) history ∙ sym other.units_are in
+    shown_alike lists form texts a b history shown left
 
 -- where no script is made first, the run is that of the moves alone
 moved_alone : (lists : Lists) (capacity : ℕ) (scripts : List (List Statement)) (moves : List Move) (given : Run) → MovedIs false lists capacity scripts moves given → RunIs lists capacity scripts moves given
@@ -48,5 +55,5 @@ replayed_same text scripts turns out capacity stand by_moves by_turns one other 
     let moved = moved_alone lists capacity (map (script lists) scripts) (moves_in out) a one.run.is_run in
     let same : map (λ (e : Entry). e.unit) a.history ≡ map (λ (e : Entry). e.unit) b.history =
     ap (map (λ (e : Entry). e.unit)) (moved.history_is ∙ sym stand.1.history_is) ∙ stand.1.in_turn ∙ sym other.run.is_run.1.in_turn in
-    let printed = same_text lists capacity (map (script lists) scripts) a.history b.history a.image b.image a.units b.units moved.sequential other.run.is_run.1.sequential same in
+    let printed = same_text lists capacity (map (script lists) scripts) Plain scripts a b moved.sequential other.run.is_run.1.sequential same in
     (a.results, one.run.is_text ∙ ap (λ xs. moves_text a.results ++ xs) (printed ∙ sym other.run.is_text))

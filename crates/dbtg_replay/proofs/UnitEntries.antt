@@ -20,14 +20,14 @@ use Rattle.dbtg_step.proofs.Public.{entries_same, length_with, set_found}
 
 -- LISTS BY NUMBER
 
-there : {X : Type 0} (xs : List X) (u : ℕ) → 0 < u → u ≤ length xs → (x : X) × (unit_at xs u ≡ Some x)
+pub there : {X : Type 0} (xs : List X) (u : ℕ) → 0 < u → u ≤ length xs → (x : X) × (unit_at xs u ≡ Some x)
 unfolding unit_at
 there xs zero some most = absurd (omega arith)
 there xs (suc n) some most = there_is xs n (omega arith)
 
 -- OF THE UNITS THAT THERE ARE
 
--- each entry is of one of so many units
+-- each entry is of one of this many units
 abbrev pub AllWithin : ℕ → List Entry → Type 0
 AllWithin n [] = ⊤
 AllWithin n (e ∷ es) = (0 < e.unit) × (e.unit ≤ n) × AllWithin n es
@@ -42,7 +42,7 @@ answered_by schema capacity state entry zero e = absurd (cc (e))
 answered_by schema capacity state entry (suc n) e =
     let l = answered_below state.units n (λ unit. effect schema capacity state.database unit entry.statement) entry e in (omega arith, omega (arith, l))
 
-as_many : (state : State) (number : ℕ) (o : Option Outcome) → length (after_outcome state number o).units ≡ length state.units
+pub as_many : (state : State) (number : ℕ) (o : Option Outcome) → length (after_outcome state number o).units ≡ length state.units
 as_many state number None = refl
 as_many state number (Some o) = length-set state.units (number - 1) o.unit
 
@@ -66,7 +66,7 @@ abbrev pub Begins : List (List Statement) → List Entry → Type 0
 Begins scripts es = (u : ℕ) (script : List Statement) → unit_at scripts u ≡ Some script → (left : List Statement) × (map (λ (e : Entry). e.statement) (entries_of u es) ++ left ≡ script)
 
 -- with its first entry a unit makes the first statement of its script, and goes on with the others
-goes_on : (scripts : List (List Statement)) (e : Entry) (es : List Entry) (script : List Statement) → unit_at scripts e.unit ≡ Some script → Begins scripts (e ∷ es)
+pub goes_on : (scripts : List (List Statement)) (e : Entry) (es : List Entry) (script : List Statement) → unit_at scripts e.unit ≡ Some script → Begins scripts (e ∷ es)
     → (rest : List Statement) × (e.statement ∷ rest ≡ script) × Begins (with_unit_at scripts e.unit rest) es
 goes_on scripts e es script at begins = (
   rest,

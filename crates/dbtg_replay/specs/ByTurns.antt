@@ -42,7 +42,7 @@ AreMoreMoves lists capacity scripts turns (fault.StatesOver limit) = ⊥
 AreMoreMoves lists capacity scripts turns fault.ScriptCount = ⊥
 
 -- 1 to 8 scripts, nothing is refused, and the text says the moves for which the turns stand. So `replay` of these moves prints,
--- behind its line of moves, just what `replay` by the turns prints
+-- after its line of moves, just what `replay` by the turns prints
 pub record IsMovesText (text : List ℕ) (scripts : List (List ℕ)) (turns : List ℕ) (capacity : ℕ) (out : List ℕ) : Type 0 where
   pub count : is_count (length scripts) ≡ true
   pub texts : AcceptsTexts text scripts
@@ -56,7 +56,7 @@ abbrev pub MovesHeld : (TextPlace → List ℕ → Type 0) → ℕ → ℕ → L
 MovesHeld holds count capacity out =
     (texts : Texts holds count kind.Turns) × (turns : List ℕ) × (texts.order ≡ Turns turns) × IsMovesText texts.schema texts.scripts turns capacity out
 
--- all texts are held and accepted, and the fault tells that the turns stand for too many moves
+-- all texts are held and accepted, and the fault says that the turns stand for too many moves
 pub record ToldOfMoves (holds : TextPlace → List ℕ → Type 0) (fault : Fault) (count capacity : ℕ) : Type 0 where
   pub lists : Lists
   pub turns : List ℕ
@@ -66,6 +66,6 @@ pub record ToldOfMoves (holds : TextPlace → List ℕ → Type 0) (fault : Faul
   pub turns_too : ReadTurns holds turns
   pub more : AreMoreMoves lists capacity (map (script lists) scripts.texts) turns fault
 
--- what `turns` tells: a fault of a run, or of its moves
+-- what `turns` reports: a fault of a run, or of its moves
 abbrev pub ToldOfTurns : (TextPlace → List ℕ → Type 0) → (TextPlace → Fault → Type 0) → Fault → ℕ → ℕ → Type 0
 ToldOfTurns holds fails fault count capacity = ToldOfRun holds fails fault count kind.Turns ⊎ ToldOfMoves holds fault count capacity

@@ -1,3 +1,4 @@
 pub mod Ordering
+pub mod Explaining
 pub mod Replaying
 pub mod ByTurns

@@ -1,4 +1,4 @@
--- In which order units make their statements: turns, and the moves that they stand for. One script may be made first: it is the last
+-- The order in which units make their statements: turns, and the moves that they stand for. One script may be made first: it is the last
 -- of the scripts, and its unit makes it whole before all others.
 -- lists is the schema that a text says.
 use Rattle.std.specs.Prelude.{ℕ, ◌≡◌, ◌+◌, ◌-◌, ◌++◌, Bool, true, false, List, [], ◌∷◌, length, replicate, slice_get, unwrap_or}
@@ -23,12 +23,12 @@ serial_turns u (script ∷ scripts) = replicate (length script) u ++ serial_turn
 abbrev pub last_of : List (List Statement) → List Statement
 last_of scripts = unwrap_or (slice_get scripts (length scripts - 1)) []
 
--- its unit, the last one, takes a turn for each of its statements; none where no script is made first
+-- its unit, the last one, takes a turn for each of its statements; none if no script is made first
 abbrev pub first_turns : Bool → List (List Statement) → List ℕ
 first_turns false scripts = []
 first_turns true scripts = replicate (length (last_of scripts)) (length scripts)
 
--- the moves for which these turns stand; none where no script is made first
+-- the moves for which these turns stand; none if no script is made first
 abbrev pub AreFirstMoves : Bool → Lists → ℕ → List (List Statement) → List Move → Type 0
 AreFirstMoves false lists capacity scripts moves = moves ≡ []
 AreFirstMoves true lists capacity scripts moves = StandFor lists capacity scripts (first_turns true scripts) moves

@@ -1,17 +1,20 @@
 -- What `replay` prints.
 -- text, scripts, moves and turns are bytes, lists the schema that a text says, given what a run gives; first says whether the last of
 -- the scripts is made before all others.
-use Rattle.std.specs.Prelude.{ℕ, ◌≡◌, ◌++◌, Bool, true, false, List, drop, map, length}
+use Rattle.std.specs.Prelude.{ℕ, ◌≡◌, ◌≤◌, ◌++◌, Bool, true, false, List, [], ⊤, drop, map, length}
 use Rattle.dbtg_schema.specs.Lists.{Lists}
+use Rattle.dbtg_schema.specs.Sound.{IsSound}
 use Rattle.dbtg_unit.specs.declared.statement.Statement.{Statement}
 use Rattle.dbtg_step.specs.declared.results.Run.{Run}
 use Rattle.dbtg_unit.specs.declared.moves.Move.{Move}
 use Rattle.dbtg_step.specs.Machine.Headline.{RunIs}
+use Rattle.dbtg_step.specs.Core.Audit.{MayBeHistory}
 use Rattle.dbtg_step.specs.Core.Serial.{SerialRunIs}
 use Rattle.dbtg_step.specs.Core.Turns.{IsRunByTurns}
 use Rattle.dbtg_script.specs.Printing.Echo.{echoed_run_text}
 use Rattle.dbtg_script.specs.Statements.{script}
 use Rattle.dbtg_script.specs.Printing.Texts.{moves_text, run_text, text_behind}
+use Rattle.dbtg_refusal.specs.Said.{said_of_history}
 use Rattle.dbtg_trace.specs.Printing.{trace_text}
 use Rattle.dbtg_command.specs.declared.order.Order.{Order}
 use Rattle.dbtg_command.specs.declared.order.Order.TheVariants.{Moves, Serial, Turns}
@@ -20,19 +23,19 @@ use Rattle.dbtg_command.specs.declared.place.TextPlace.{TextPlace}
 use Rattle.dbtg_command.specs.Refusals.{AcceptsOrder, AcceptsTexts, is_count, moves_in, schema_in, turns_in}
 use Rattle.dbtg_command.specs.Sources.{Texts}
 use Rattle.dbtg_replay.specs.declared.replay.AnswerForm.{AnswerForm}
-use Rattle.dbtg_replay.specs.declared.replay.AnswerForm.TheVariants.{Plain, Echo, Trace}
+use Rattle.dbtg_replay.specs.declared.replay.AnswerForm.TheVariants.{Plain, Echo, Explained, Trace}
 use Rattle.dbtg_replay.specs.Ordering.{AreFirstMoves, first_turns, serial_turns}
 
 -- the run by these turns, whatever moves they stand for
 abbrev pub RunByTurnsIs : Lists → ℕ → List (List Statement) → List ℕ → Run → Type 0
 RunByTurnsIs lists capacity scripts turns given = (moves : List Move) × IsRunByTurns lists capacity scripts turns moves given
 
--- the run of one script after another; where one is made first, by turns that say so
+-- the run of one script after another; if one is made first, by turns that say so
 abbrev pub InTurnIs : Bool → Lists → ℕ → List (List Statement) → Run → Type 0
 InTurnIs false lists capacity scripts given = SerialRunIs lists capacity scripts given
 InTurnIs true lists capacity scripts given = RunByTurnsIs lists capacity scripts (first_turns true scripts ++ serial_turns 1 scripts) given
 
--- the run of these moves; where one script is made first, of its moves and then these, whose results alone are given
+-- the run of these moves; if one script is made first, of its moves and then these, whose results alone are given
 pub record MovedIs (first : Bool) (lists : Lists) (capacity : ℕ) (scripts : List (List Statement)) (moves : List Move) (given : Run) : Type 0 where
   pub before : List Move
   pub are_first : AreFirstMoves first lists capacity scripts before
@@ -50,25 +53,33 @@ Gives first lists capacity scripts (Turns text) given = RunByTurnsIs lists capac
 abbrev pub given_text : Lists → Run → List ℕ
 given_text lists given = run_text lists given.history given.image.records given.image.lists given.image.next given.image.usage given.units
 
--- the same; or with the statement of each answer beside it, as the scripts' texts have it; or with the trace in place of the answers
+-- the same; or with the statement of each answer beside it, as the scripts' texts have it, and where it is explained with what is said
+-- of each refusal below it; or with the trace in place of the answers
 abbrev pub shown_text : Lists → AnswerForm → List (List ℕ) → Run → List ℕ
 shown_text lists Plain texts given = given_text lists given
-shown_text lists Echo texts given = echoed_run_text lists texts given.history given.image.records given.image.lists given.image.next given.image.usage given.units
+shown_text lists Echo texts given = echoed_run_text lists texts [] given.history given.image.records given.image.lists given.image.next given.image.usage given.units
+shown_text lists (Explained capacity) texts given =
+    echoed_run_text lists texts (said_of_history lists capacity (length given.units) given.history) given.history given.image.records given.image.lists given.image.next given.image.usage given.units
 shown_text lists Trace texts given = text_behind (trace_text lists texts given.history) lists given.image.records given.image.lists given.image.next given.image.usage given.units
 
--- with moves, the line of what they came to stands before it
+-- what is explained is made again, so it has to be what can be made
+abbrev pub CanShow : Lists → AnswerForm → Run → Type 0
+CanShow lists (Explained capacity) given = IsSound lists × (length given.units ≤ 255) × MayBeHistory lists (length given.units) given.history
+CanShow lists form given = ⊤
+
+-- with moves, the line of their results comes before it
 abbrev pub printed : Lists → AnswerForm → List (List ℕ) → Order (List ℕ) → Run → List ℕ
 printed lists form texts Serial given = shown_text lists form texts given
 printed lists form texts (Moves moves) given = moves_text given.results ++ shown_text lists form texts given
 printed lists form texts (Turns turns) given = shown_text lists form texts given
 
--- the text is what such a run gives, as it is printed
+-- the text is the output of such a run, as it is printed
 pub record IsPrinted (Is : Run → Type 0) (print : Run → List ℕ) (out : List ℕ) : Type 0 where
   pub given : Run
   pub is_run : Is given
   pub is_text : out ≡ print given
 
--- the text is what the run of these statements gives, as it is printed
+-- the text is the output of the run of these statements, as it is printed
 abbrev pub IsPrintedRun : Bool → Lists → ℕ → List (List Statement) → AnswerForm → List (List ℕ) → Order (List ℕ) → List ℕ → Type 0
 IsPrintedRun first lists capacity scripts form texts order out = IsPrinted (Gives first lists capacity scripts order) (printed lists form texts order) out
 
@@ -80,7 +91,7 @@ pub record IsShownReplay (first : Bool) (form : AnswerForm) (text : List ℕ) (s
   pub order_too : AcceptsOrder order
   pub run : IsPrintedRun first (schema_in text) capacity (map (script (schema_in text)) scripts) form scripts order out
 
--- the same of the answers alone, where no script is made first
+-- the same for the answers alone, if no script is made first
 abbrev pub IsReplay : List ℕ → List (List ℕ) → Order (List ℕ) → ℕ → List ℕ → Type 0
 IsReplay text scripts order capacity out = IsShownReplay false Plain text scripts order capacity out
 

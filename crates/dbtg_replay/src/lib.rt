@@ -1,13 +1,15 @@
-//! Runs scripts in an order that is told, and says what comes of it: the scripts that a source gives, one after another, by moves or by
-//! turns; and the commands `replay` and `turns`. The shell and the program, which print more of runs, stand on it.
+//! Runs scripts in a given order, and prints the result: the scripts that a source gives, one after another, by moves or by
+//! turns; and the commands `replay` and `turns`. The shell and the program, which print more of runs, use it.
 #![tactic(auto)]
 
+mod explaining;
 mod first;
 mod ordering;
 pub mod replay;
 mod scripts;
 mod turns;
 
+pub use explaining::said_of_run;
 pub use first::refusals_of_first;
 pub use ordering::{
     AllMoves, behind, first_turns, moves_behind_first, moves_of_turns, serial_turns,

@@ -1,4 +1,4 @@
-//! In which order units make their statements: turns, the moves that they stand for, and the script that is made first.
+//! The order in which units make their statements: turns, the moves that they stand for, and the script that is made first.
 ghost use Rattle.std.specs.Prelude.{◌≡◌, ◌≤◌, ◌++◌, IfOk, List, OnOk, drop, length, map, replicate, true};
 ghost use Rattle.dbtg_schema.specs.Sound.{IsSound};
 ghost use Rattle.dbtg_unit.specs.declared.moves.Move.{Move};
@@ -11,7 +11,7 @@ use dbtg_step::run_turns;
 use dbtg_unit::{Entry, Move, Statement};
 use std::alloc::{AllocError, Global};
 
-/// The moves of a run, and how many of them, in front, make the script that is made first.
+/// The moves of a run, and how many of them, at the beginning, make the script that is made first.
 #[derive(Drop)]
 pub struct AllMoves {
     pub moves: Vec<Move>,

@@ -1,4 +1,4 @@
-//! Running scripts, and the text of what comes of it.
+//! Running scripts, and the text of the result.
 ghost use Rattle.std.specs.Prelude.{◌≡◌, ◌++◌, ◌≤◌, IfErr, IfOk, OnOk, true, false, drop, length, map};
 ghost use Rattle.dbtg_schema.specs.Sound.{IsSound};
 ghost use Rattle.dbtg_script.specs.Statements.{script};
@@ -7,26 +7,30 @@ ghost use Rattle.dbtg_step.specs.Machine.Headline.{RunIs};
 ghost use Rattle.dbtg_step.specs.Laws.{scripts_fit};
 ghost use Rattle.dbtg_step.specs.Core.Serial.{SerialRunIs};
 ghost use Rattle.dbtg_command.specs.Refusals.{is_count};
-ghost use Rattle.dbtg_replay.specs.Replaying.{InTurnIs, IsPrinted, ReplaysHeld, RunByTurnsIs, shown_text};
+ghost use Rattle.dbtg_replay.specs.Replaying.{CanShow, InTurnIs, IsPrinted, ReplaysHeld, RunByTurnsIs, shown_text};
 ghost use Rattle.dbtg_command.specs.Sources.{ReadSchema, ReadScripts, ToldOfRun};
 ghost use Rattle.dbtg_command.specs.declared.fault.Fault.TheVariants.{ScriptCount};
+ghost use Rattle.dbtg_replay.specs.declared.replay.AnswerForm.TheVariants.{Explained};
 ghost use Rattle.dbtg_command.specs.declared.order.OrderKind.{OrderKind as Kind};
 
 use crate::ordering::{AllMoves, behind, moves_behind_first, serial_turns, turns_behind_first};
 use crate::scripts::{Scripts, read_scripts_with_texts};
 use dbtg_command::{Fault, OrderKind, Source, read_moves, read_schema, read_turns};
+use dbtg_refusal::said_of_history;
 use dbtg_schema::{Row, Schema};
-use dbtg_script::{moves_text, push_echoed_run, push_run};
+use dbtg_script::{Beside, moves_text, push_echoed_run, push_run};
 use dbtg_step::{Run, run, run_serial, run_turns};
 use dbtg_trace::push_traced_run;
 use dbtg_unit::Statement;
 use std::alloc::{AllocError, Global};
 
-/// What stands in front of the image: the answers, the answers with the statement of each in front, or a trace.
+/// What comes before the image: the answers, the answers with the statement of each before it, or a trace.
 #[derive(Clone, Copy)]
 pub enum AnswerForm {
     Plain,
     Echo,
+    /// An echo of a run of this capacity, and below each refusal what is in its way.
+    Explained(u16),
     Trace,
 }
 
@@ -60,7 +64,27 @@ pub fn schema_for_run<S: Source>(alloc: Global, source: &S) -> Result<Schema, Fa
     read_schema(alloc, source)
 }
 
-/// Appends to a text what stands in front of the image, the image and the units.
+// The echo of a run, and below each refusal what is in its way.
+fn push_explained(
+    alloc: Global,
+    out: &mut Vec<u8>,
+    schema: &Schema,
+    capacity: u16,
+    texts: &[Row<u8>],
+    given: &Run,
+) -> Result<(), AllocError>
+    requires { CanShow schema.now (Explained capacity) given.now }
+    ensures { OnOk result (out.new.items ≡ out.old.items ++ shown_text schema.now (Explained capacity) texts.now given.now) }
+{
+    let history = given.history.as_slice();
+    let units = given.units.as_slice();
+    let said = said_of_history(alloc, schema, capacity, units.len() as u8, history)?;
+    let notes = said.as_slice();
+    let beside = Beside { texts, notes };
+    push_echoed_run(alloc, out, schema, beside, history, &given.image, units)
+}
+
+/// Appends what comes before the image, the image and the units.
 pub fn push_given(
     alloc: Global,
     out: &mut Vec<u8>,
@@ -68,6 +92,7 @@ pub fn push_given(
     shown: Shown,
     given: &Run,
 ) -> Result<(), AllocError>
+    requires { CanShow schema.now shown.form given.now }
     ensures { OnOk result (out.new.items ≡ out.old.items ++ shown_text schema.now shown.entry.form shown.entry.texts.now given.now) }
 {
     let history = given.history.as_slice();
@@ -75,15 +100,13 @@ pub fn push_given(
     let texts = shown.texts;
     match shown.form {
         AnswerForm::Plain => push_run(alloc, out, schema, history, &given.image, units),
-        AnswerForm::Echo => push_echoed_run(
-            alloc,
-            out,
-            schema,
-            texts,
-            history,
-            &given.image,
-            units,
-        ),
+        AnswerForm::Echo => {
+            let beside = Beside { texts, notes: &[] };
+            push_echoed_run(alloc, out, schema, beside, history, &given.image, units)
+        }
+        AnswerForm::Explained(capacity) => {
+            push_explained(alloc, out, schema, capacity, texts, given)
+        }
         AnswerForm::Trace => push_traced_run(
             alloc,
             out,
@@ -96,8 +119,9 @@ pub fn push_given(
     }
 }
 
-// What a run gives, as a text of its own.
+// The output of a run, as a text of its own.
 fn text_of(alloc: Global, schema: &Schema, shown: Shown, given: &Run) -> Result<Vec<u8>, AllocError>
+    requires { CanShow schema.now shown.form given.now }
     ensures { IfOk result (λ out. out.items ≡ shown_text schema.now shown.entry.form shown.entry.texts.now given.now) }
 {
     let mut out = Vec::new(alloc);
@@ -105,7 +129,7 @@ fn text_of(alloc: Global, schema: &Schema, shown: Shown, given: &Run) -> Result<
     Ok(out)
 }
 
-// The same after the line of what the moves came to. That line leaves out the first `before` of them.
+// The same after the line with the results of the moves, which leaves out the first `before` of them.
 fn text_with_moves(
     alloc: Global,
     schema: &Schema,
@@ -113,6 +137,7 @@ fn text_with_moves(
     given: &Run,
     before: usize,
 ) -> Result<Vec<u8>, AllocError>
+    requires { CanShow schema.now shown.form given.now }
     ensures { IfOk result (λ out. out.items ≡ moves_text (drop before given.now.results) ++ shown_text schema.now shown.entry.form shown.entry.texts.now given.now) }
 {
     let mut out = moves_text(alloc, behind(given.results.as_slice(), before))?;
@@ -139,7 +164,7 @@ fn serial_text(
     text
 }
 
-// Makes these moves; the line of what they came to leaves out those that make the first script.
+// Makes these moves; the line with their results leaves out those that make the first script.
 fn moved_text(
     alloc: Global,
     schema: &Schema,
@@ -263,7 +288,7 @@ fn replay_known<S: Source>(
 }
 
 /// What `replay` prints of the schema, the scripts and the moves or turns that a source gives, or the first fault. Without moves and
-/// turns one script runs after the other. Before all others the last script is made, where it is made first.
+/// turns one script runs after the other. The last script is made before all others, if it is made first.
 pub fn replay<S: Source>(
     alloc: Global,
     source: &S,

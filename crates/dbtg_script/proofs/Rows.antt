@@ -1,4 +1,5 @@
--- The worked rows: statements in which a word can be a keyword or a name. It is a keyword where one fits, else a name.
+-- The worked rows: statements in which a word can be a keyword or a name. It is a keyword where one fits, else a name. At the end, notes
+-- below answers.
 -- May use: all definitions, and the law that a line is read with keywords taken.
 -- Promises: each row is a theorem.
 use Rattle.std.proofs.Common.{◌≡◌, false, List, [], ◌∷◌, inl, inr, refl, codes}
@@ -6,6 +7,7 @@ use Rattle.std.proofs.lemmas.Bool.{false≢true}
 use Rattle.dbtg_schema.specs.Texts.Forms.{labelled, Derives}
 use Rattle.dbtg_script.specs.declared.role.Role.{Role}
 use Rattle.dbtg_script.specs.declared.role.Role.TheVariants as role
+use Rattle.dbtg_script.specs.Printing.Echo.{note_line, note_of}
 use Rattle.dbtg_script.specs.Derivations.{Derivation, TakesKeywords}
 use Rattle.dbtg_script.specs.StatementGrammar.{Labelled, currents, fits, statement, suppress}
 use Rattle.dbtg_script.specs.Tokens.{into, onto, plain, tokens}
@@ -65,7 +67,7 @@ a_keyword_where_one_fits = (
   refl,
 )
 
--- STORE SUPPRESS: behind STORE stands the name of a record type, and no keyword fits
+-- STORE SUPPRESS: after STORE stands the name of a record type, and no keyword fits
 
 abbrev named_suppress : List Labelled
 named_suppress = labelled role.Store (plain (codes "STORE")) ∷ labelled role.TypeName (plain (codes "SUPPRESS")) ∷ []
@@ -92,3 +94,14 @@ a_name_where_no_keyword_fits = (
   },
   refl,
 )
+
+-- NOTES BELOW ANSWERS
+
+noted : note_line (note_of ([] ∷ codes "area MAIN is not open" ∷ []) 1) ≡ codes "    area MAIN is not open\n"
+noted = refl
+
+not_noted : note_line (note_of ([] ∷ codes "area MAIN is not open" ∷ []) 0) ≡ []
+not_noted = refl
+
+beyond_the_last_note : note_line (note_of ([] ∷ codes "area MAIN is not open" ∷ []) 2) ≡ []
+beyond_the_last_note = refl

@@ -18,17 +18,17 @@ is_name role.ItemName = true
 is_name role.SuppressSet = true
 is_name _ = false
 
--- behind the words before it, the word can stand in this role: with some words behind it, the form derives them all
+-- after the words before it, the word can have this role: with some words after it, the form derives them all
 abbrev pub CanStand : Form → List Labelled → Role → Token → Type 0
 CanStand form before r t = (behind : List Labelled) × Derives fits form (before ++ labelled r t ∷ behind)
 
--- a word is a name only where it can stand as nothing but a name
+-- a word is a name only if it can be nothing but a name
 abbrev pub TakesKeywords : Form → List Labelled → Type 0
 TakesKeywords form ws =
     (before : List Labelled) (l : Labelled) (behind : List Labelled) (r : Role) → ws ≡ before ++ l ∷ behind → is_name l.role ≡ true → CanStand form before r l.word → is_name r ≡ true
 
 -- a derivation of a line: each text literal is closed; its words, each with a role, are derived by the grammar of statements; a keyword
--- is taken where one can stand
+-- is taken where one can come
 pub record Derivation (line : List ℕ) : Type 0 where
   pub closed : ends_in_text false line ≡ false
   pub words : List Labelled

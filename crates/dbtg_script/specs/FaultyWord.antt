@@ -13,7 +13,7 @@ use Rattle.dbtg_script.specs.StatementFaults.{end_faults, said}
 use Rattle.dbtg_script.specs.StatementGrammar.{fits, Form, Labelled, statement}
 use Rattle.dbtg_script.specs.Tokens.{Token, tokens}
 
--- the word that a fault at this word is about: this one, but of AREA, RECORD or SET the name in front, whose kind it says
+-- the word that a fault at this word is about: this one, but for AREA, RECORD or SET the name before it, whose kind it says
 abbrev pub about : List Labelled → Token → Role → Option Token
 about ws t role.KindArea = first_word role.Name ws
 about ws t role.KindRecord = first_word role.Name ws
@@ -27,13 +27,13 @@ about_end ws cause.NotThere = first_word role.RecordName ws
 about_end ws cause.NotThisWay = None
 about_end ws _ = first_word role.SortedValue ws
 
--- the word that the first fault from here on is about; none where the line ends too early
+-- the word that the first fault from here on is about; none if the line ends too early
 abbrev pub faulty_from : Lists → List Labelled → Form → List Token → Option Token
 faulty_from schema ws wanted [] = if may_end wanted then option_and_then (about_end ws) (first (end_faults schema ws)) else None
 faulty_from schema ws wanted (t ∷ rest) =
     by_start (start_with fits t (starts wanted))
     (λ s. if is_none (first (said schema ws t s.role)) then faulty_from schema (ws ++ labelled s.role t ∷ []) s.rest rest else about ws t s.role) (Some t)
 
--- the word that the first fault of a statement's line is about; none where a text is not closed
+-- the word that the first fault of a statement's line is about; none if a text is not closed
 abbrev pub faulty_word : Lists → List ℕ → Option Token
 faulty_word schema line = if ends_in_text false line then None else faulty_from schema [] statement (tokens false line)

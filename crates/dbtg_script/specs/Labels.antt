@@ -82,12 +82,12 @@ text_of (literal t) = t
 abbrev pub texts : Role → List Labelled → List (List ℕ)
 texts r ws = map (λ w. text_of w.word) (filter (is r) ws)
 
--- the text of the last word with this role, the given one where there is none
+-- the text of the last word with this role; the given one if there is none
 abbrev pub last_text : Role → List ℕ → List Labelled → List ℕ
 last_text r t [] = t
 last_text r t (w ∷ ws) = last_text r (if is r w then text_of w.word else t) ws
 
--- the text of the last word with this role, nothing where there is none
+-- the text of the last word with this role; nothing if there is none
 abbrev pub named : Role → List Labelled → List ℕ
 named r ws = last_text r [] ws
 
@@ -96,7 +96,7 @@ abbrev pub first_word : Role → List Labelled → Option Token
 first_word r [] = None
 first_word r (w ∷ ws) = if is r w then Some w.word else first_word r ws
 
--- the value that is given to the item of this name
+-- the value that is given to the item with this name
 abbrev pub given : List ℕ → List Labelled → Option Token
 given name [] = None
 given name (w ∷ ws) = if is role.ItemName w && bytes_eq name (text_of w.word) then first_word role.Value ws else given name ws

@@ -65,7 +65,7 @@ DerivedLineIsRead =
     → (list_any is_of_grammar (statement_faults schema line) ≡ false) × (is_statement line ≡ true → line_statement schema line ≡ Some (statement_of schema d.words))
     × ((e : Derivation line) → e.words ≡ d.words)
 
--- a script, of which each line that holds a statement has a derivation, has no such fault
+-- a script whose statement lines each have a derivation has no such fault
 abbrev pub DerivedScriptHasNoFaultOfGrammar : Type 0
 DerivedScriptHasNoFaultOfGrammar =
     (schema : Lists) (text : List ℕ) → AllByRecursion (λ l. is_statement (trimmed l) ≡ true → Derivation (trimmed l)) (lines text)
@@ -89,7 +89,7 @@ pub record IsInRange (u : unit.Unit) : Type 0 where
   pub sets : list_all (if_named (λ p. owner_in_range p.owner && if_named key_in_range p.at)) u.currency.sets ≡ true
   pub kept : list_all (λ e. key_in_range e.0 && nat_lt e.1 (2 ^ 64)) u.kept ≡ true
 
--- units of a schema that print the same are the same, their modes aside
+-- units of a schema that print the same are equal, except for their modes
 abbrev pub UnitsPrintDifferently : Type 0
 UnitsPrintDifferently =
     (schema : Lists) → IsSound schema → IsNamed schema → (u v : unit.Unit) → IsUnitOf schema u → IsUnitOf schema v → IsInRange u → IsInRange v
@@ -130,7 +130,7 @@ EchoedLinesSayTheirStatements =
     (schema : Lists) (texts : List (List ℕ)) (history : List Entry) → BeginScripts schema texts history → HaveScripts texts history
     → map (line_statement schema) (lines_beside (map statement_lines texts) [] history) ≡ map (λ e. Some e.statement) history
 
--- a line without a fault behind a script of whole lines: the script is accepted still, and says what it said and the line's statement
+-- a line without a fault after a script of whole lines: the script is accepted still, and says what it said and the line's statement
 abbrev pub LineBehindScriptIsRead : Type 0
 LineBehindScriptIsRead =
     (schema : Lists) (text line : List ℕ) → closes true text ≡ true → length text + length line < SCRIPT_BYTES → script_text.refusal schema text ≡ None

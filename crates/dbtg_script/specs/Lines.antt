@@ -2,7 +2,7 @@
 use Rattle.std.specs.Prelude.{ℕ, Bool, false, not, ◌&&◌, ◌==◌, nat_le, nat_lt, ◌-◌, slice_index, take, List, [], ◌∷◌, filter, length, map, if◌then◌else◌}
 use Rattle.std.specs.List.{list_all}
 
--- the byte goes onto the line that it is in
+-- the byte belongs to the line that it is in
 abbrev pub onto_line : ℕ → List (List ℕ) → List (List ℕ)
 onto_line b [] = (b ∷ []) ∷ []
 onto_line b (l ∷ ls) = (b ∷ l) ∷ ls
@@ -16,7 +16,7 @@ lines (b ∷ bs) = if b == 10 then [] ∷ lines bs else onto_line b (lines bs)
 abbrev pub ends_with : ℕ → List ℕ → Bool
 ends_with c line = nat_lt 0 (length line) && slice_index line (length line - 1) == c
 
--- one c less at the end, if there is one
+-- the line without its last byte, if that is c
 abbrev pub without_last : ℕ → List ℕ → List ℕ
 without_last c line = if ends_with c line then take (length line - 1) line else line
 
@@ -29,7 +29,7 @@ abbrev pub is_comment : List ℕ → Bool
 is_comment [] = false
 is_comment (b ∷ bs) = b == 42
 
--- no comment, and not spaces alone
+-- neither a comment nor only spaces
 abbrev pub is_statement : List ℕ → Bool
 is_statement line = not (is_comment line) && not (list_all (λ b. b == 32) line)
 
@@ -50,7 +50,7 @@ ends_in_text inside (b ∷ bs) = ends_in_text (if b == 34 then not inside else i
 abbrev pub statement_lines : List ℕ → List (List ℕ)
 statement_lines text = filter is_statement (map trimmed (lines text))
 
--- nothing but whole lines: the last byte, if there is one, is a line feed. The flag says so of what stands before
+-- only whole lines: the last byte, if there is one, is a line feed. The flag says whether that holds for what comes before
 abbrev pub closes : Bool → List ℕ → Bool
 closes closed [] = closed
 closes closed (b ∷ bs) = closes (b == 10) bs

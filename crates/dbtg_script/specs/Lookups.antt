@@ -5,35 +5,35 @@ use Rattle.dbtg_schema.specs.Lookups.{first}
 use Rattle.dbtg_schema.specs.Structure.{place_of, item_list, picture_of}
 use Rattle.dbtg_schema.specs.declared.shape.Picture.{Picture}
 
--- the number of the area of this name
+-- the number of the area with this name
 abbrev pub area_named : Lists → List ℕ → Option ℕ
 area_named schema name = place_of name (map (λ a. a.name) schema.areas)
 
--- the number of the record type of this name
+-- the number of the record type with this name
 abbrev pub type_named : Lists → List ℕ → Option ℕ
 type_named schema name = place_of name (map (λ r. r.name) schema.types)
 
--- the number of the set of this name
+-- the number of the set with this name
 abbrev pub set_named : Lists → List ℕ → Option ℕ
 set_named schema name = place_of name (map (λ s. s.name) schema.sets)
 
--- the number of the item of this name in record type r
+-- the number of the item with this name in record type r
 abbrev pub item_named : Lists → ℕ → List ℕ → Option ℕ
 item_named schema r name = place_of name (map (λ i. i.name) (item_list schema r))
 
--- the number of the area of this name, 0 for a name that is not there
+-- the number of the area with this name; 0 for an unknown name
 abbrev pub area_no : Lists → List ℕ → ℕ
 area_no schema name = unwrap_or (area_named schema name) 0
 
--- the same of a record type
+-- the same for a record type
 abbrev pub type_no : Lists → List ℕ → ℕ
 type_no schema name = unwrap_or (type_named schema name) 0
 
--- the same of a set
+-- the same for a set
 abbrev pub set_no : Lists → List ℕ → ℕ
 set_no schema name = unwrap_or (set_named schema name) 0
 
--- the same of an item of record type r
+-- the same for an item of record type r
 abbrev pub item_no : Lists → ℕ → List ℕ → ℕ
 item_no schema r name = unwrap_or (item_named schema r name) 0
 

@@ -39,7 +39,7 @@ abbrev pub times : Option ℕ → ℕ → Option (ℕ × ℕ)
 times None k = None
 times (Some u) k = Some (u, k)
 
--- the unit that the text names, so often as the number says
+-- the unit that the text names, as many times as the number says
 abbrev pub counted : List ℕ → Option ℕ → Option (ℕ × ℕ)
 counted t None = None
 counted t (Some k) = times (plain_number 99 t) k
@@ -64,12 +64,12 @@ steps_of (Some r) = Some (Step r.0, r.1)
 abbrev pub spelled_move : List ℕ → Option (Move × ℕ)
 spelled_move t = if begins_with 81 t then quit_of (plain_number 99 (behind 81 t)) else steps_of (spelled_turn t)
 
--- what a word says, so often as it says it
+-- the entry that a word denotes, repeated as often as its count
 abbrev pub repeated : {A : Type 0} → Option (A × ℕ) → List A
 repeated None = []
 repeated (Some m) = replicate m.1 m.0
 
--- all that words say, one behind the other
+-- all that words say, one after the other
 abbrev pub said : {A : Type 0} → List (Option (A × ℕ)) → List A
 said [] = []
 said (s ∷ ss) = repeated s ++ said ss
@@ -78,17 +78,17 @@ said (s ∷ ss) = repeated s ++ said ss
 abbrev pub moves_of : List (List ℕ) → List Move
 moves_of ws = said (map spelled_move ws)
 
--- how many entries there are with those that a word says
+-- how many entries there are with those of a word
 abbrev pub total_after : {A : Type 0} → ℕ → Option (A × ℕ) → ℕ
 total_after total None = total
 total_after total (Some m) = total + m.1
 
--- what is wrong with a word behind `total` entries: it is of another shape, or it brings the total over 1,000,000
+-- what is wrong with a word after `total` entries: it has another shape, or it brings the total over 1,000,000
 abbrev pub word_faults : {A : Type 0} → ℕ → Option (A × ℕ) → List MovesCause
 word_faults total None = NotAMove ∷ []
 word_faults total (Some m) = if nat_lt MOST_MOVES (total + m.1) then TooManyMoves ∷ [] else []
 
--- every fault of what words say, behind `total` entries. The first word has this number; a fault has its word's number and its cause
+-- every fault of words after `total` entries. The first word has this number; a fault has its word's number and its cause
 abbrev pub faults_from : {A : Type 0} → ℕ → ℕ → List (Option (A × ℕ)) → List (ℕ × MovesCause)
 faults_from total number [] = []
 faults_from total number (s ∷ ss) = map (λ c. (number, c)) (word_faults total s) ++ faults_from (total_after total s) (number + 1) ss
@@ -106,7 +106,7 @@ abbrev pub Refuses : MovesFault → Option (ℕ × MovesCause) → Type 0
 Refuses Memory v = Unit {0}
 Refuses (Refused word cause) v = v ≡ Some (word, cause)
 
--- this is told of a text whose first word is of another shape
+-- a text whose first word has another shape is refused for that, even without memory
 abbrev pub RefusedAtOnce : {A : Type 0} → (List ℕ → Option (A × ℕ)) → List ℕ → Type 0 → Type 0
 RefusedAtOnce spelled text Told = (w : List ℕ) (ws : List (List ℕ)) → words text ≡ w ∷ ws → spelled w ≡ None → Told
 

@@ -1,4 +1,4 @@
--- The refusal, as it is reached from left to right.
+-- The refusal, as the reader reaches it from left to right.
 use Rattle.std.specs.Prelude.{◌≡◌, ℕ, ◌+◌, not, ◌&&◌, nat_le, false, List, [], ◌∷◌, ◌++◌, map, Option, Some, Result, MatchResult, if◌then◌else◌}
 use Rattle.dbtg_schema.specs.Lists.{Lists}
 use Rattle.dbtg_schema.specs.Lookups.{first}
@@ -35,7 +35,7 @@ faults_at_once schema count line =
     when (is_statement line && nat_le MOST_STATEMENTS count) cause.TooMuch ++ when (not (is_allowed line)) cause.LineNotAllowed
     ++ (if is_statement line then when (ends_in_text false line) cause.UnexpectedWord ++ first_word_faults schema (tokens false line) else [])
 
--- the first of these faults is told, and not want of memory
+-- the first of these faults is reported, and not a refusal of memory
 abbrev pub IsToldAtOnce : {A : Type 0} → List Cause → Result A LineFault → Type 0
 IsToldAtOnce causes result = (c : Cause) → first causes ≡ Some c → MatchResult result (λ _. ⊥) (λ e. e ≡ line.Refused c)
 

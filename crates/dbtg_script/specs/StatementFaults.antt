@@ -24,11 +24,11 @@ use Rattle.dbtg_script.specs.Lookups.{area_named, type_named, set_named, item_na
 use Rattle.dbtg_script.specs.Values.{is_of_kind, spelled, up_to}
 use Rattle.dbtg_unit.specs.declared.limits.TheConstants.{MOST_STATEMENTS}
 
--- the fault, where the test holds
+-- the fault, if the test holds
 abbrev pub when : Bool → Cause → List Cause
 when b c = if b then c ∷ [] else []
 
--- the record type that is named, behind GET, STORE and MODIFY or before RECORD
+-- the record type that is named, after GET, STORE and MODIFY or before RECORD
 abbrev pub type_text : List Labelled → List ℕ
 type_text ws = if has role.TypeName ws then named role.TypeName ws else named role.RecordName ws
 
@@ -49,7 +49,7 @@ abbrev pub value_faults : Option Picture → Token → List Cause
 value_faults None t = []
 value_faults (Some p) t = when (not (is_of_kind p t)) cause.OtherKind ++ when (is_none (spelled p t)) cause.TooGreat
 
--- an item that the record type has not, then one that is named twice
+-- an item that the record type does not have, then one that is named twice
 abbrev pub item_faults : Lists → List Labelled → List ℕ → List Cause
 item_faults schema ws name =
     when (is_none (item_named schema (type_in schema ws) name)) cause.UnknownItem ++ when (among name (texts role.ItemName ws)) cause.ItemTwice
@@ -61,12 +61,12 @@ key_faults schema t =
     ++ when (up_to 999999 (number (key_number t)) == 0) cause.OutOfRange
     ++ when (up_to 255 (generation t) == 0) cause.OutOfRange
 
--- the digits behind a minus
+-- the digits after a minus
 abbrev pub without_minus : List ℕ → List ℕ
 without_minus [] = []
 without_minus (b ∷ bs) = if b == 45 then bs else b ∷ bs
 
--- what is wrong with a word that the grammar wants, behind the words ws
+-- what is wrong with a word that the grammar wants, after the words ws
 abbrev pub said : Lists → List Labelled → Token → Role → List Cause
 said schema ws t role.AreaName = when (is_none (area_named schema (text_of t))) cause.UnknownArea
 said schema ws t role.TypeName = when (is_none (type_named schema (text_of t))) cause.UnknownRecordType
@@ -82,7 +82,7 @@ said schema ws t role.Key = key_faults schema (text_of t)
 said schema ws t role.WhichNumber = when (up_to 999999 (number (without_minus (text_of t))) == 0) cause.OutOfRange
 said schema ws t _ = []
 
--- FIND names a record type that is no member of the set, or not of the area
+-- FIND names a record type that is not a member of the set, or not in the area
 abbrev pub is_outside : Lists → List Labelled → Bool
 is_outside schema ws =
     has role.RecordName ws
@@ -106,7 +106,7 @@ is_misused schema ws =
     || (has role.FindSorted ws && not (is_sorted (order_of schema (set_in schema ws))))
     || (has role.FindOwner ws && is_system schema (set_in schema ws))
 
--- the faults of the value that a sort key is to have
+-- the faults of the value given for a sort key
 abbrev pub sorted_faults : Option Picture → Option Token → List Cause
 sorted_faults p None = []
 sorted_faults p (Some t) = value_faults p t
@@ -139,7 +139,7 @@ line_faults schema count line =
     ++ when (not (is_allowed line)) cause.LineNotAllowed
     ++ (if is_statement line then statement_faults schema line else [])
 
--- one more behind a line that holds a statement
+-- one more after a line that holds a statement
 abbrev pub count_after : ℕ → List ℕ → ℕ
 count_after count line = if is_statement line then count + 1 else count
 

@@ -52,7 +52,7 @@ Form = forms.Form Kind Role
 abbrev pub Labelled : Type 0
 Labelled = forms.Labelled Token Role
 
--- this word, which says no more than that it stands there
+-- this word, without any further meaning
 abbrev pub say : List ℕ → Form
 say w = one (key w) role.Plain
 
@@ -68,11 +68,11 @@ currents = either (word (codes "RECORD") role.SuppressTypes) (either (word (code
 abbrev pub suppress : Form
 suppress = say (codes "SUPPRESS") ▹ either (word (codes "ALL") role.SuppressAll) (some currents)
 
--- i = v, and one more where SUPPRESS could stand too
+-- i = v, and another one if SUPPRESS could come there too
 abbrev pub assignment : Form
 assignment = one name role.ItemName ▹ one equals_sign role.Plain ▹ one value role.Value
 
--- one more, which does not begin a SUPPRESS
+-- another one, which does not begin a SUPPRESS
 abbrev pub further : Form
 further = one (other_than (codes "SUPPRESS")) role.ItemName ▹ one equals_sign role.Plain ▹ one value role.Value
 
@@ -96,7 +96,7 @@ opening = word (codes "OPEN") role.Open ▹ say (codes "AREA") ▹ one name role
 abbrev pub closing : Form
 closing = word (codes "CLOSE") role.Close ▹ say (codes "AREA") ▹ one name role.AreaName
 
--- the words behind a name that say its kind
+-- the words after a name that say its kind
 abbrev pub set_word : Form
 set_word = word (codes "SET") role.KindSet
 
@@ -124,7 +124,7 @@ of_type = say (codes "OF") ▹ one name role.RecordName ▹ record_word
 abbrev pub place : Form
 place = say (codes "OF") ▹ one name role.Name ▹ set_or_area
 
--- a place, with members or records of one type alone where it is named
+-- a place, with members or records of one type only, if it is named
 abbrev pub inside : Form
 inside = either place (one name role.RecordName ▹ record_word ▹ place)
 

@@ -41,7 +41,7 @@ mode_of ws =
     else (if has role.Exclusive ws then (if has role.Update ws then mode.ExclusiveUpdate else mode.ExclusiveRetrieval)
     else (if has role.Update ws then mode.Update else mode.Retrieval))
 
--- what a DELETE is to do with members
+-- what a DELETE does with members
 abbrev pub erase_of : List Labelled → Erase
 erase_of ws =
     if has role.Only ws then erase.Only
@@ -49,7 +49,7 @@ erase_of ws =
     else (if has role.All ws then erase.All
     else erase.Plain))
 
--- a bit for each set, the first set's the lowest: 1 where it is suppressed
+-- a bit for each set, the first set's the lowest: 1 if it is suppressed
 abbrev pub set_bits : List Labelled → List SetType → ℕ
 set_bits ws [] = 0
 set_bits ws (set ∷ sets) = (if has role.SuppressAll ws || among set.name (texts role.SuppressSet ws) then 1 else 0) + 2 * set_bits ws sets
@@ -93,11 +93,11 @@ key_of schema t = record { rtype = type_no schema (key_name t); number = up_to 9
 abbrev pub values_of : List Labelled → List Item → List Value
 values_of ws items = map (λ i. value_for i.picture (given i.name ws)) items
 
--- the name of the item of this number of a record type
+-- the name of the item with this number of a record type
 abbrev pub name_at : Lists → ℕ → ℕ → List ℕ
 name_at schema r i = unwrap_or (option_map (λ i. i.name) (slice_get (item_list schema r) i)) []
 
--- the value of the item of this number of a record type
+-- the value of the item with this number of a record type
 abbrev pub calc_value : Lists → ℕ → List Labelled → ℕ → Value
 calc_value schema r ws i = value_for (unwrap_or (picture_of schema r i) (Number 0)) (given (name_at schema r i) ws)
 
@@ -132,7 +132,7 @@ current_of schema ws =
     else (if has role.KindSet ws then form.CurrentOfSet (set_in schema ws)
     else form.CurrentOfArea (area_in schema ws)))
 
--- the value that the sort key is to have
+-- the value given for the sort key
 abbrev pub sorted_value : Lists → List Labelled → Value
 sorted_value schema ws = value_for (unwrap_or (sort_picture schema (set_in schema ws)) (Number 0)) (first_word role.SortedValue ws)
 
@@ -169,7 +169,7 @@ statement_of schema ws = statement_by schema ws (lead ws)
 abbrev pub line_statement : Lists → List ℕ → Option Statement
 line_statement schema line = if is_statement line then Some (statement_of schema (labels fits grammar.statement (tokens false line))) else None
 
--- the statement in front of the others, where there is one
+-- the statement before the others, if there is one
 abbrev pub prepend : Option Statement → List Statement → List Statement
 prepend None ss = ss
 prepend (Some s) ss = s ∷ ss

@@ -9,7 +9,7 @@ pub data Token : Type 0 where
   equals : Token
   literal : List ℕ → Token
 
--- a word of the code, without where it lies in memory
+-- the spec-level view of a word: without its reference
 abbrev pub view : code.Token → Token
 view (Plain t) = plain t.now
 view Equals = equals
@@ -19,7 +19,7 @@ view (Literal t) = literal t.now
 abbrev pub is_letter : ℕ → Bool
 is_letter b = not (b == 32) && not (b == 61) && not (b == 34)
 
--- the byte goes onto the word that follows it directly
+-- the byte belongs to the word that follows it directly
 unfoldable pub onto : ℕ → List ℕ → List Token → List Token
 onto b [] ts = plain (b ∷ []) ∷ ts
 onto b (c ∷ cs) [] = plain (b ∷ []) ∷ []
@@ -27,7 +27,7 @@ onto b (c ∷ cs) (plain t ∷ ts) = if is_letter c then plain (b ∷ t) ∷ ts 
 onto b (c ∷ cs) (equals ∷ ts) = plain (b ∷ []) ∷ equals ∷ ts
 onto b (c ∷ cs) (literal t ∷ ts) = plain (b ∷ []) ∷ literal t ∷ ts
 
--- the byte goes into the literal that is open
+-- the byte belongs to the literal that is open
 unfoldable pub into : ℕ → List Token → List Token
 into b (literal t ∷ ts) = literal (b ∷ t) ∷ ts
 into b (plain t ∷ ts) = plain t ∷ ts

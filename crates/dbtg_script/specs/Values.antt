@@ -7,7 +7,7 @@ use Rattle.dbtg_cells.specs.declared.key.Value.TheVariants.{Num, Text}
 use Rattle.dbtg_script.specs.Tokens.{Token, plain, equals, literal}
 use Rattle.dbtg_script.specs.Printing.Spelling.{number}
 
--- a text, filled with spaces to this length
+-- a text, padded with spaces to this length
 abbrev pub filled : ℕ → List ℕ → List ℕ
 filled n t = t ++ replicate (n - length t) 32
 
@@ -34,10 +34,10 @@ abbrev pub blank : Picture → Value
 blank (Number n) = Num 0
 blank (TextPicture n) = Text (filled n [])
 
--- the value of a picture that a word gives, if there is one
+-- the value that a word gives for a picture, if there is a word
 abbrev pub value_for : Picture → Option Token → Value
 value_for p t = unwrap_or (option_and_then (spelled p) t) (blank p)
 
--- the number, 0 where it is above the greatest that is allowed
+-- the number; 0 if it is above the greatest that is allowed
 abbrev pub up_to : ℕ → ℕ → ℕ
 up_to most n = if nat_le n most then n else 0

@@ -1,4 +1,4 @@
-//! The grammar of statements as an automaton: in each state the words that are wanted.
+//! The grammar of statements as an automaton: each state has the words that may come next.
 
 ghost use Rattle.dbtg_schema.specs.Texts.Forms.{may_end, start_with, starts};
 ghost use Rattle.dbtg_script.specs.Inside.Automaton.{rest_of, view_kind, view_start, view_starts};
@@ -11,7 +11,7 @@ use crate::role::Role;
 use crate::spelling::{is_key, is_number, is_signed};
 use crate::token::Token;
 
-/// What a word that is wanted has to be.
+/// What a word must be to fit the grammar.
 #[derive(Clone, Copy)]
 pub enum Kind {
     /// this very word
@@ -25,7 +25,7 @@ pub enum Kind {
     Value,
 }
 
-/// A word that is wanted, its role, and the state behind it.
+/// A word that the grammar wants, its role, and the state after it.
 #[derive(Clone, Copy)]
 pub struct Start {
     pub kind: Kind,
@@ -88,7 +88,7 @@ pub enum State {
     MoreChanges,
 }
 
-/// A row of the table: the kind of the word, its role, and the state behind it.
+/// A row of the table: the kind of the word, its role, and the state after it.
 macro_rules! start {
     ($kind:ident $(($word:expr))?, $role:ident, $next:ident) => {
         Start {
@@ -100,7 +100,7 @@ macro_rules! start {
 }
 
 impl State {
-    /// The words that are wanted here.
+    /// The words that may come next.
     pub fn wants(self) -> &'static [Start]
         ensures { view_starts result.now ≡ starts (rest_of self) }
     {
@@ -272,7 +272,7 @@ impl Kind {
     }
 }
 
-/// The way in which this word begins what is wanted.
+/// Which of the wanted words this word is, if it is one.
 pub fn follow(state: State, token: Token) -> Option<Start>
     ensures { option_map view_start result ≡ start_with fits (view token.entry) (starts (rest_of state)) }
 {

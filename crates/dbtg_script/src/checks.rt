@@ -75,7 +75,7 @@ pub fn key_fault(schema: &Schema, text: &[u8]) -> Option<Cause>
     }
 }
 
-/// The digits behind a minus.
+/// The digits after a minus.
 pub fn without_minus(text: &[u8]) -> &[u8]
     ensures { result.now ≡ without_minus text.now }
 {
@@ -85,7 +85,7 @@ pub fn without_minus(text: &[u8]) -> &[u8]
     }
 }
 
-/// The first fault at a word that the grammar wants, behind these words, and which names this.
+/// The first fault at a word that the grammar wants, given the words before it and what it names.
 pub fn said(words: &Words, token: Token, role: Role, names: &Named) -> Option<Cause>
     requires { IsNamed words.now.schema words.now.words (labelled role (view token)) names.now }
     ensures { result ≡ first (said words.now.schema words.now.words (view token.entry) role) }
@@ -172,7 +172,7 @@ fn differs_from(words: &Words, calc: Option<&Calc>) -> bool
     }
 }
 
-/// A FIND with other items than those of the CALC clause, or with no CALC clause at all.
+/// A FIND with other items than those of the CALC clause, or without a CALC clause.
 fn has_other_calc(words: &Words) -> bool
     ensures { result ≡ ((has role.FindCalc words.now.words && differs_from (calc_of words.now.schema (type_in words.now.schema words.now.words)) (items_in words.now.schema words.now.words)) || (has role.FindDuplicate words.now.words && is_none (calc_of words.now.schema (type_in words.now.schema words.now.words)))) }
 {
@@ -197,7 +197,7 @@ pub fn is_sorted(order: Order) -> bool
     matches!(order, Order::Sorted { .. })
 }
 
-/// The first fault of the value that a sort key is to have.
+/// The first fault of the value given for a sort key.
 fn sorted_fault(words: &Words) -> Option<Cause>
     ensures { result ≡ first (sorted_faults (sort_picture words.now.schema (set_in words.now.schema words.now.words)) (first_word role.SortedValue words.now.words)) }
 {
@@ -225,7 +225,7 @@ pub fn end_fault(words: &Words) -> Option<Cause>
     sorted_fault(words)
 }
 
-/// The fault that a word is which the grammar does not want.
+/// The fault at a word that the grammar does not want.
 pub fn at_other(words: &Words) -> Cause
     ensures { result ≡ at_other words.now.words }
 {

@@ -1,6 +1,7 @@
-//! Answers with their statements beside them, in two columns.
+//! Answers with their statements beside them, in two columns, and below an answer what is noted of it.
 
-ghost use Rattle.dbtg_script.specs.Printing.Echo.{echo_text, lines_beside, lines_for, padded, rows_text, wider, widened};
+ghost use Rattle.dbtg_script.specs.Printing.Echo.{echo_text, lines_beside, lines_for, note_line, note_of, padded, table_text, wider, widened};
+ghost use Rattle.dbtg_script.specs.Printing.Texts.{answer_text};
 ghost use Rattle.dbtg_script.specs.Lines.{statement_lines};
 ghost use Rattle.std.specs.Prelude.{◌≡◌, ◌++◌, ◌<◌, ℕ, [], IfOk, OnOk, length, map, slice_get, slice_index, unwrap_or};
 
@@ -13,6 +14,13 @@ use std::alloc::{AllocError, Global};
 
 // A statement with more bytes does not widen the column.
 const WIDEST: usize = 60;
+
+/// What stands with answers: the texts of the scripts, which have the statements, and notes by ticket.
+#[derive(Clone, Copy)]
+pub struct Beside<'a> {
+    pub texts: &'a [Row<u8>],
+    pub notes: &'a [Row<u8>],
+}
 
 /// The lines of a script that hold a statement, trimmed.
 pub fn statement_lines<'a>(alloc: Global, text: &'a [u8]) -> Result<Row<&'a [u8]>, AllocError>
@@ -42,7 +50,7 @@ fn lines_of_scripts<'a>(
     Ok(scripts)
 }
 
-/// The line of this place of a unit's script, nothing where there is none.
+/// The line at this place of a unit's script; nothing if there is none.
 fn line_at<'a>(scripts: &[Row<&'a [u8]>], unit: u8, place: usize) -> &'a [u8]
     ensures { result.now ≡ unwrap_or (slice_get (lines_for (map (map (λ l. l.now)) scripts.now) unit) place) [] }
 {
@@ -56,7 +64,7 @@ fn line_at<'a>(scripts: &[Row<&'a [u8]>], unit: u8, place: usize) -> &'a [u8]
     }
 }
 
-/// How many statements each unit has made, by the unit's number, before the first.
+/// The count of statements that each unit has made, by the unit's number, before the first.
 fn nothing_made() -> [usize; 256]
     ensures none { (u : ℕ) → u < 256 → slice_index result u ≡ 0 }
     ensures len { length result ≡ 256 }
@@ -92,7 +100,7 @@ fn wider(width: usize, line: &[u8]) -> usize
     }
 }
 
-/// As wide as the widest line that the column has room for.
+/// As wide as the widest line for which the column has room.
 fn column(lines: &[&[u8]]) -> usize
     ensures { result ≡ widened 0 (map (λ l. l.now) lines.now) }
 {
@@ -111,21 +119,57 @@ fn push_padded(out: &mut Vec<u8>, width: usize, line: &[u8]) -> Result<(), Alloc
     push_times(out, b' ', 3)
 }
 
-fn push_rows(
+fn note_of(notes: &[Row<u8>], ticket: u64) -> &[u8]
+    ensures { result.now ≡ note_of notes.now ticket }
+{
+    match notes.get(ticket as usize) {
+        Some(note) => note.as_slice(),
+        None => b"",
+    }
+}
+
+fn push_note(out: &mut Vec<u8>, note: &[u8]) -> Result<(), AllocError>
+    ensures { OnOk result (out.new.items ≡ out.old.items ++ note_line note.now) }
+{
+    if note.is_empty() {
+        return Ok(());
+    }
+    out.extend_from_slice(b"    ")?;
+    out.extend_from_slice(note)?;
+    out.extend_from_slice(b"\n")
+}
+
+// The answer of an entry behind its statement, and below it the note of its ticket.
+fn push_row(
     out: &mut Vec<u8>,
     schema: &Schema,
     width: usize,
+    notes: &[Row<u8>],
+    line: &[u8],
+    entry: &Entry,
+) -> Result<(), AllocError>
+    ensures { OnOk result (out.new.items ≡ out.old.items ++ padded width line.now ++ answer_text schema.now entry.now ++ note_line (note_of notes.now entry.now.ticket)) }
+{
+    push_padded(out, width, line)?;
+    push_answer(out, schema, entry)?;
+    push_note(out, note_of(notes, entry.ticket))
+}
+
+fn push_rows(
+    out: &mut Vec<u8>,
+    schema: &Schema,
+    notes: &[Row<u8>],
     lines: &[&[u8]],
     history: &[Entry],
 ) -> Result<(), AllocError>
-    ensures { OnOk result (out.new.items ≡ out.old.items ++ rows_text schema.now width (map (λ l. l.now) lines.now) history.now) }
+    ensures { OnOk result (out.new.items ≡ out.old.items ++ table_text schema.now notes.now (map (λ l. l.now) lines.now) history.now) }
 {
+    let width = column(lines);
     for (i, line) in lines.iter().enumerate() {
         if i >= history.len() {
             return Ok(());
         }
-        push_padded(out, width, *line)?;
-        push_answer(out, schema, &history[i])?;
+        push_row(out, schema, width, notes, *line, &history[i])?;
     }
     Ok(())
 }
@@ -142,23 +186,18 @@ pub fn lines_of_history<'a>(
     lines_beside(alloc, scripts.as_slice(), history)
 }
 
-/// A line for each entry of a history: its statement, as the texts of the scripts have it, and its ticket, unit and answer.
+/// A line for each entry of a history: its statement, as the texts of the scripts have it, and its ticket, unit and answer; below it the
+/// note of its ticket, if there is one.
 pub fn echo_text(
     alloc: Global,
     schema: &Schema,
-    texts: &[Row<u8>],
+    beside: Beside,
     history: &[Entry],
 ) -> Result<Vec<u8>, AllocError>
-    ensures { IfOk result (λ text. text.items ≡ echo_text schema.now texts.now history.now) }
+    ensures { IfOk result (λ text. text.items ≡ echo_text schema.now beside.entry.texts.now beside.entry.notes.now history.now) }
 {
-    let lines = lines_of_history(alloc, texts, history)?;
+    let lines = lines_of_history(alloc, beside.texts, history)?;
     let mut out = Vec::new(alloc);
-    push_rows(
-        &mut out,
-        schema,
-        column(lines.as_slice()),
-        lines.as_slice(),
-        history,
-    )?;
+    push_rows(&mut out, schema, beside.notes, lines.as_slice(), history)?;
     Ok(out)
 }

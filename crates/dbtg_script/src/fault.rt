@@ -13,9 +13,9 @@ use thiserror::Error;
 pub enum Cause {
     /// 1: a byte of the line that is not printable ASCII, or a line of more than 1,000 bytes
     LineNotAllowed,
-    /// 2: the first word is no statement word
+    /// 2: the first word does not begin a statement
     NoStatementWord,
-    /// 3: another word, or the end of the line, where the grammar wants something; an unclosed text
+    /// 3: another word, or the end of the line, where the grammar wants something else; an unclosed text
     UnexpectedWord,
     /// 4: an unknown area
     UnknownArea,
@@ -23,7 +23,7 @@ pub enum Cause {
     UnknownRecordType,
     /// 6: an unknown set
     UnknownSet,
-    /// 7: an item that the record type has not
+    /// 7: an item that the record type does not have
     UnknownItem,
     /// 8: an item named twice
     ItemTwice,
@@ -31,7 +31,7 @@ pub enum Cause {
     OtherKind,
     /// 10: a number above the greatest of its picture or of more than 18 digits, or a longer text
     TooGreat,
-    /// 11: in FIND, a record type that is no member of the set, or not of the area
+    /// 11: in FIND, a record type that is not a member of the set, or not in the area
     NotThere,
     /// 12: a FIND by CALC, by a sort key or of an owner, where the schema has no such thing
     NotThisWay,
@@ -75,10 +75,10 @@ pub struct Fault {
 /// Why no script was read.
 #[derive(Debug, Drop, Error)]
 pub enum ScriptFault {
-    /// The text has a fault; this is its first.
+    /// The first fault of the text.
     #[error("fault {} line {line}", .cause.number())]
     Refused { line: u64, cause: Cause },
-    /// A growth was refused before a fault was met.
+    /// Memory was refused before a fault was met.
     #[error("want of memory")]
     Memory,
 }

@@ -54,7 +54,7 @@ fn faulty_at_end<'a>(words: &Words<'a>, state: State) -> Option<Token<'a>>
     }
 }
 
-/// The way on at a word with no fault; else the word that its fault is about.
+/// How to go on at a word without a fault; otherwise the word that its fault is about.
 fn way_on<'a>(words: &Words<'a>, state: State, token: Token<'a>) -> Result<Start, Option<Token<'a>>>
     ensures { MatchResult result
         (λ start. (start_with fits (view token.entry) (starts (rest_of state)) ≡ Some (view_start start)) × (first (said words.now.schema words.now.words (view token.entry) start.role) ≡ None))
@@ -72,7 +72,7 @@ fn way_on<'a>(words: &Words<'a>, state: State, token: Token<'a>) -> Result<Start
     }
 }
 
-/// One word more, with its role.
+/// Adds a word with its role.
 pub fn push_word<'a>(words: &mut Words<'a>, token: Token<'a>, role: Role) -> Result<(), AllocError>
     ensures { OnOk result (words.new ≡ record { schema = words.old.schema; words = words.old.words ++ labelled role (view token.entry) ∷ [] }) }
 {
@@ -80,7 +80,7 @@ pub fn push_word<'a>(words: &mut Words<'a>, token: Token<'a>, role: Role) -> Res
     words.push(&Labelled { role, token }, &names)
 }
 
-/// The same of a line that was trimmed.
+/// The same for a line that was trimmed.
 fn faulty_in<'a>(
     alloc: Global,
     schema: &'a Schema,
@@ -106,8 +106,8 @@ fn faulty_in<'a>(
     Ok(faulty_at_end(&words, state))
 }
 
-/// The word that the first fault of a statement's line is about; none where the line ends too early, where a text is not closed, and
-/// where the schema has no such way to find a record. What it says of a line without faults is of no use.
+/// The word that the first fault of a statement's line is about; none if the line ends too early, if a text is not closed, or
+/// if the schema has no such way to find a record. What it says of a line without faults is of no use.
 pub fn faulty_word<'a>(
     alloc: Global,
     schema: &'a Schema,

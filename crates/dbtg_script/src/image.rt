@@ -1,4 +1,4 @@
-//! The printed texts: the image of a database, and what the moves of a run came to.
+//! The printed texts: the image of a database, and the result of each move of a run.
 
 ghost use Rattle.dbtg_script.specs.Printing.Texts.{area_text, areas_text, image_text, letter, letters_text, list_text, lists_text, moves_text, next_text, opened_text, record_text, records_text, spaced_number};
 ghost use Rattle.std.specs.List.{flat_map};

@@ -12,7 +12,7 @@ pub struct Seen<'a> {
     pub at: usize,
 }
 
-/// How many lines are kept, each in the place to which its bytes lead.
+/// How many lines are kept, each in the place that its bytes determine.
 const PLACES: usize = 256;
 
 /// The last line of each place.
@@ -56,7 +56,7 @@ impl<'a> LineCache<'a> {
         }
     }
 
-    /// The place of the statement of this line, where the line is kept.
+    /// The place of the statement of this line, if the line is kept.
     pub fn find(&self, line: &[u8]) -> Option<usize>
         ensures { (schema : Lists) (statements : List SaidStatement) → IsKnown schema statements self.now.places → IfSome result (λ at. IsRead schema statements line.now at) }
     {

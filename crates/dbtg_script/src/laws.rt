@@ -1,4 +1,4 @@
-//! Laws of scripts and printed texts, as contracts of functions that do nothing.
+//! Laws of scripts and printed texts, each the contract of a function that does nothing.
 
 ghost use Rattle.dbtg_script.specs.Laws.{DerivedLineIsRead, DerivedScriptHasNoFaultOfGrammar, EchoedLinesSayTheirStatements, LineBehindScriptIsRead, LineWithoutFaultsIsDerived, PrintedKeyIsReadBack, PrintedMovesAreReadBack, PrintedTurnsAreReadBack, UnitsPrintDifferently};
 
@@ -8,18 +8,18 @@ pub fn a_printed_key_is_read_back()
 {}
 
 /// The words of a line without faults are derived by the grammar, with the roles that they are read with: as a name only
-/// where no keyword can stand.
+/// if no keyword can come there.
 pub fn a_line_without_faults_is_derived()
     ensures { LineWithoutFaultsIsDerived }
 {}
 
-/// A line that the grammar derives so has no fault of the grammar, and is read as the statement that these words say.
-/// There is one such derivation alone.
+/// A line that the grammar derives in this way has no fault of the grammar, and is read as the statement that these words say.
+/// There is only one such derivation.
 pub fn a_derived_line_is_read()
     ensures { DerivedLineIsRead }
 {}
 
-/// A script, each statement of which the grammar derives so, has no fault of the grammar.
+/// A script whose statements the grammar all derives in this way has no fault of the grammar.
 pub fn a_derived_script_has_no_fault_of_the_grammar()
     ensures { DerivedScriptHasNoFaultOfGrammar }
 {}
@@ -39,12 +39,12 @@ pub fn a_printed_turns_text_is_read_back()
     ensures { PrintedTurnsAreReadBack }
 {}
 
-/// The line that stands beside an answer says the statement that was answered, where each unit made the beginning of its script.
+/// The line beside an answer says the statement that was answered, if each unit made the beginning of its script.
 pub fn echoed_lines_say_their_statements()
     ensures { EchoedLinesSayTheirStatements }
 {}
 
-/// A line without a fault behind an accepted script of whole lines is read as one statement more.
+/// A line without a fault after an accepted script of whole lines is read as one statement more.
 pub fn a_line_behind_a_script_is_read()
     ensures { LineBehindScriptIsRead }
 {}

@@ -32,7 +32,7 @@ mod word_texts;
 mod words;
 
 pub use checks::key_fault;
-pub use echo::{lines_of_history, statement_lines};
+pub use echo::{Beside, lines_of_history, statement_lines};
 pub use fault::{Cause, LineFault, ScriptFault};
 pub use faulty::faulty_word;
 pub use image::{image_text, moves_text};

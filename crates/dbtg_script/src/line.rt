@@ -4,13 +4,13 @@ ghost use Rattle.dbtg_script.specs.Lines.{ends_in_text, is_allowed, is_comment, 
 ghost use Rattle.std.specs.Prelude.{◌≡◌, ◌==◌, ◌&&◌, ◌<◌, ◌≤◌, ◌∷◌, nat_le, ℕ, [], MatchOption, OnSome, drop, false, length, slice_index};
 ghost use Rattle.std.specs.List.{list_all};
 
-/// What is left of a script.
+/// The rest of a script.
 #[derive(Clone, Copy)]
 pub struct Lines<'a> {
     pub rest: &'a [u8],
 }
 
-/// How many bytes stand before the next line feed, all where there is none.
+/// How many bytes come before the next line feed; all if there is none.
 fn line_len(bytes: &[u8]) -> usize
     ensures in_range { result ≤ length bytes.now }
     ensures inside { (k : ℕ) → k < result → (slice_index bytes.now k ≡ 10 → ⊥) }
@@ -51,7 +51,7 @@ impl<'a> Lines<'a> {
     }
 }
 
-/// The line without its last byte, where that is c.
+/// The line without its last byte, if that is c.
 pub fn without_last(line: &[u8], c: u8) -> &[u8]
     ensures { result.now ≡ without_last c line.now }
 {

@@ -45,7 +45,7 @@ pub fn item_no(schema: &Schema, rtype: RecordNo, name: &[u8]) -> ItemNo
     }
 }
 
-/// The picture of the item of this name.
+/// The picture of the item with this name.
 pub fn item_picture(schema: &Schema, rtype: RecordNo, name: &[u8]) -> Option<Picture>
     ensures { result ≡ item_picture schema.now rtype name.now }
 {
@@ -55,7 +55,7 @@ pub fn item_picture(schema: &Schema, rtype: RecordNo, name: &[u8]) -> Option<Pic
     }
 }
 
-/// The picture of the keys of a set, none where it is not sorted.
+/// The picture of the keys of a set; none if it is not sorted.
 pub fn sort_picture(schema: &Schema, set: SetNo) -> Option<Picture>
     ensures { result ≡ sort_picture schema.now set }
 {
@@ -75,14 +75,14 @@ pub fn sort_picture(schema: &Schema, set: SetNo) -> Option<Picture>
     }
 }
 
-/// The set that stands before SET.
+/// The set that is named before SET.
 pub fn set_in(words: &Words) -> SetNo
     ensures { result ≡ set_in words.now.schema words.now.words }
 {
     set_no(words.schema(), named(words.list(), Role::Name))
 }
 
-/// The area that stands before AREA.
+/// The area that is named before AREA.
 pub fn area_in(words: &Words) -> AreaNo
     ensures { result ≡ area_in words.now.schema words.now.words }
 {

@@ -34,10 +34,10 @@ impl MovesCause {
 /// Why no moves were read.
 #[derive(Debug, Drop, Error)]
 pub enum MovesFault {
-    /// The text has a fault at this word, from 1; it is the first.
+    /// The first fault of the text, which is at this word, from 1.
     #[error("moves fault {} word {word}", .cause.number())]
     Refused { word: u64, cause: MovesCause },
-    /// A growth was refused before a fault was met.
+    /// Memory was refused before a fault was met.
     #[error("want of memory")]
     Memory,
 }
@@ -58,7 +58,7 @@ impl From<AllocError> for MovesFault {
     }
 }
 
-/// What is left of a text of moves, or of turns.
+/// The rest of a text of moves or turns.
 #[derive(Clone, Copy)]
 pub struct Words<'a> {
     pub rest: &'a [u8],
@@ -112,7 +112,7 @@ fn begins_with(text: &[u8], c: u8) -> bool
     }
 }
 
-/// Digits without a leading zero, up to the greatest that is allowed.
+/// Digits without a leading zero, up to the greatest number allowed.
 fn plain_number(text: &[u8], most: u64) -> Option<u64>
     requires { most ≤ MOST_MOVES }
     ensures value { result ≡ plain_number most text.now }
@@ -149,7 +149,7 @@ fn counted(text: &[u8], count: &[u8]) -> Option<(u8, u64)>
     }
 }
 
-/// The unit that a word says, and how often it has a turn.
+/// The unit that a word names, and how often it has a turn.
 pub fn spelled_turn(text: &[u8]) -> Option<(u8, u64)>
     ensures value { result ≡ spelled_turn text.now }
     ensures bound { IfSome result (λ r. r.1 ≤ MOST_MOVES) }
@@ -194,7 +194,7 @@ fn digit(b: u8) -> Option<u8>
     }
 }
 
-/// What a short word says, `u` or `u*k` of one digit each, which most words of moves are; none of all other words.
+/// What a short word says, `u` or `u*k` of one digit each, as most words of moves are; none for all other words.
 fn short_steps(text: &[u8]) -> Option<(Move, u64)>
     ensures value { IfSome result (λ m. spelled_move text.now ≡ Some m) }
     ensures bound { IfSome result (λ m. m.1 ≤ MOST_MOVES) }
@@ -234,7 +234,7 @@ pub fn push_times<T: Copy>(entries: &mut Vec<T>, one: T, count: u64) -> Result<(
     Ok(())
 }
 
-/// Takes what a word says: its entries go behind those before it.
+/// Takes what a word says: its entries are appended.
 pub fn take_word<T: Copy>(
     entries: &mut Vec<T>,
     number: u64,
@@ -264,9 +264,9 @@ pub fn take_word<T: Copy>(
     }
 }
 
-/// Reads moves, at most 1,000,000 of them. The text may hold any bytes. What is refused is refused at its first word
-/// with a fault; `Memory` is the answer where a growth was refused before a fault was met, so never where the first word is
-/// of another shape.
+/// Reads moves, at most 1,000,000 of them. The text may hold any bytes. A text with faults is refused at its first word
+/// with a fault; `Memory` is given if memory was refused before a fault was met, so never if the first word has
+/// another shape.
 pub fn read_moves(alloc: Global, text: &[u8]) -> Result<Vec<Move>, MovesFault>
     ensures accepted { OnOk result (refusal text.now ≡ None) }
     ensures moves { IfOk result (λ v. v.items ≡ moves_of (words text.now)) }

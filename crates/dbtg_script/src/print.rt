@@ -1,4 +1,4 @@
-//! Keys, values, places and lines of printed texts, pushed byte by byte.
+//! Keys, values, places and lines of printed texts, appended byte by byte.
 
 ghost use Rattle.dbtg_script.specs.Printing.Texts.{at_text, current_text, four_digits, generation_text, items_text, key_text, kept_entry, kept_text, mode_text, owner_text, place_text, spaced_key, type_name, value_text};
 ghost use Rattle.std.specs.List.{flat_map};
@@ -40,7 +40,7 @@ fn push_three(out: &mut Vec<u8>, n: u64) -> Result<(), AllocError>
     push_digit(out, n % 10)
 }
 
-/// A number of at most four digits, which most numbers are, without a buffer between.
+/// A number of at most four digits, as most numbers are, without a buffer.
 fn push_four(out: &mut Vec<u8>, n: u64) -> Result<(), AllocError>
     requires { n < 10000 }
     ensures { OnOk result (out.new.items ≡ out.old.items ++ decimal n) }
@@ -75,7 +75,7 @@ pub fn push_status(out: &mut Vec<u8>, status: u16) -> Result<(), AllocError>
     out.extend_from_slice(&digits)
 }
 
-/// The number of a unit and a status, each behind a space. Where the unit has one digit, all are pushed at once.
+/// The number of a unit and a status, each after a space. If the unit has one digit, all are appended at once.
 pub fn push_unit_and_status(out: &mut Vec<u8>, unit: u8, status: u16) -> Result<(), AllocError>
     ensures { OnOk result (out.new.items ≡ out.old.items ++ 32 ∷ decimal unit ++ 32 ∷ four_digits status) }
 {
@@ -117,7 +117,7 @@ fn push_generation(out: &mut Vec<u8>, generation: u8) -> Result<(), AllocError>
     Ok(())
 }
 
-/// The name of the record type, the number, and a generation above the first.
+/// The name of the record type, the number, and the generation if it is above the first.
 pub fn push_key(out: &mut Vec<u8>, schema: &Schema, key: &DbKey) -> Result<(), AllocError>
     ensures { OnOk result (out.new.items ≡ out.old.items ++ key_text schema.now key.now) }
 {
@@ -169,7 +169,7 @@ fn push_item(out: &mut Vec<u8>, name: &[u8], value: &Value) -> Result<(), AllocE
     Ok(())
 }
 
-/// Each value behind the name of its item.
+/// Each value after the name of its item.
 pub fn push_items(out: &mut Vec<u8>, values: &[Value], items: &[Item]) -> Result<(), AllocError>
     ensures { OnOk result (out.new.items ≡ out.old.items ++ items_text values.now items.now) }
 {
@@ -206,7 +206,7 @@ pub fn push_mode(out: &mut Vec<u8>, mode: Mode) -> Result<(), AllocError>
     }
 }
 
-/// A current, a dash for none.
+/// A current; a dash for none.
 pub fn push_current(
     out: &mut Vec<u8>,
     schema: &Schema,
@@ -296,7 +296,7 @@ fn push_kept_entries(
     Ok(())
 }
 
-/// The records that a unit keeps, nothing where it keeps none.
+/// The records that a unit keeps; nothing if it keeps none.
 pub fn push_kept(
     out: &mut Vec<u8>,
     schema: &Schema,

@@ -1,4 +1,4 @@
-//! What the words of a statement say, by their roles.
+//! What the words of a statement say, found by their roles.
 
 ghost use Rattle.dbtg_schema.specs.Texts.Spelling.{among};
 ghost use Rattle.dbtg_script.specs.Labels.{first_word, given, is, last_text, lead, named, text_of, texts};
@@ -42,7 +42,7 @@ pub fn text_of(token: Token<'_>) -> &[u8]
     }
 }
 
-/// Has a word with this role this text?
+/// Does a word with this role have this text?
 pub fn is_named(words: &[Labelled], role: Role, text: &[u8]) -> bool
     ensures { result ≡ among text.now (texts role (views words.now)) }
 {
@@ -70,7 +70,7 @@ pub fn count(words: &[Labelled], role: Role) -> usize
     n
 }
 
-/// The text of the last word with this role, empty where there is none.
+/// The text of the last word with this role; empty if there is none.
 pub fn named<'a>(words: &[Labelled<'a>], role: Role) -> &'a [u8]
     ensures { result.now ≡ named role (views words.now) }
 {
@@ -95,7 +95,7 @@ pub fn first_word<'a>(words: &[Labelled<'a>], role: Role) -> Option<Token<'a>>
     None
 }
 
-/// The value that is given to the item of this name.
+/// The value that is given to the item with this name.
 pub fn given<'a>(words: &[Labelled<'a>], name: &[u8]) -> Option<Token<'a>>
     ensures { option_map view result ≡ given name.now (views words.now) }
 {

@@ -34,7 +34,7 @@ use dbtg_schema::Schema;
 use dbtg_unit::{MOST_STATEMENTS, Statement};
 use std::alloc::{AllocError, Global};
 
-/// Takes the next word: the state behind it, or the fault that the word is.
+/// Takes the next word: gives the state after it, or the fault at it.
 pub fn take<'a>(words: &mut Words<'a>, state: State, token: Token<'a>) -> Result<State, LineFault>
     ensures schema { OnOk result (words.new.schema ≡ words.old.schema) }
     ensures reached { (left : List SeenToken) → MatchResult result
@@ -71,7 +71,7 @@ pub fn end_of(words: &Words, state: State) -> Option<Cause>
     }
 }
 
-/// Reads the words of a line that holds a statement, with their roles; they take the place of those before.
+/// Reads the words of a line that holds a statement, with their roles; they replace the earlier ones.
 fn read_words<'a>(words: &mut Words<'a>, line: &'a [u8]) -> Result<(), LineFault>
     ensures schema { OnOk result (words.new.schema ≡ words.old.schema) }
     ensures accepted { OnOk result (verdict words.old.schema [] statement (tokens false line.now) ≡ None) }
@@ -112,7 +112,7 @@ fn read_statement<'a>(
     }
 }
 
-/// The statement of a line behind `count` statements, if it holds one.
+/// The statement of a line after `count` statements, if it holds one.
 fn read_line<'a>(
     alloc: Global,
     words: &mut Words<'a>,
@@ -139,7 +139,7 @@ fn read_line<'a>(
     Ok(Some(read_statement(alloc, words, line)?))
 }
 
-/// The statement of a line of a usual form, if there is room for it behind `count` statements; of some such lines none.
+/// The statement of a line of a usual form, if there is room for it after `count` statements; none for some such lines.
 fn said_by_form(
     alloc: Global,
     schema: &Schema,
@@ -155,8 +155,8 @@ fn said_by_form(
     usual_statement(alloc, schema, line)
 }
 
-/// The statement of one more line, behind `count` statements of a script; none where the line is a note or blank. Want of memory is
-/// never told of such a line, nor in place of a fault of the line as a whole or of its first word.
+/// The statement of one more line, after `count` statements of a script; none if the line is a note or blank. A refusal of memory is
+/// never reported for such a line, nor in place of a fault of the line as a whole or of its first word.
 pub fn read_script_line(
     alloc: Global,
     schema: &Schema,
@@ -202,7 +202,7 @@ fn said_again(
     }
 }
 
-/// The statement of a line that was read before or is of a usual form, if there is room for one more; of some such lines none.
+/// The statement of a line that was read before or has a usual form, if there is room for one more; none for some such lines.
 fn said_at_once(
     alloc: Global,
     schema: &Schema,
@@ -223,7 +223,7 @@ fn said_at_once(
     }
 }
 
-/// Takes a line that is read anew: its statement goes behind those before it, and the line is kept.
+/// Takes a line that is read anew: its statement is appended, and the line is kept.
 fn take_new_line<'a>(
     alloc: Global,
     words: &mut Words<'a>,
@@ -251,7 +251,7 @@ fn take_new_line<'a>(
     }
 }
 
-/// Takes a line: its statement goes behind those before it.
+/// Takes a line: its statement is appended.
 fn take_line<'a>(
     alloc: Global,
     words: &mut Words<'a>,
@@ -290,8 +290,8 @@ fn at_line(number: u64, fault: LineFault) -> ScriptFault
 }
 
 /// Reads a script of this schema: its statements, one a line, in their order. The text may hold any bytes. A refused text is
-/// refused for its first fault; `Memory` is the answer where a growth was refused before a fault was met. So it is never the
-/// answer to a text that is too long, nor to one with a fault in a line before its first statement, or in the first word of
+/// refused for its first fault; `Memory` is given if memory was refused before a fault was met. So it is never
+/// given for a text that is too long, nor for one with a fault in a line before its first statement, or in the first word of
 /// that statement.
 pub fn read_script(
     alloc: Global,

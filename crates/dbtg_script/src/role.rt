@@ -1,6 +1,6 @@
-//! What the words of a statement are there for.
+//! The roles of the words of a statement.
 
-/// What a word of a statement is there for.
+/// The role of a word of a statement.
 #[derive(Clone, Copy, PartialEq, Eq)]
 pub enum Role {
     Plain,

@@ -17,7 +17,7 @@ use dbtg_schema::Schema;
 use dbtg_unit::Statement;
 use std::alloc::Global;
 
-/// Takes words, one after another; they take the place of those before.
+/// Takes words, one after another; they replace the earlier ones.
 fn take_each<'a>(words: &mut Words<'a>, tokens: &[Token<'a>]) -> Result<(), LineFault>
     ensures schema { OnOk result (words.new.schema ≡ words.old.schema) }
     ensures accepted { OnOk result (verdict words.old.schema [] statement (map view tokens.now) ≡ None) }

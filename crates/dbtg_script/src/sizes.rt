@@ -1,14 +1,14 @@
-//! How large schemas and scripts are, as `check` prints it; and all that a run gives, as `replay` does.
+//! How large schemas and scripts are, as `check` prints it; and the whole output of a run, as `replay` prints it.
 
 ghost use Rattle.dbtg_script.specs.Printing.Echo.{echoed_run_text};
 ghost use Rattle.dbtg_script.specs.Printing.Texts.{count_part, name_part, run_text, schema_line, script_line, text_behind};
 ghost use Rattle.std.specs.Prelude.{◌≡◌, ◌++◌, [], IfOk, OnOk};
 
-use crate::echo::echo_text;
+use crate::echo::{Beside, echo_text};
 use crate::image::image_text;
 use crate::print::push_number;
 use crate::texts::{push_answers, units_text};
-use dbtg_schema::{Row, Schema};
+use dbtg_schema::Schema;
 use dbtg_unit::{Entry, Image, Unit};
 use std::alloc::{AllocError, Global};
 
@@ -27,7 +27,7 @@ fn push_count(out: &mut Vec<u8>, count: usize, word: &[u8]) -> Result<(), AllocE
     out.extend_from_slice(word)
 }
 
-/// A line behind a text: the name of a schema, and how many areas, record types and sets it has.
+/// Appends a line: the name of a schema, and how many areas, record types and sets it has.
 pub fn push_schema_line(out: &mut Vec<u8>, schema: &Schema) -> Result<(), AllocError>
     ensures { OnOk result (out.new.items ≡ out.old.items ++ schema_line schema.now) }
 {
@@ -37,7 +37,7 @@ pub fn push_schema_line(out: &mut Vec<u8>, schema: &Schema) -> Result<(), AllocE
     push_count(out, schema.sets().len(), b" sets\n")
 }
 
-/// A line behind a text: the number of a script, from 1, and how many statements it has.
+/// Appends a line: the number of a script, from 1, and how many statements it has.
 pub fn push_script_line(out: &mut Vec<u8>, number: usize, count: usize) -> Result<(), AllocError>
     ensures { OnOk result (out.new.items ≡ out.old.items ++ script_line number count) }
 {
@@ -46,7 +46,7 @@ pub fn push_script_line(out: &mut Vec<u8>, number: usize, count: usize) -> Resul
     push_count(out, count, b" statements\n")
 }
 
-/// What a run gives behind its answers: a line of two hyphens, the image, the units.
+/// The output of a run after its answers: a line of two hyphens, the image, the units.
 pub fn push_rest(
     alloc: Global,
     out: &mut Vec<u8>,
@@ -61,7 +61,7 @@ pub fn push_rest(
     out.extend_from_slice(units_text(alloc, schema, units)?.as_slice())
 }
 
-/// All that a run gives but its moves: the answers, a line of two hyphens, the image, the units.
+/// The output of a run without its moves: the answers, a line of two hyphens, the image, the units.
 pub fn push_run(
     alloc: Global,
     out: &mut Vec<u8>,
@@ -76,19 +76,19 @@ pub fn push_run(
     push_rest(alloc, out, schema, image, units)
 }
 
-/// The same, with the statement of each answer in front of it, as the texts of the scripts have it.
+/// The same, with the statement of each answer before it, as the texts of the scripts have it, and below it the note of its ticket.
 pub fn push_echoed_run(
     alloc: Global,
     out: &mut Vec<u8>,
     schema: &Schema,
-    texts: &[Row<u8>],
+    beside: Beside,
     history: &[Entry],
     image: &Image,
     units: &[Unit],
 ) -> Result<(), AllocError>
-    ensures { OnOk result (out.new.items ≡ out.old.items ++ echoed_run_text schema.now texts.now history.now image.now.records image.now.lists image.now.next image.now.usage units.now) }
+    ensures { OnOk result (out.new.items ≡ out.old.items ++ echoed_run_text schema.now beside.entry.texts.now beside.entry.notes.now history.now image.now.records image.now.lists image.now.next image.now.usage units.now) }
 {
-    let answers = echo_text(alloc, schema, texts, history)?;
+    let answers = echo_text(alloc, schema, beside, history)?;
     out.extend_from_slice(answers.as_slice())?;
     push_rest(alloc, out, schema, image, units)
 }

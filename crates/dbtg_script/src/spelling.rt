@@ -1,4 +1,4 @@
-//! Numbers and keys, as they are spelled in a statement. It takes no memory.
+//! The spelling of numbers and keys in a statement. It takes no memory.
 
 ghost use Rattle.dbtg_schema.specs.Texts.Spelling.{is_digit};
 ghost use Rattle.dbtg_script.specs.Printing.Spelling.{behind, generation, has_byte, has_generation, in_front, is_key, is_number, is_signed, key_generation, key_name, key_number, number};
@@ -24,7 +24,7 @@ pub fn is_number(text: &[u8]) -> bool
     !text.is_empty() && all_digits(text)
 }
 
-/// The number that the digits spell, and 10 to the 18th for each one above that.
+/// The number that the digits spell; 10 to the 18th for each one above that.
 pub fn number(text: &[u8]) -> u64
     ensures { result ≡ min (number text.now) (10 ^ 18) }
 {
@@ -62,7 +62,7 @@ pub fn is_signed(text: &[u8]) -> bool
     }
 }
 
-/// The bytes in front of the first c, all where there is none.
+/// The bytes before the first c; all if there is none.
 pub fn in_front(text: &[u8], c: u8) -> &[u8]
     ensures { result.now ≡ in_front c text.now }
 {
@@ -74,7 +74,7 @@ pub fn in_front(text: &[u8], c: u8) -> &[u8]
     text
 }
 
-/// The bytes behind the first c, none where there is none.
+/// The bytes after the first c; none if there is none.
 pub fn behind(text: &[u8], c: u8) -> &[u8]
     ensures { result.now ≡ behind c text.now }
 {
@@ -119,7 +119,7 @@ fn has_generation(text: &[u8]) -> bool
     has_byte(behind(text, b':'), b'.')
 }
 
-/// A name, a colon and digits, and it may be a period and digits?
+/// Is this a name, a colon and digits, perhaps followed by a period and digits?
 pub fn is_key(text: &[u8]) -> bool
     ensures { result ≡ is_key text.now }
 {
@@ -136,7 +136,7 @@ pub fn is_key(text: &[u8]) -> bool
     }
 }
 
-/// The generation that a key names, 1 where it names none.
+/// The generation that a key names; 1 if it names none.
 pub fn generation(text: &[u8]) -> u64
     ensures { result ≡ min (generation text.now) (10 ^ 18) }
 {

@@ -85,7 +85,7 @@ fn set_bits(words: &Words, sets: &[SetType]) -> u32
     }
 }
 
-/// The bits of the sets; none is looked at where no word suppresses one.
+/// The bits of the sets; none is looked at if no word suppresses one.
 fn suppressed_sets(words: &Words) -> u16
     ensures { result ≡ set_bits words.now.words words.now.schema.sets }
 {
@@ -116,7 +116,7 @@ fn is_negative(text: &[u8]) -> bool
     }
 }
 
-/// The number that digits spell, or a minus and digits; 0 where it is above 999,999.
+/// The number that digits, or a minus and digits, spell; 0 if it is above 999,999.
 pub fn signed(text: &[u8]) -> i32
     ensures { result ≡ signed text.now }
 {

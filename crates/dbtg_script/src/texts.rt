@@ -35,7 +35,7 @@ fn push_found(
     }
 }
 
-/// What was answered, behind a text: a status, and a key and items where there are any.
+/// Appends what was answered: a status, and a key and items if there are any.
 pub fn push_answered(
     out: &mut Vec<u8>,
     schema: &Schema,
@@ -59,7 +59,7 @@ fn push_answer_front(out: &mut Vec<u8>, schema: &Schema, entry: &Entry) -> Resul
     push_found(out, schema, answer.key, answer.items.as_ref())
 }
 
-/// A line of a history behind a text: the ticket, unit and answer of an entry.
+/// Appends a line of a history: the ticket, unit and answer of an entry.
 pub fn push_answer(out: &mut Vec<u8>, schema: &Schema, entry: &Entry) -> Result<(), AllocError>
     ensures { OnOk result (out.new.items ≡ out.old.items ++ answer_text schema.now entry.now) }
 {
@@ -68,7 +68,7 @@ pub fn push_answer(out: &mut Vec<u8>, schema: &Schema, entry: &Entry) -> Result<
     Ok(())
 }
 
-/// The same line with a name behind the answer.
+/// The same line with a name after the answer.
 pub fn push_named_answer(
     out: &mut Vec<u8>,
     schema: &Schema,
@@ -84,7 +84,7 @@ pub fn push_named_answer(
     Ok(())
 }
 
-/// The lines of a history behind a text. Room for lines of usual length is made at once.
+/// Appends the lines of a history. Room for lines of usual length is made at once.
 pub fn push_answers(out: &mut Vec<u8>, schema: &Schema, history: &[Entry]) -> Result<(), AllocError>
     ensures { OnOk result (out.new.items ≡ out.old.items ++ answers_text schema.now history.now) }
 {
@@ -118,7 +118,7 @@ fn push_unit_front(out: &mut Vec<u8>, schema: &Schema, unit: &Unit) -> Result<()
     Ok(())
 }
 
-/// The line of a unit behind a text: its currents, and what it keeps.
+/// Appends the line of a unit: its currents, and what it keeps.
 pub fn push_unit(out: &mut Vec<u8>, schema: &Schema, unit: &Unit) -> Result<(), AllocError>
     ensures { OnOk result (out.new.items ≡ out.old.items ++ unit_text schema.now unit.now) }
 {

@@ -9,7 +9,7 @@ pub enum Token<'a> {
     Literal(&'a [u8]),
 }
 
-/// What is left of a line.
+/// The rest of a line.
 #[derive(Clone, Copy)]
 pub struct Tokens<'a> {
     pub rest: &'a [u8],
@@ -33,7 +33,7 @@ fn run_len(bytes: &[u8]) -> usize
     n
 }
 
-/// How many bytes stand before the next double quote, all where there is none.
+/// How many bytes come before the next double quote; all if there is none.
 fn literal_len(bytes: &[u8]) -> usize
     ensures in_range { result ≤ length bytes.now }
     ensures inside { (k : ℕ) → k < result → (slice_index bytes.now k ≡ 34 → ⊥) }

@@ -13,10 +13,10 @@ use thiserror::Error;
 /// Why no turns were read.
 #[derive(Debug, Drop, Error)]
 pub enum TurnsFault {
-    /// The text has a fault at this word, from 1; it is the first.
+    /// The first fault of the text, which is at this word, from 1.
     #[error("turns fault {} word {word}", .cause.number())]
     Refused { word: u64, cause: MovesCause },
-    /// A growth was refused before a fault was met.
+    /// Memory was refused before a fault was met.
     #[error("want of memory")]
     Memory,
 }
@@ -32,8 +32,8 @@ impl From<MovesFault> for TurnsFault {
     }
 }
 
-/// Reads turns, at most 1,000,000 of them: the unit of each, in their order. The words are those of a moves file, but
-/// for quits, and are judged as there: a word of another shape is told before a total that is too great. The text may
+/// Reads turns, at most 1,000,000 of them: the unit of each, in their order. The words are those of a moves file, except
+/// quits, and are judged in the same way: a word of another shape is reported before a total that is too great. The text may
 /// hold any bytes.
 pub fn read_turns(alloc: Global, text: &[u8]) -> Result<Row<u8>, TurnsFault>
     ensures accepted { OnOk result (turns_refusal text.now ≡ None) }

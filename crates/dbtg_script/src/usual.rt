@@ -1,4 +1,4 @@
-//! Lines of usual forms, read straight into their statements, without a list of their words. Any other line, and any line with a
+//! Lines of usual forms, read directly into their statements, without a list of their words. Any other line, and any line with a
 //! fault, is left to the reader of all lines.
 
 ghost use Rattle.dbtg_schema.specs.Structure.{calc_of, item_list};
@@ -24,7 +24,7 @@ use dbtg_schema::{Item, ItemNo, RecordNo, Row, Schema, SetNo};
 use dbtg_unit::{Change, Form, MOST_STATEMENTS, Statement, Suppress, Which};
 use std::alloc::{AllocError, Global};
 
-/// The next word, where it is a plain one.
+/// The next word, if it is a plain one.
 fn plain_word<'a>(left: &mut Tokens<'a>) -> Option<&'a [u8]>
     ensures { IfSome result (λ t. tokens false left.old.rest.now ≡ plain t.now ∷ tokens false left.new.rest.now) }
 {
@@ -64,7 +64,7 @@ fn find(form: Form) -> Statement
     )
 }
 
-/// The set of `OF s SET`, where these are the last words.
+/// The set of `OF s SET`, if these are the last words.
 fn of_set(schema: &Schema, left: &mut Tokens) -> Option<SetNo>
     ensures { IfSome result (λ s. IsOfSet schema.now (tokens false left.old.rest.now) s) }
 {
@@ -145,7 +145,7 @@ fn by_sort_key(
     }
 }
 
-/// The item and its value of `i = v`, where these are the last words.
+/// The item and its value of `i = v`, if these are the last words.
 fn only_change(
     alloc: Global,
     schema: &Schema,
@@ -189,7 +189,7 @@ fn calc_type(schema: &Schema, left: &mut Tokens) -> Option<RecordNo>
     schema.rtype(name)
 }
 
-/// The item of a CALC clause, where it has one alone.
+/// The item of a CALC clause, if it has only one.
 fn only_calc_item(schema: &Schema, rtype: RecordNo) -> Option<ItemNo>
     ensures { IfSome result (λ i. calc_items (calc_of schema.now rtype) ≡ i ∷ []) }
 {
@@ -252,7 +252,7 @@ fn usual_find(
     }
 }
 
-/// The word behind `=`, where it can be a value.
+/// The word after `=`, if it can be a value.
 fn value_word<'a>(left: &mut Tokens<'a>) -> Option<Token<'a>>
     ensures words { IfSome result (λ t. tokens false left.old.rest.now ≡ equals ∷ view t ∷ tokens false left.new.rest.now) }
     ensures fitting { IfSome result (λ t. fits value (view t) ≡ true) }
@@ -269,7 +269,7 @@ fn value_word<'a>(left: &mut Tokens<'a>) -> Option<Token<'a>>
     }
 }
 
-/// The value of an item that was named last, by `= v`; none where this is no value of it.
+/// The value of an item that was named last, by `= v`; none if this is not a value of it.
 fn value_behind(alloc: Global, left: &mut Tokens, item: &Item) -> Result<Option<Value>, AllocError>
     ensures { IfOk result (λ found. IfSome found (λ v. IsGiven item.now (plain item.now.name ∷ tokens false left.old.rest.now) (tokens false left.new.rest.now) v)) }
 {
@@ -282,7 +282,7 @@ fn value_behind(alloc: Global, left: &mut Tokens, item: &Item) -> Result<Option<
     }
 }
 
-/// The value of an item, its blank where it is not named next; none where it is, and its value is wrong.
+/// The value of an item; its blank if the item is not named next; none if it is named and its value is wrong.
 fn next_value(alloc: Global, left: &mut Tokens, item: &Item) -> Result<Option<Value>, AllocError>
     ensures { IfOk result (λ found. IfSome found (λ v. IsAssigned item.now (tokens false left.old.rest.now) (tokens false left.new.rest.now) v)) }
 {
@@ -294,7 +294,7 @@ fn next_value(alloc: Global, left: &mut Tokens, item: &Item) -> Result<Option<Va
     value_behind(alloc, left, item)
 }
 
-/// The number of an item of this name, if it is the one that is expected: of equal names the first counts.
+/// The number of an item with this name, if it is the expected one: if names are equal, the first counts.
 fn item_at(schema: &Schema, rtype: RecordNo, name: &[u8], expected: usize) -> Option<ItemNo>
     ensures number { IfSome result (λ n. n ≡ expected) }
     ensures named { IfSome result (λ n. item_named schema.now rtype name.now ≡ Some expected) }
@@ -307,7 +307,7 @@ fn item_at(schema: &Schema, rtype: RecordNo, name: &[u8], expected: usize) -> Op
     }
 }
 
-/// The values of a record of this type, where the words that are left name its items in their order.
+/// The values of a record of this type, if the words that are left name its items in their order.
 fn usual_values(
     alloc: Global,
     schema: &Schema,
@@ -416,7 +416,7 @@ fn by_words(
     }
 }
 
-/// The statement of a line of a usual form without a fault; of some such lines none.
+/// The statement of a line of a usual form without a fault; none for some such lines.
 pub fn usual_statement(
     alloc: Global,
     schema: &Schema,

@@ -53,7 +53,7 @@ pub fn is_spelled(picture: Picture, token: Token) -> bool
     }
 }
 
-/// A text, filled with spaces to this length.
+/// A text, padded with spaces to this length.
 fn filled(alloc: Global, size: u8, text: &[u8]) -> Result<Value, AllocError>
     ensures { IfOk result (λ v. v ≡ Value.Text (filled size text.now)) }
 {
@@ -75,7 +75,7 @@ pub fn blank(alloc: Global, picture: Picture) -> Result<Value, AllocError>
     }
 }
 
-/// The value of a picture that a word gives, 0 or all spaces where there is none.
+/// The value that a word gives for a picture; 0 or all spaces if there is no word.
 pub fn value_for(alloc: Global, picture: Picture, token: Option<Token>) -> Result<Value, AllocError>
     ensures { IfOk result (λ v. v ≡ value_for picture (option_map view token.entry)) }
 {
@@ -94,7 +94,7 @@ fn value_of(alloc: Global, picture: Picture, token: Token) -> Result<Value, Allo
     }
 }
 
-/// The value of a picture that a word spells, if it does.
+/// The value that a word spells for a picture, if it does.
 pub fn spelled(alloc: Global, picture: Picture, token: Token) -> Result<Option<Value>, AllocError>
     ensures { IfOk result (λ v. v ≡ spelled picture (view token.entry)) }
 {
@@ -122,7 +122,7 @@ fn spelled_number(digits: u8, text: &[u8]) -> Option<Value>
     }
 }
 
-/// The number, 0 where it is above the greatest that is allowed.
+/// The number; 0 if it is above the greatest that is allowed.
 pub fn up_to(most: u64, number: u64) -> u64
     ensures value { result ≡ up_to most number }
     ensures bound { result ≤ most }

@@ -1,4 +1,4 @@
-//! What the grammar wants at the word of a line that does not fit.
+//! What the grammar wants in place of the word of a line that does not fit.
 
 ghost use Rattle.dbtg_schema.specs.Texts.Forms.{labelled, labels, left_behind, starts};
 ghost use Rattle.dbtg_script.specs.Inside.Automaton.{rest_of, view_kind};
@@ -39,7 +39,7 @@ fn value_in_words(picture: Option<Picture>) -> &'static str
     }
 }
 
-/// What can stand in one place, where this is the picture of the item that was named last.
+/// What can come in one place, given the picture of the item that was named last.
 fn in_words(picture: Option<Picture>, start: Start) -> &'static str
     ensures { result.now ≡ in_words picture (view_kind start.kind) start.role }
 {
@@ -53,7 +53,7 @@ fn in_words(picture: Option<Picture>, start: Start) -> &'static str
     }
 }
 
-/// The words that can stand in this state.
+/// The words that can come in this state.
 fn starts_in_words(
     alloc: Global,
     picture: Option<Picture>,
@@ -68,7 +68,7 @@ fn starts_in_words(
     Ok(list)
 }
 
-/// What can stand in this state.
+/// What can come in this state.
 fn things(
     alloc: Global,
     picture: Option<Picture>,
@@ -84,7 +84,7 @@ fn things(
     Ok(list)
 }
 
-/// Takes the words of a line that the grammar wants, and says in which state it is behind them.
+/// Takes the words of a line as far as the grammar wants them, and gives the state after them.
 fn stop_in<'a>(words: &mut Words<'a>, line: &'a [u8]) -> Result<State, AllocError>
     ensures words { OnOk result (words.new ≡ record { schema = words.old.schema; words = labels fits statement (tokens false line.now) }) }
     ensures state { IfOk result (λ state. rest_of state ≡ left_behind fits statement (tokens false line.now)) }
@@ -104,7 +104,7 @@ fn stop_in<'a>(words: &mut Words<'a>, line: &'a [u8]) -> Result<State, AllocErro
     Ok(state)
 }
 
-/// What can stand in this state, behind these words.
+/// What can come in this state, after these words.
 fn things_behind(
     alloc: Global,
     words: &Words,
@@ -115,8 +115,8 @@ fn things_behind(
     things(alloc, words.picture(), state)
 }
 
-/// What the grammar wants at the first word of a statement's line that it does not want, or at the line's end: words as they are, other
-/// things in words. A line that is refused for fault 3, and not for a text that is not closed, has its fault there.
+/// What the grammar wants in place of the first word of a statement's line that does not fit, or at the line's end: words as they are,
+/// other things described. A line that is refused for fault 3, but not for a text that is not closed, has its fault there.
 pub fn wanted_in_line<'a>(
     alloc: Global,
     schema: &'a Schema,

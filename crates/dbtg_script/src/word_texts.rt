@@ -41,7 +41,7 @@ fn push_word(out: &mut Vec<u8>, one: Move, count: u64) -> Result<(), AllocError>
     }
 }
 
-/// The words of a move and of those behind it, in one line.
+/// The words of a move and of those after it, in one line.
 fn push_line(out: &mut Vec<u8>, first: Move, rest: &[Move]) -> Result<(), AllocError>
     ensures { OnOk result (out.new.items ≡ out.old.items ++ line_of (run_words (onto_run first (runs rest.now)))) }
 {
@@ -62,9 +62,9 @@ fn push_line(out: &mut Vec<u8>, first: Move, rest: &[Move]) -> Result<(), AllocE
     Ok(())
 }
 
-/// The text of a moves file that says these moves: steps of one unit one behind the other are one word, a space stands
-/// behind each word, and a line feed behind the last. No moves are an empty text. `read_moves` reads moves back from
-/// it, where they are at most 1,000,000, of units from 1 to 99.
+/// The text of a moves file that says these moves: consecutive steps of one unit are one word, each word is followed by a
+/// space, and the last by a line feed. No moves are an empty text. `read_moves` reads the moves back from
+/// it, if they are at most 1,000,000, of units from 1 to 99.
 pub fn moves_words_text(alloc: Global, moves: &[Move]) -> Result<Vec<u8>, AllocError>
     ensures { IfOk result (λ text. text.items ≡ moves_words_text moves.now) }
 {
@@ -81,8 +81,8 @@ fn steps(alloc: Global, units: &[u8]) -> Result<Vec<Move>, AllocError>
     units.iter().map(|unit| Move::Step(*unit)).collect(alloc)
 }
 
-/// The text of a turns file that says these turns, each by its unit: that of a step for each turn. `read_turns` reads
-/// the units back from it, where they are at most 1,000,000, from 1 to 99.
+/// The text of a turns file that says these turns, each by its unit, written as the steps of a moves file. `read_turns` reads
+/// the units back from it, if they are at most 1,000,000, from 1 to 99.
 pub fn turns_text(alloc: Global, units: &[u8]) -> Result<Vec<u8>, AllocError>
     ensures { IfOk result (λ text. text.items ≡ turns_text units.now) }
 {

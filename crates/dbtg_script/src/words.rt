@@ -1,4 +1,4 @@
-//! The words of a line as far as it was read, with what they name.
+//! The words of a line as far as it was read, and what they name.
 
 ghost use Rattle.dbtg_schema.specs.Texts.Forms.{labelled};
 ghost use Rattle.dbtg_script.specs.Labels.{has, is, named, number};
@@ -22,23 +22,23 @@ use std::marker::Model;
 /// More than there are roles.
 const ROLES: usize = 64;
 
-/// What a word names, where its role is to name it.
+/// What a word names, if its role is to name it.
 #[derive(Clone, Copy)]
 pub struct Named {
     pub rtype: Option<RecordNo>,
     pub item: Option<ItemNo>,
 }
 
-/// The words of a line as far as it was read, and the schema whose names they say.
+/// The words of a line as far as it was read, and the schema whose names they use.
 #[derive(Drop)]
 pub struct Words<'a> {
     schema: &'a Schema,
     list: Vec<Labelled<'a>>,
-    /// by its number: has a word this role?
+    /// by its number: does a word have this role?
     roles: [bool; ROLES],
-    /// the record type that is named, where it is known
+    /// the record type that is named, if it is known
     rtype: Option<Option<RecordNo>>,
-    /// the picture of the item that was named last, where it is known
+    /// the picture of the item that was named last, if it is known
     picture: Option<Option<Picture>>,
 }
 
@@ -132,7 +132,7 @@ impl<'a> Words<'a> {
         }
     }
 
-    /// The record type that is named behind GET, STORE and MODIFY, or before RECORD.
+    /// The record type that is named after GET, STORE and MODIFY, or before RECORD.
     pub fn type_in(&self) -> RecordNo
         ensures { result ≡ type_in self.now.schema self.now.words }
     {
@@ -142,7 +142,7 @@ impl<'a> Words<'a> {
         }
     }
 
-    /// The picture of the item that is named last.
+    /// The picture of the item that was named last.
     pub fn picture(&self) -> Option<Picture>
         ensures { result ≡ item_picture self.now.schema (type_in self.now.schema self.now.words) (named role.ItemName self.now.words) }
     {
@@ -176,7 +176,7 @@ impl<'a> Words<'a> {
         }
     }
 
-    /// The record type behind one word more, where it is known.
+    /// The record type after one word more, if it is known.
     fn type_behind(&self, word: &Labelled, names: &Named) -> Option<Option<RecordNo>>
         requires { IsNamed self.now.schema self.now.words (view_labelled word.now) names.now }
         ensures { IfSome result (λ r. r ≡ type_named self.now.schema (type_text (self.now.words ++ view_labelled word.now ∷ []))) }
@@ -194,7 +194,7 @@ impl<'a> Words<'a> {
         }
     }
 
-    /// The picture of the item that is named last behind one word more, where it is known.
+    /// The picture of the item that was named last after one word more, if it is known.
     fn picture_behind(&self, word: &Labelled, names: &Named) -> Option<Option<Picture>>
         requires { IsNamed self.now.schema self.now.words (view_labelled word.now) names.now }
         ensures { IfSome result (λ p. p ≡ item_picture self.now.schema (type_in self.now.schema (self.now.words ++ view_labelled word.now ∷ [])) (named role.ItemName (self.now.words ++ view_labelled word.now ∷ []))) }
@@ -208,7 +208,7 @@ impl<'a> Words<'a> {
         }
     }
 
-    /// One word more, and what it names.
+    /// Adds a word, and what it names.
     pub fn push(&mut self, word: &Labelled<'a>, names: &Named) -> Result<(), AllocError>
         requires { IsNamed self.old.schema self.old.words (view_labelled word.now) names.now }
         ensures { OnOk result (self.new ≡ record { schema = self.old.schema; words = self.old.words ++ view_labelled word.now ∷ [] }) }

@@ -1,7 +1,7 @@
 -- Texts in columns.
 use Rattle.std.specs.Prelude.{ℕ, ◌-◌, List, ◌++◌, length, replicate}
 
--- a text at the right end of a column, filled up in front of it
+-- a text at the right end of a column, filled up before it
 unfoldable pub right : ℕ → ℕ → List ℕ → List ℕ
 right fill width text = replicate (width - length text) fill ++ text
 

@@ -68,7 +68,7 @@ abbrev pub moved_mark : Option Progress → Option Position → Option Position 
 moved_mark None before after history = Begin
 moved_mark (Some w) before after history = in_statement_mark w before after history
 
--- the mark of a move by what it came to, where its unit was before and is after it, and the history after it
+-- the mark of a move, by its result, where its unit was before and is after it, and the history after it
 abbrev pub mark_of : Move → Stepped → Option Position → Option Position → List Entry → Mark
 mark_of (Step u) Moved before after history = moved_mark (progress_in before) before after history
 mark_of (Quits u) Moved before after history = Quit
@@ -83,7 +83,7 @@ abbrev pub unit_in : Move → ℕ
 unit_in (Step u) = u
 unit_in (Quits u) = u
 
--- 1 for a statement that has its ticket, and else 0
+-- 1 for a statement that has its ticket; otherwise 0
 abbrev pub has_ticket : Option Progress → ℕ
 has_ticket None = 0
 has_ticket (Some w) = if w.has_ticket then 1 else 0
@@ -92,28 +92,28 @@ has_ticket (Some w) = if w.has_ticket then 1 else 0
 abbrev pub place_of : Option Position → ℕ
 place_of p = made_in p - has_ticket (progress_in p)
 
--- the event of a move: its unit, its mark, its statement, whether the unit is in mid-statement after it, and for what it waits
+-- the event of a move: its unit, its mark, its statement, whether the unit is in mid-statement after it, and what it waits for
 abbrev pub shown : Move → Stepped → Option Position → Option Position → List Entry → List ℕ → Event
-shown m stepped before after history wait = record { unit = unit_in m; mark = mark_of m stepped before after history; place = place_of before; midway = is_some (progress_in after); wait = wait }
+shown m stepped before after history wait = record { unit = unit_in m; mark = mark_of m stepped before after history; place = place_of before; midway = is_some (progress_in after); below = wait }
 
 -- where the machine has unit u
 abbrev pub place_in : CoreState → ℕ → Option Position
 place_in c u = position_at (network c.schema c.capacity) c.state u
 
--- for what unit u waits in the machine c, where its move was blocked
+-- what unit u waits for in the machine c, if its move was blocked
 abbrev pub wait_after : CoreState → ℕ → Stepped → List ℕ
 wait_after c u Moved = []
 wait_after c u IsBlocked = waiting_text c.schema (blocking_of c u)
 wait_after c u IsIdle = []
 wait_after c u NoMemory = []
 
--- what move m makes of the machine c
+-- what move m does to the machine c
 abbrev pub event_of_move : CoreState → Move → Event
 event_of_move c m =
     shown m (result_of_move c m) (place_in c (unit_in m)) (place_in (after_move c m) (unit_in m)) (map entry_of (after_move c m).state.history)
     (wait_after (after_move c m) (unit_in m) (result_of_move c m))
 
--- what these moves make of it, one after another
+-- what these moves do to it, one after another
 abbrev pub events_of : CoreState → List Move → List Event
 events_of c [] = []
 events_of c (m ∷ ms) = event_of_move c m ∷ events_of (after_move c m) ms

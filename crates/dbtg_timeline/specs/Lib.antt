@@ -6,4 +6,5 @@ pub mod Text
 pub mod Svg
 pub mod Waiting
 pub mod Events
+pub mod Notes
 pub mod Watching

@@ -1,4 +1,4 @@
--- The lines of a picture: a line has events of one unit in one statement that come one directly behind another, however many.
+-- The lines of a picture: a line has events of one unit in one statement that come one directly after another, however many.
 use Rattle.std.specs.Prelude.{ℕ, zero, suc, ◌+◌, ◌-◌, ◌==◌, Bool, ◌&&◌, ◌||◌, List, [], ◌∷◌, ◌++◌, Option, Some, None, length, map, if◌then◌else◌, slice_get, unwrap_or}
 use Rattle.dbtg_timeline.specs.declared.event.Event.{Event}
 use Rattle.dbtg_timeline.specs.declared.event.Mark.TheVariants.{Ticket}
@@ -27,7 +27,7 @@ begun first e = record { first = first; head = e; more = [] }
 abbrev pub longer : Line → Event → Line
 longer l e = record { first = l.first; head = l.head; more = l.more ++ e ∷ [] }
 
--- the lines of these events, behind a line that is not at its end
+-- the lines of these events, after a line that is not at its end
 abbrev pub lines_from : Line → List Event → List Line
 lines_from l [] = l ∷ []
 lines_from l (e ∷ es) = if goes_on l e then lines_from (longer l e) es else l ∷ lines_from (begun (l.first + suc (length l.more)) e) es
@@ -46,7 +46,7 @@ abbrev pub drawn_by : Mark → Option Drawn
 drawn_by (Ticket ticket status) = Some (record { ticket = ticket; status = status })
 drawn_by _ = None
 
--- the first, or the later one where there is none
+-- the first, or the later one if there is none
 abbrev pub or_later : Option Drawn → Option Drawn → Option Drawn
 or_later None later = later
 or_later (Some d) later = Some d
@@ -65,20 +65,20 @@ abbrev pub or_later_text : List ℕ → List ℕ → List ℕ
 or_later_text [] later = later
 or_later_text (b ∷ bs) later = b ∷ bs
 
--- for what the first of these events waits that is blocked
-abbrev pub wait_in : List Event → List ℕ
-wait_in [] = []
-wait_in (e ∷ es) = or_later_text e.wait (wait_in es)
+-- what the first of these events says below the statement that says any of it
+abbrev pub below_in : List Event → List ℕ
+below_in [] = []
+below_in (e ∷ es) = or_later_text e.below (below_in es)
 
--- for what the unit waits in a line
-abbrev pub wait_of : Line → List ℕ
-wait_of l = wait_in (l.head ∷ l.more)
+-- what stands below the statement of a line
+abbrev pub below_of : Line → List ℕ
+below_of l = below_in (l.head ∷ l.more)
 
--- the text of the statement at a place of a script, a dash where there is none
+-- the text of the statement at a place of a script, a dash if there is none
 abbrev pub label_in : List (List ℕ) → ℕ → List ℕ
 label_in script place = unwrap_or (slice_get script place) (45 ∷ [])
 
--- the text of a statement by its unit and its place in the script; a dash where there is none
+-- the text of a statement by its unit and its place in the script; a dash if there is none
 abbrev pub label : List (List (List ℕ)) → ℕ → ℕ → List ℕ
 label scripts zero place = 45 ∷ []
 label scripts (suc i) place = label_in (unwrap_or (slice_get scripts i) []) place

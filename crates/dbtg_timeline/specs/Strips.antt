@@ -4,12 +4,12 @@ use Rattle.std.specs.List.{flat_map, range_with_len}
 use Rattle.dbtg_timeline.specs.declared.lines.Line.{Line}
 use Rattle.dbtg_timeline.specs.declared.strips.Front.{Front}
 use Rattle.dbtg_timeline.specs.declared.strips.Strip.{Strip}
-use Rattle.dbtg_timeline.specs.Lines.{drawn, label, last_of, letters, wait_of}
+use Rattle.dbtg_timeline.specs.Lines.{below_of, drawn, label, last_of, letters}
 use Rattle.dbtg_timeline.specs.Marks.{is_begin}
 
 -- ---- folding
 
--- a part of so many bytes ends in front of the next: it is full; or what is left does not fit, the next is a space, and no more than 9
+-- a part of this many bytes ends before the next: it is full; or what is left does not fit, the next is a space, and no more than 9
 -- bytes would find room
 abbrev pub ends : ℕ → ℕ → ℕ → ℕ → Bool
 ends width count next left = count == width || (nat_lt (width - count) left && (next == 32 && nat_lt (width - 10) count))
@@ -19,7 +19,7 @@ abbrev pub last_part : List ℕ → List (List ℕ)
 last_part [] = []
 last_part (b ∷ bs) = (b ∷ bs) ∷ []
 
--- the parts of a text, behind the beginning of a part
+-- the parts of a text, after the beginning of a part
 abbrev pub folded_from : ℕ → List ℕ → List ℕ → List (List ℕ)
 folded_from width part [] = last_part part
 folded_from width part (b ∷ bs) = if ends width (length part) b (length (b ∷ bs)) then part ∷ folded_from width (b ∷ []) bs else folded_from width (part ++ b ∷ []) bs
@@ -30,11 +30,11 @@ folded width text = folded_from width [] text
 
 -- ---- strips
 
--- what a strip has of these parts, nothing behind the last
+-- what a strip has of these parts, nothing after the last
 abbrev pub part_at : List (List ℕ) → ℕ → List ℕ
 part_at parts i = unwrap_or (slice_get parts i) []
 
--- move, ticket and status stand in the first strip alone
+-- only the first strip shows move, ticket and status
 abbrev pub front_of : Line → ℕ → Option Front
 front_of l zero = Some (record { first = l.first; drawn = drawn l })
 front_of l (suc i) = None
@@ -58,9 +58,9 @@ larger m n = if nat_lt m n then n else m
 abbrev pub strips_by : Line → List (List ℕ) → List (List ℕ) → List Strip
 strips_by l letters words = map (strip_at l letters words) (range_with_len 0 (larger (length letters) (length words)))
 
--- the statement of a line, and below it for what the unit waits
+-- the statement of a line, and what stands below it
 abbrev pub words_of : List (List (List ℕ)) → Line → List (List ℕ)
-words_of scripts l = folded 42 (label scripts l.head.unit l.head.place) ++ folded 42 (wait_of l)
+words_of scripts l = folded 42 (label scripts l.head.unit l.head.place) ++ folded 42 (below_of l)
 
 -- the strips of a line: 32 letters and 42 bytes of words are next to each other
 abbrev pub strips_of : List (List (List ℕ)) → Line → List Strip

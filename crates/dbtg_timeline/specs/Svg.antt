@@ -27,7 +27,7 @@ words_text kind x y words = codes "<text class='" ++ kind ++ codes "'" ++ place_
 
 -- ---- where things stand: a lane is 16 pixels wide, a letter 9, a strip 18 high
 
--- the left edge of the letters, behind the lanes
+-- the left edge of the letters, after the lanes
 abbrev pub letters_left : ℕ → ℕ
 letters_left units = 120 + 16 * units
 

@@ -13,7 +13,7 @@ abbrev pub lane_heads : ℕ → List (List (List ℕ)) → List ℕ
 lane_heads n [] = []
 lane_heads n (script ∷ scripts) = 32 ∷ decimal n ++ lane_heads (n + 1) scripts
 
--- the heads in front of the letters
+-- the heads before the letters
 unfoldable pub front_head : List (List (List ℕ)) → List ℕ
 front_head scripts = codes "    MOVE UNIT" ++ lane_heads 1 scripts ++ codes " "
 
@@ -54,7 +54,7 @@ drawn_of front = option_and_then (λ (f : Front). f.drawn) front
 unfoldable pub columns_text : List ℕ → Option Front → List ℕ → List ℕ
 columns_text letters front words = left 32 letters ++ drawn_text (drawn_of front) ++ words
 
--- behind the first strip, letters without words stand alone
+-- after the first strip, letters without words stand alone
 abbrev pub rest_text : List ℕ → Option Front → List ℕ → List ℕ
 rest_text letters (Some f) words = columns_text letters (Some f) words
 rest_text letters None words = if length words == 0 then letters else columns_text letters None words

@@ -1,4 +1,4 @@
--- What the picture says of a unit that waits: for what, and who holds it.
+-- What the picture says of a unit that waits: what for, and who holds it.
 -- a, t and s are the numbers of an area, a record type and a set, n that of a record or a unit.
 use Rattle.std.specs.Prelude.{ℕ, ◌==◌, Bool, true, false, List, [], ◌∷◌, ◌++◌, Option, Some, None, codes, decimal, if◌then◌else◌, length, option_map, slice_get, unwrap_or}
 use Rattle.std.specs.List.{flat_map}
@@ -41,13 +41,13 @@ cell_text schema (Slot t n) = codes "Slot(" ++ record_text schema t n ++ codes "
 
 -- ---- the text
 
--- for what: an area that is to be exclusive may be shared by others, and one that is to be shared is exclusive
+-- what for: an area that is wanted exclusively may be shared by others, and one that is to be shared is held exclusively
 unfoldable pub awaited_text : Lists → Awaited → List ℕ
 awaited_text schema (Area a true) = area_name schema a ++ codes " exclusively, held"
 awaited_text schema (Area a false) = area_name schema a ++ codes ", held exclusively"
 awaited_text schema (Cell c) = cell_text schema c ++ codes ", held"
 
--- a unit behind another
+-- a unit after another
 unfoldable pub next_holder : ℕ → List ℕ
 next_holder n = codes ", " ++ decimal n
 
@@ -56,7 +56,7 @@ unfoldable pub holders_text : List ℕ → List ℕ
 holders_text [] = []
 holders_text (n ∷ ns) = (if length ns == 0 then codes " by unit " else codes " by units ") ++ decimal n ++ flat_map next_holder ns
 
--- for what a unit waits, and who holds it; nothing where it does not wait
+-- what a unit waits for, and who holds it; nothing if it does not wait
 unfoldable pub waiting_text : Lists → Option Blocking → List ℕ
 waiting_text schema None = []
 waiting_text schema (Some b) = codes "waits for " ++ awaited_text schema b.awaited ++ holders_text b.holders

@@ -1,4 +1,4 @@
-//! What a move of a run came to, as the picture shows it.
+//! The result of a move of a run, as the picture shows it.
 ghost use Rattle.std.specs.Prelude.{◌≡◌, IfOk};
 ghost use Rattle.dbtg_timeline.specs.Marks.{is_begin, is_idle, letter, ticket_letter};
 
@@ -13,7 +13,7 @@ pub enum Mark {
     TakeCell,
     /// Guesses are stale: the statement turns back.
     TurnBack,
-    /// A cell is put back in turning back.
+    /// A cell is put back while the statement turns back.
     Return,
     Ticket { ticket: u64, status: u16 },
     Link,
@@ -25,14 +25,14 @@ pub enum Mark {
 }
 
 /// A move: its mark, its unit, the place in the unit's script of the statement that the unit is in or before, from 0, and whether
-/// the unit is in mid-statement afterwards; and for what it waits, where it is blocked.
+/// the unit is in mid-statement afterwards; and what stands below its statement: what it waits for, if it is blocked.
 #[derive(Drop)]
 pub struct Event {
     pub unit: u8,
     pub mark: Mark,
     pub place: usize,
     pub midway: bool,
-    pub wait: Row<u8>,
+    pub below: Row<u8>,
 }
 
 impl Event {
@@ -44,7 +44,7 @@ impl Event {
             mark: self.mark,
             place: self.place,
             midway: self.midway,
-            wait: self.wait.copy(alloc)?,
+            below: self.below.copy(alloc)?,
         })
     }
 }

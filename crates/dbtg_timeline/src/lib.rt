@@ -5,6 +5,7 @@ mod columns;
 mod event;
 mod lanes;
 mod lines;
+mod noting;
 mod strips;
 mod svg;
 mod text;
@@ -12,6 +13,8 @@ mod waiting;
 mod watching;
 
 pub use event::{Event, Mark, letter};
+pub use noting::noted_events;
 pub use svg::timeline_svg;
 pub use text::timeline_text;
+pub use waiting::{area_name, push_cell};
 pub use watching::{watch, watch_move};

@@ -1,12 +1,12 @@
-//! The lines of a picture: each has events of one unit in one statement that come one directly behind another.
+//! The lines of a picture: each has the events of one unit in one statement that directly follow one another.
 ghost use Rattle.std.specs.Prelude.{◌≡◌, ◌++◌, ◌≤◌, ◌+◌, [], IfOk, length};
-ghost use Rattle.dbtg_timeline.specs.Lines.{begun, drawn, drawn_by, drawn_in, goes_on, wait_in, wait_of, joins, label, label_in, last_of, letters, lines, lines_from};
+ghost use Rattle.dbtg_timeline.specs.Lines.{begun, drawn, drawn_by, drawn_in, goes_on, below_in, below_of, joins, label, label_in, last_of, letters, lines, lines_from};
 
 use crate::event::{Event, Mark, is_idle, letter};
 use dbtg_schema::Row;
 use std::alloc::{AllocError, Global};
 
-/// A line: the number of its first move, from 1, the event of this move, and those behind it.
+/// A line: the number of its first move, from 1, the event of this move, and those after it.
 #[derive(Drop)]
 pub struct Line {
     pub first: usize,
@@ -77,26 +77,26 @@ impl Line {
         }
     }
 
-    /// For what the unit waits, nothing where no event of the line is blocked.
-    pub fn wait(&self) -> &[u8]
-        ensures { result.now ≡ wait_of self.now }
+    /// What stands below the statement, nothing if no event of the line says any of it.
+    pub fn below(&self) -> &[u8]
+        ensures { result.now ≡ below_of self.now }
     {
-        let wait = self.head.wait.as_slice();
-        if wait.is_empty() {
-            wait_in(self.more.as_slice())
+        let below = self.head.below.as_slice();
+        if below.is_empty() {
+            below_in(self.more.as_slice())
         } else {
-            wait
+            below
         }
     }
 }
 
-fn wait_in(events: &[Event]) -> &[u8]
-    ensures { result.now ≡ wait_in events.now }
+fn below_in(events: &[Event]) -> &[u8]
+    ensures { result.now ≡ below_in events.now }
 {
     for event in events {
-        let wait = event.wait.as_slice();
-        if !wait.is_empty() {
-            return wait;
+        let below = event.below.as_slice();
+        if !below.is_empty() {
+            return below;
         }
     }
     b""
@@ -122,7 +122,7 @@ fn drawn_in(events: &[Event]) -> Option<Drawn>
     None
 }
 
-// The lines behind a line that is not at its end.
+// The lines after a line that is not at its end.
 fn lines_behind(alloc: Global, first: Line, events: &[Event]) -> Result<Vec<Line>, AllocError>
     requires counted { first.first + length events.now ≤ 18446744073709551615 }
     requires begun { first.more ≡ [] }

@@ -7,7 +7,7 @@ use crate::lines::{Drawn, Line, label};
 use dbtg_schema::Row;
 use std::alloc::{AllocError, Global};
 
-/// What stands in the first strip of a line alone: the number of its first move, and what it draws.
+/// What only the first strip of a line shows: the number of its first move, and what it draws.
 #[derive(Clone, Copy, Debug, PartialEq, Eq)]
 pub struct Front {
     pub first: usize,
@@ -26,7 +26,7 @@ pub struct Strip {
     pub words: Row<u8>,
 }
 
-// Does a part of so many bytes end in front of the next, where so many are left?
+// Does a part of this many bytes end before the next, if this many are left?
 fn ends(width: usize, count: usize, next: u8, left: usize) -> bool
     ensures { result ≡ ends width count next left }
 {
@@ -119,7 +119,7 @@ fn push_strips_by(
     Ok(())
 }
 
-// The statement of a line, and below it for what the unit waits.
+// The statement of a line, and what stands below it.
 fn push_words_of(
     alloc: Global,
     words: &mut Vec<Row<u8>>,
@@ -130,7 +130,7 @@ fn push_words_of(
 {
     let statement = label(scripts, line.head.unit, line.head.place);
     push_folded(alloc, words, 42, statement)?;
-    push_folded(alloc, words, 42, line.wait())
+    push_folded(alloc, words, 42, line.below())
 }
 
 fn push_strips_of(

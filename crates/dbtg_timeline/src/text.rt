@@ -1,4 +1,4 @@
-//! The picture as plain text. Its lines have at most 120 columns while moves have no more than 8 digits.
+//! The picture as plain text. Its lines have at most 120 columns as long as moves have no more than 8 digits.
 ghost use Rattle.std.specs.Prelude.{◌≡◌, ◌++◌, ◌+◌, ◌<◌, IfOk, OnOk, length};
 ghost use Rattle.dbtg_timeline.specs.Text.{columns_text, drawn_of, drawn_text, events_head, front_head, front_text, head_text, lane_heads, lane_mark, lanes_text, legend, rest_text, second_legend, strip_text, strips_text, timeline_text};
 

@@ -1,4 +1,4 @@
-//! What the picture says of a unit that waits: for what, and who holds it.
+//! What the picture says of a unit that waits: what for, and who holds it.
 ghost use Rattle.std.specs.Prelude.{◌≡◌, ◌++◌, IfOk, OnOk};
 ghost use Rattle.std.specs.List.{flat_map};
 ghost use Rattle.dbtg_timeline.specs.Waiting.{area_name, awaited_text, cell_text, holders_text, next_holder, owner_text, record_text, set_name, type_name, waiting_text};
@@ -9,7 +9,8 @@ use dbtg_schema::{AreaNo, RecordNo, Schema, SetNo};
 use dbtg_step::{Awaited, Blocking};
 use std::alloc::AllocError;
 
-fn area_name(schema: &Schema, area: AreaNo) -> &[u8]
+/// The name of an area, empty where the schema has none of this number.
+pub fn area_name(schema: &Schema, area: AreaNo) -> &[u8]
     ensures { result.now ≡ area_name schema.now area }
 {
     match schema.area_name(area) {
@@ -64,8 +65,9 @@ fn push_owner(
     }
 }
 
+/// The text of a cell, such as `Ring(HAS, CUSTOMER:1)`: see docs/profile/events.md.
 #[tactic(auto, unfolding(crate::specs::Waiting::cell_text))]
-fn push_cell(out: &mut Vec<u8>, schema: &Schema, cell: CellName) -> Result<(), AllocError>
+pub fn push_cell(out: &mut Vec<u8>, schema: &Schema, cell: CellName) -> Result<(), AllocError>
     ensures { OnOk result (out.new.items ≡ out.old.items ++ cell_text schema.now cell) }
 {
     match cell {
@@ -147,8 +149,8 @@ fn push_holders(out: &mut Vec<u8>, holders: &[usize]) -> Result<(), AllocError>
     }
 }
 
-#[tactic(auto, unfolding(crate::specs::Waiting::waiting_text))]
 /// For what a unit waits, and who holds it.
+#[tactic(auto, unfolding(crate::specs::Waiting::waiting_text))]
 pub fn push_waiting(
     out: &mut Vec<u8>,
     schema: &Schema,

@@ -170,11 +170,11 @@ fn shown(
         mark: mark_of(one, stepped, before, after, history),
         place: place_of(before),
         midway: progress_in(after).is_some(),
-        wait,
+        below: wait,
     }
 }
 
-// For what the unit waits, where its move was blocked.
+// What the unit waits for, if its move was blocked.
 fn wait_after(alloc: Global, core: &Core, unit: u8, stepped: Stepped) -> Result<Row<u8>, AllocError>
     ensures { IfOk result (λ wait. wait ≡ wait_after (machine core.now) unit stepped) }
 {
@@ -212,7 +212,7 @@ fn watch_moves(alloc: Global, core: &mut Core, moves: &[Move]) -> Result<Vec<Eve
     Ok(events)
 }
 
-/// The events of these moves, from the opening database on, with a unit for each script. A step that finds no memory ends the run.
+/// The events of these moves, starting with the opening database, with a unit for each script. A step that finds no memory ends the run.
 pub fn watch(
     alloc: Global,
     schema: &Schema,

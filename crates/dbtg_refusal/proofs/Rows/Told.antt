@@ -6,9 +6,11 @@ use Rattle.dbtg_cells.specs.declared.usage.Mode.TheVariants.{Retrieval, Exclusiv
 use Rattle.dbtg_unit.specs.declared.statement.Statement.TheVariants.{OpenArea, Get}
 use Rattle.dbtg_unit.specs.declared.unit.Cause.TheVariants as cause
 use Rattle.dbtg_unit.specs.Database.Statements.Effect.{effect}
-use Rattle.dbtg_unit.proofs.Rows.Defined.Schemas.{shop, main, orders, has, watch, lines}
+use Rattle.dbtg_unit.proofs.Rows.Defined.Histories.{history}
+use Rattle.dbtg_unit.proofs.Rows.Defined.Schemas.{card, shop, main, orders, has, watch, lines}
 use Rattle.dbtg_unit.proofs.Rows.Words.{by, customer_key, ordr_key, item_key}
 use Rattle.dbtg_refusal.specs.declared.obstacle.Obstacle.TheVariants as obstacle
+use Rattle.dbtg_refusal.specs.Said.{said_of_history}
 use Rattle.dbtg_refusal.specs.Sentences.{sentence}
 use Rattle.dbtg_refusal.proofs.Rows.Words.{told}
 
@@ -56,3 +58,8 @@ of_a_member = refl
 of_no_member : sentence shop cause.NotMember (obstacle.Outside watch (item_key 1)) ≡ codes "ITEM:1 is in no list of set WATCH"
 unfolding digits
 of_no_member = refl
+
+-- the third statement is refused, for an area that its unit opens with the fourth
+of_a_history : said_of_history card 2 2 history ≡ [] ∷ [] ∷ codes "area MAIN is not open" ∷ [] ∷ []
+unfolding effect
+of_a_history = refl

@@ -16,7 +16,7 @@ abbrev with_cause : {X : Type 0} → (Cause → X) → Status → Option (Cause 
 with_cause f Done = None
 with_cause f (Refused cause) = Some (cause, f cause)
 
--- the cause for which a statement of unit u is refused, and what is in its way, after those statements of so many units
+-- the cause for which a statement of unit u is refused, and what is in its way, after those statements of this many units
 abbrev pub refused : Lists → ℕ → ℕ → List (ℕ × Statement) → ℕ → Statement → Option (Cause × Option Obstacle)
 refused schema capacity units before u statement =
     let end = state_after schema capacity (opening_state schema units) before in

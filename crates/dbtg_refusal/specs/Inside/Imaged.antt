@@ -1,4 +1,4 @@
--- What an image answers, where the checks ask a view.
+-- What an image answers to the questions that the checks ask a view.
 -- k is a key, s a set, o an owner, t a record type, a an area.
 use Rattle.std.specs.Prelude.{ℕ, Bool, false, not, ◌&&◌, ◌==◌, List, [], Option, is_none, is_some, option_map, slice_get, unwrap_or}
 use Rattle.std.specs.List.{find, list_any}
@@ -46,7 +46,7 @@ list_in image s o = option_map (λ e. e.1) (find (λ e. owner_eq e.0 o) (lists_i
 abbrev pub members_in : Image → ℕ → Owner → List DbKey
 members_in image s o = unwrap_or (list_in image s o) []
 
--- a member with this sort key, beside the one that is left out
+-- a member with this sort key, other than the one that is left out
 abbrev pub sort_key_in : Lists → Image → ℕ → Owner → Option DbKey → Option Value → Bool
 sort_key_in schema image s o left v = is_some (find (λ x. not (is_left_out left x) && option_value_eq (key_item schema s x.rtype (items_in image x)) v) (members_in image s o))
 
@@ -62,7 +62,7 @@ holder_in_image schema image t values left = option_map (λ e. e.0) (find (holds
 abbrev pub users_in : Image → ℕ → List (ℕ × Mode)
 users_in image a = unwrap_or (slice_get image.usage a) []
 
--- the view of an image; of free numbers no obstacle asks
+-- the view of an image; no obstacle asks about free numbers
 abbrev pub imaged : Lists → Image → View
 imaged schema image =
     record {
@@ -79,6 +79,6 @@ imaged schema image =
       users = users_in image;
     }
 
--- what is in the way by what an image answers
+-- what is in the way, by what an image answers
 abbrev pub obstacle_in : Lists → Image → Unit → Statement → Cause → Option Obstacle
 obstacle_in schema image = obstacle_by schema (imaged schema image) (holder_in_image schema image)

@@ -63,7 +63,7 @@ having r (either f g) ws (inl d) h = having r f ws d (and_parts (wants r f) (wan
 having r (either f g) ws (inr d) h = having r g ws d (and_parts (wants r f) (wants r g) h).1
 having r (many f) ws d h = absurd cc
 
--- what stands behind the first part
+-- what follows the first part
 abbrev pub second : Form → Form
 second (both f g) = g
 second f = f
@@ -86,6 +86,6 @@ last_text_none r t (y ∷ ys) h = step (is r y) (has r ys) h (λ k. last_text_no
     step true b h k = absurd cc
     step false b h k = k h
 
--- behind a word with the role there is no other
+-- after a word with the role there is no other
 pub named_last : (r : Role) (xs : List Labelled) (l : Labelled) (ys : List Labelled) → is r l ≡ true → has r ys ≡ false → named r (xs ++ l ∷ ys) ≡ text_of l.word
 named_last r xs l ys t h = last_text_append r [] xs (l ∷ ys) ∙ ap (λ b. last_text r (cond b (text_of l.word) (named r xs)) ys) t ∙ last_text_none r (text_of l.word) ys h

@@ -73,7 +73,7 @@ module _ (schema : Lists) (r : ℕ) where
   one_item_more (m ∷ names) n all h = (all.0, one_item_more names n all.1 h)
 
   module _ (front : List Labelled) (same_type : (xs : List Labelled) → has role.TypeName xs ≡ false → type_in schema (front ++ xs) ≡ r) (no_items : texts role.ItemName front ≡ []) where
-    -- behind the words that name the record type
+    -- after the words that name the record type
     pub items_known : (xs ls : List Labelled) → EachSaid schema (front ++ xs) ls → has role.TypeName xs ≡ false → has role.TypeName ls ≡ false
         → AllItems (texts role.ItemName xs) → distinct bytes_eq (texts role.ItemName xs) ≡ true → AllItems (texts role.ItemName (xs ++ ls)) × (distinct bytes_eq (texts role.ItemName (xs ++ ls)) ≡ true)
     items_known xs [] c h k all d = (subst (λ (z : List Labelled). AllItems (texts role.ItemName z)) (sym (append-nil xs)) all, subst (λ (z : List Labelled). distinct bytes_eq (texts role.ItemName z) ≡ true) (sym (append-nil xs)) d)

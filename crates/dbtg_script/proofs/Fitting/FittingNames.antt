@@ -35,7 +35,7 @@ pub not_when : (b : Bool) (c : Cause) → when b c ≡ [] → b ≡ false
 not_when true c h = absurd cc
 not_when false c h = refl
 
--- behind the words ws none of these words has a fault
+-- after the words ws none of these words has a fault
 abbrev pub EachSaid : Lists → List Labelled → List Labelled → Type 0
 EachSaid schema ws [] = Unit {0}
 EachSaid schema ws (l ∷ ls) = (said schema ws l.word l.role ≡ []) × EachSaid schema (ws ++ l ∷ []) ls

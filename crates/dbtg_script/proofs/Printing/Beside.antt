@@ -51,7 +51,7 @@ dropped_more history i e below is = split ∙ ap (λ (x : Entry). x ∷ drop (i 
     split : drop i history ≡ get_or history i e ∷ drop (i + 1) history
     split = rw add-one (drop-cons history i e below)
 
--- the line of an entry, and those of the entries behind it
+-- the line of an entry, and those of the entries after it
 pub next_beside : (scripts : List (List (List ℕ))) (history : List Entry) (i : ℕ) (e : Entry) → i < length history → e ≡ get_or history i e
     → lines_beside scripts (take i history) (drop i history) ≡ line_beside scripts (take i history) e ∷ lines_beside scripts (take (i + 1) history) (drop (i + 1) history)
 next_beside scripts history i e below is =
@@ -62,11 +62,11 @@ pub pushed : {A : Type 0} (f : A → List ℕ) (xs new : List A) (x : A) (line :
 pushed f xs new x line rest all e q h =
     ap (λ z. map f z ++ rest) e ∙ ap (λ z. z ++ rest) (map_push f xs x) ∙ append_assoc (map f xs) (f x ∷ []) rest ∙ ap (λ (l : List ℕ). map f xs ++ (l ∷ rest)) q ∙ h
 
-no_rows : (schema : Lists) (width : ℕ) (lines : List (List ℕ)) → rows_text schema width lines [] ≡ []
-no_rows schema width [] = refl
-no_rows schema width (l ∷ ls) = refl
+no_rows : (schema : Lists) (width : ℕ) (notes lines : List (List ℕ)) → rows_text schema width notes lines [] ≡ []
+no_rows schema width notes [] = refl
+no_rows schema width notes (l ∷ ls) = refl
 
 -- where no answer is left, nothing is
-pub rows_done : (schema : Lists) (width : ℕ) (lines : List (List ℕ)) (history : List Entry) (i : ℕ) (out all : List ℕ) → length history ≤ i → out ++ rows_text schema width lines (drop i history) ≡ all → out ≡ all
-rows_done schema width lines history i out all past h =
-    sym (append-nil out) ∙ ap (λ (xs : List ℕ). out ++ xs) (sym (ap (rows_text schema width lines) (drop_all i history past) ∙ no_rows schema width lines)) ∙ h
+pub rows_done : (schema : Lists) (width : ℕ) (notes lines : List (List ℕ)) (history : List Entry) (i : ℕ) (out all : List ℕ) → length history ≤ i → out ++ rows_text schema width notes lines (drop i history) ≡ all → out ≡ all
+rows_done schema width notes lines history i out all past h =
+    sym (append-nil out) ∙ ap (λ (xs : List ℕ). out ++ xs) (sym (ap (rows_text schema width notes lines) (drop_all i history past) ∙ no_rows schema width notes lines)) ∙ h

@@ -42,7 +42,7 @@ clear_name c (b ∷ w) other h = let p = and_parts (is_name_byte b) (list_all is
 clear_word : (c : ℕ) (w : List ℕ) → is_name_byte c ≡ false → is_name w ≡ true → has_byte c w ≡ false
 clear_word c w other h = clear_name c w other (and_parts _ _ (and_parts _ _ (and_parts _ _ h).0).0).1
 
--- the name of the record type of this number
+-- the name of the record type with this number
 abbrev name_at : List RecordType → ℕ → List ℕ
 name_at ts r = unwrap_or (option_map (λ r. r.name) (slice_get ts r)) []
 
@@ -100,7 +100,7 @@ module _ (schema : Lists) (named : IsNamed schema) where
   clear_type : (c : ℕ) (k : DbKey) → is_name_byte c ≡ false → IsKey schema k → has_byte c (type_name schema k.rtype) ≡ false
   clear_type c k other h = clear_word c (type_name schema k.rtype) other (is_named schema.types k.rtype h.known named.types)
 
-  -- what stands behind the colon
+  -- what follows the colon
   abbrev numbers : DbKey → List ℕ
   numbers k = decimal k.number ++ generation_text k.generation
 
@@ -137,7 +137,7 @@ module _ (schema : Lists) (named : IsNamed schema) where
 
 -- WORDS
 
--- the words of a line, each behind a space
+-- the words of a line, each after a space
 abbrev joined : List (List ℕ) → List ℕ
 joined ws = flat_map (λ w. 32 ∷ w) ws
 
@@ -297,7 +297,7 @@ from_sets schema u = codes "SET" ∷ (map (place_word schema) u.currency.sets ++
 abbrev unit_words : Lists → unit.Unit → List (List ℕ)
 unit_words schema u = decimal u.number ∷ codes "RUN" ∷ current_word schema u.currency.run_unit ∷ codes "RECORD" ∷ (map (current_word schema) u.currency.types ++ from_sets schema u)
 
--- each text is its word behind a space
+-- each text is its word after a space
 each_spaced : {X : Type 0} (text word : X → List ℕ) → ((x : X) → text x ≡ 32 ∷ word x) → (xs : List X) → flat_map text xs ≡ joined (map word xs)
 each_spaced text word same [] = refl
 each_spaced text word same (x ∷ xs) = λ i. same x i ++ each_spaced text word same xs i

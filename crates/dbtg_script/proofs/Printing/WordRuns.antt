@@ -6,7 +6,7 @@ use Rattle.dbtg_unit.specs.declared.moves.Move.{Move}
 use Rattle.dbtg_unit.specs.declared.moves.Move.TheVariants.{Step, Quit}
 use Rattle.dbtg_script.specs.Printing.WordTexts.{in_one_word, onto_run, runs, move_word, run_words, line_of}
 
--- k moves m in front of runs
+-- k moves m before runs
 abbrev pub merged : Move → ℕ → List (Move × ℕ) → List (Move × ℕ)
 merged m k [] = (m, k) ∷ []
 merged m k (r ∷ rs) = if in_one_word m r.0 then (m, k + r.1) ∷ rs else (m, k) ∷ r ∷ rs
@@ -47,7 +47,7 @@ spaced w n (r ∷ rs) = by_cases (in_one_word n r.0) where
   by_cases true = refl
   by_cases false = refl
 
--- the line of k moves m and of those behind them
+-- the line of k moves m and of those after them
 abbrev pub line_from : Move → ℕ → List Move → List ℕ
 line_from m k ms = line_of (run_words (merged m k (runs ms)))
 

@@ -42,7 +42,7 @@ the_start f l left found s t k e a same h = elim (same_or_name f l.word found s 
       absurd (not_name (is_name found.role) (is_name found.role) refl c.0 (k [] l left found.role refl is (some.0, starts_derive fits f found l.word some.0 m.0 m.1 some.1)))
 ]
 
--- the words behind take keywords where they can stand, too
+-- the words after take keywords where they can stand, too
 pub keywords_behind : (f : Form) (l : Labelled) (left : List Labelled) (s : Start) → TakesKeywords f (l ∷ left) → Among s (starts f) → s.role ≡ l.role → fits s.kind l.word ≡ true → TakesKeywords s.rest left
 keywords_behind f l left s k a same h = λ before x behind r e is c.
     k (l ∷ before) x behind r (ap (λ (z : List Labelled). l ∷ z) e) is (

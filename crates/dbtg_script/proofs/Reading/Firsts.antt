@@ -1,4 +1,4 @@
--- The first of two lists, one behind the other.
+-- The first of two lists, one after the other.
 use Rattle.std.proofs.Common.{◌≡◌, List, [], ◌∷◌, ◌++◌, Some, None, refl}
 use Rattle.dbtg_schema.specs.Lookups.{first}
 

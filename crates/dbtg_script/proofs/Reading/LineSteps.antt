@@ -73,7 +73,7 @@ some_closed : (bs : List ℕ) → closes false bs ≡ true → lines bs ≡ [] �
 some_closed [] h e = absurd cc
 some_closed (b ∷ bs) h e = some_lines b bs e
 
--- a line behind whole lines
+-- a line after whole lines
 pub line_behind : (closed : Bool) (text line : List ℕ) → closes closed text ≡ true → has_byte 10 line ≡ false → lines (text ++ (line ++ 10 ∷ [])) ≡ lines text ++ line ∷ []
 line_behind closed [] line whole h = alone line h ∙ ap (λ (ls : List (List ℕ)). ls ++ line ∷ []) (sym none_is)
 line_behind closed (b ∷ bs) line whole h = by (λ k some. line_behind k bs line some h) (eqb b 10) refl

@@ -77,7 +77,7 @@ pub no_words : {A : Type 0} (total number : ℕ) (ss : List (Option (A × ℕ)))
 unfolding refused_word
 no_words total number ss h = rw h refl
 
--- the first word, or no bytes where there is none
+-- the first word, or no bytes if there is none
 abbrev pub first_word : List (List ℕ) → List ℕ
 first_word [] = []
 first_word (w ∷ ws) = w

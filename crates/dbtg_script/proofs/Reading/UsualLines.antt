@@ -153,7 +153,7 @@ modify_said schema name ts r i v known g = rw g.words (change_said schema name g
 
 -- FIND CALC r RECORD USING i = v
 
--- where a name is found, an item of this name stands
+-- where a name is found, an item with this name stands
 found_name : (n : List ℕ) (k : ℕ) (items : List Item) (j : ℕ) → position_from (bytes_eq n) k (map (λ (x : Item). x.name) items) ≡ Some j
     → (d : ℕ) × (j ≡ k + d) × (unwrap_or (option_map (λ (x : Item). x.name) (slice_get items d)) [] ≡ n)
 found_name n k [] j e = absurd cc

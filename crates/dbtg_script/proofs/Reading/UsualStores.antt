@@ -54,7 +54,7 @@ abbrev pub assigned : List Pair → List Labelled
 assigned [] = []
 assigned (a ∷ ps) = item_word a.0 ∷ sign ∷ value_word a.1 ∷ assigned ps
 
--- the words of an assignment up to its sign, behind others
+-- the words of an assignment up to its sign, after others
 abbrev begun : List Pair → List ℕ → List Labelled
 begun ps n = (assigned ps ++ item_word n ∷ []) ++ sign ∷ []
 
@@ -132,7 +132,7 @@ module _ (schema : Lists) (r : ℕ) where
   given_nowhere : (n : List ℕ) (k : ℕ) (ps : List Pair) → item_named schema r n ≡ Some k → Numbered (λ j. j ≡ k → ⊥) ps → given n (assigned ps) ≡ None
   given_nowhere n k ps e h = ap (λ z. given n (assigned z)) (sym (append-nil ps)) ∙ given_behind n k ps [] e h
 
-  -- words in front of assignments that name the record type, and no item
+  -- words before assignments that name the record type, and no item
   pub record IsFront (front : List Labelled → List Labelled) : Type 0 where
     pub behind : (xs ys : List Labelled) → front xs ++ ys ≡ front (xs ++ ys)
     pub texts_are : (xs : List Labelled) → texts role.ItemName (front xs) ≡ texts role.ItemName xs

@@ -1,4 +1,4 @@
--- One word more behind the words of a line.
+-- One word more after the words of a line.
 use Rattle.std.proofs.Common.{◌≡◌, ℕ, ◌<◌, Bool, true, false, cond, ◌||◌, List, [], ◌∷◌, ◌++◌, length, get_or, set, Option, Some, None, refl, sym, ap, subst, ◌∙◌}
 use Rattle.std.specs.Prelude.{IfSome}
 use Rattle.std.proofs.lemmas.Bool.{eqb-false, eqb-true, or_parts}
@@ -37,7 +37,7 @@ named_there r ws w h = last_behind r [] ws w ∙ ap (λ b. cond b (text_of w.wor
 pub named_kept : (r : Role) (ws : List Labelled) (w : Labelled) → is r w ≡ false → named r (ws ++ w ∷ []) ≡ named r ws
 named_kept r ws w h = last_behind r [] ws w ∙ ap (λ b. cond b (text_of w.word) (named r ws)) h
 
--- the type that is named behind a word that names one
+-- the type that is named after a word that names one
 pub type_there : (ws : List Labelled) (w : Labelled) → is role.TypeName w ≡ true → type_text (ws ++ w ∷ []) ≡ text_of w.word
 type_there ws w h =
     let e : has role.TypeName (ws ++ w ∷ []) ≡ true = has_behind role.TypeName ws w ∙ ap (λ b. has role.TypeName ws || b) h ∙ or_true (has role.TypeName ws) in
@@ -84,7 +84,7 @@ roles_behind roles ws w room h r = by (is r w) refl
     by true e = get_or-set_at roles (number w.role) (number r) true false (sym (eqb-true (number w.role) (number r) e)) room ∙ sym (here e)
     by false e = get_or-set_other roles (number w.role) (number r) true false (differs e) ∙ h r ∙ sym (has_kept r ws w e)
 
--- what is noted behind a word more
+-- what is noted after a word more
 pub noted_behind : (old : LineWords) (roles : List Bool) (rtype : Option (Option ℕ)) (picture : Option (Option Picture)) (w : Labelled) (at : ℕ) (ws : List Labelled)
     → at ≡ number w.role → at < length roles → ((r : Role) → get_or roles (number r) false ≡ has r old.words)
     → IfSome rtype (λ r. r ≡ type_named old.schema (type_text (old.words ++ w ∷ [])))

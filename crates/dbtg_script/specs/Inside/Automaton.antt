@@ -117,7 +117,7 @@ view_kind code.Signed = signed
 view_kind code.Keyed = keyed
 view_kind code.Value = value
 
--- a word that may come next: its kind, its role, and what is left behind it
+-- a word that may come next: its kind, its role, and what is left after it
 abbrev pub view_start : code_start.Start → Start
 view_start s = record { kind = view_kind s.kind; role = s.role; rest = rest_of s.next }
 

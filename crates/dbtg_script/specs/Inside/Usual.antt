@@ -32,7 +32,7 @@ pub record IsOfSet (schema : Lists) (ts : List Token) (set : ℕ) : Type 0 where
   pub words : ts ≡ plain (codes "OF") ∷ plain name ∷ plain (codes "SET") ∷ []
   pub known : set_named schema name ≡ Some set
 
--- the words give this value to the item of this number, by its name, = and the value, and say no more
+-- the words give this value to the item with this number, by its name, = and the value, and say no more
 pub record IsOnlyGiven (schema : Lists) (r : ℕ) (ts : List Token) (i : ℕ) (v : Value) : Type 0 where
   pub name : List ℕ
   pub token : Token
@@ -43,18 +43,18 @@ pub record IsOnlyGiven (schema : Lists) (r : ℕ) (ts : List Token) (i : ℕ) (v
   pub value_word : fits value token ≡ true
   pub value_is : spelled picture token ≡ Some v
 
--- r, the name of this record type, RECORD and USING stand in front of the others
+-- r, the name of this record type, RECORD and USING come before the others
 pub record IsCalcType (schema : Lists) (r : ℕ) (before after : List Token) : Type 0 where
   pub name : List ℕ
   pub words : before ≡ plain name ∷ plain (codes "RECORD") ∷ plain (codes "USING") ∷ after
   pub known : type_named schema name ≡ Some r
 
--- the items of a CALC clause, none where there is none
+-- the items of a CALC clause; none if there is none
 abbrev pub calc_items : Option Calc → List ℕ
 calc_items None = []
 calc_items (Some calc) = calc.items
 
--- the words in front of the others give this value to the item, by its name, = and the value
+-- the words before the others give this value to the item, by its name, = and the value
 pub record IsGiven (i : Item) (before after : List Token) (v : Value) : Type 0 where
   pub token : Token
   pub words : before ≡ plain i.name ∷ equals ∷ token ∷ after
@@ -62,7 +62,7 @@ pub record IsGiven (i : Item) (before after : List Token) (v : Value) : Type 0 w
   pub value_word : fits value token ≡ true
   pub value_is : spelled i.picture token ≡ Some v
 
--- they do, or there are none in front of the others, and it is the item's blank
+-- they do, or no words come before the others, and it is the item's blank
 abbrev pub IsAssigned : Item → List Token → List Token → Value → Type 0
 IsAssigned i before after v = IsGiven i before after v ⊎ ((before ≡ after) × (v ≡ blank i.picture))
 

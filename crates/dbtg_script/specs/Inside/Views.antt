@@ -1,4 +1,4 @@
--- Words of the code, without where they lie in memory.
+-- The spec-level view of labelled words: the code's values without their references.
 use Rattle.std.specs.Prelude.{List, map}
 use Rattle.dbtg_script.specs.declared.queries.Labelled as code
 use Rattle.dbtg_script.specs.Tokens.{view}

@@ -1,4 +1,4 @@
--- What is noted beside the words of a line.
+-- What is noted in addition to the words of a line.
 use Rattle.std.specs.Prelude.{◌≡◌, ℕ, Bool, true, false, List, [], ◌∷◌, ◌++◌, Option, Some, None, IfSome, length, slice_index_or}
 use Rattle.dbtg_schema.specs.Lists.{Lists}
 use Rattle.dbtg_schema.specs.declared.shape.Picture.{Picture}
@@ -21,7 +21,7 @@ pub record AreNoted (schema : Lists) (ws : List Labelled) (roles : List Bool) (r
   pub type_is : IfSome rtype (λ r. r ≡ type_named schema (type_text ws))
   pub picture_is : IfSome picture (λ p. p ≡ item_picture schema (type_in schema ws) (named role.ItemName ws))
 
--- the record type that the next word names, where it names one, and the item
+-- the record type that the next word names, if it names one, and the item
 pub record IsNamed (schema : Lists) (ws : List Labelled) (w : Labelled) (n : Named) : Type 0 where
   pub type_is : is role.TypeName w ≡ true → n.rtype ≡ type_named schema (text_of w.word)
   pub record_is : is role.RecordName w ≡ true → n.rtype ≡ type_named schema (text_of w.word)

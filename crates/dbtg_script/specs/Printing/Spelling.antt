@@ -7,7 +7,7 @@ use Rattle.dbtg_schema.specs.Texts.Spelling.{is_digit}
 abbrev pub is_number : List ℕ → Bool
 is_number t = nat_lt 0 (length t) && list_all is_digit t
 
--- the number that the digits spell, behind what was read before them
+-- the number that the digits spell, after what was read before them
 abbrev pub number_after : ℕ → List ℕ → ℕ
 number_after n [] = n
 number_after n (d ∷ ds) = number_after (10 * n + (d - 48)) ds
@@ -21,12 +21,12 @@ abbrev pub is_signed : List ℕ → Bool
 is_signed [] = false
 is_signed (b ∷ bs) = if b == 45 then is_number bs else is_number (b ∷ bs)
 
--- the bytes in front of the first c, all without a c
+-- the bytes before the first c; all without a c
 abbrev pub in_front : ℕ → List ℕ → List ℕ
 in_front c [] = []
 in_front c (b ∷ bs) = if b == c then [] else b ∷ in_front c bs
 
--- the bytes behind the first c, none without a c
+-- the bytes after the first c; none without a c
 abbrev pub behind : ℕ → List ℕ → List ℕ
 behind c [] = []
 behind c (b ∷ bs) = if b == c then bs else behind c bs
@@ -51,10 +51,10 @@ key_generation t = behind 46 (behind 58 t)
 abbrev pub has_generation : List ℕ → Bool
 has_generation t = has_byte 46 (behind 58 t)
 
--- a name, a colon and digits, and it may be a period and digits
+-- a name, a colon and digits, perhaps followed by a period and digits
 abbrev pub is_key : List ℕ → Bool
 is_key t = nat_lt 0 (length (key_name t)) && is_number (key_number t) && (if has_generation t then is_number (key_generation t) else true)
 
--- the generation that a key names: 1 where it names none
+-- the generation that a key names: 1 if it names none
 abbrev pub generation : List ℕ → ℕ
 generation t = if has_generation t then number (key_generation t) else 1

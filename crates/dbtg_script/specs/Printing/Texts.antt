@@ -79,7 +79,7 @@ answer_front schema e =
 abbrev pub answer_text : Lists → Entry → List ℕ
 answer_text schema e = answer_front schema e ++ 10 ∷ []
 
--- with a name behind it
+-- with a name after it
 abbrev pub named_answer_text : Lists → Entry → List ℕ → List ℕ
 named_answer_text schema e name = answer_front schema e ++ 32 ∷ name ++ 10 ∷ []
 
@@ -97,7 +97,7 @@ record_text schema r = key_text schema r.0 ++ items_text r.1 (item_list schema r
 abbrev pub list_text : Lists → List ℕ → Owner × List DbKey → List ℕ
 list_text schema name l = name ++ 32 ∷ owner_text schema l.0 ++ 58 ∷ flat_map (spaced_key schema) l.1 ++ 10 ∷ []
 
--- the lists of all sets, one behind another
+-- the lists of all sets, one after another
 abbrev pub lists_text : Lists → List (List (Owner × List DbKey)) → List SetType → List ℕ
 lists_text schema [] sets = []
 lists_text schema (ls ∷ rest) [] = []
@@ -155,7 +155,7 @@ place_text schema (Some p) = 32 ∷ owner_text schema p.owner ++ 47 ∷ at_text 
 abbrev pub kept_entry : Lists → DbKey × ℕ → List ℕ
 kept_entry schema e = 32 ∷ key_text schema e.0 ++ 47 ∷ decimal e.1
 
--- only where something is kept
+-- only if something is kept
 abbrev pub kept_text : Lists → List (DbKey × ℕ) → List ℕ
 kept_text schema [] = []
 kept_text schema (e ∷ es) = codes " KEPT" ++ flat_map (kept_entry schema) (e ∷ es)
@@ -190,7 +190,7 @@ letter stepped.Blocked = 66
 letter stepped.Idle = 73
 letter stepped.NoMemory = 78
 
--- the letters of the moves behind a space, nothing without moves
+-- the letters of the moves after a space; nothing without moves
 abbrev pub letters_text : List Stepped → List ℕ
 letters_text [] = []
 letters_text (s ∷ ss) = 32 ∷ map letter (s ∷ ss)
@@ -214,7 +214,7 @@ abbrev pub schema_line : Lists → List ℕ
 schema_line schema =
     name_part schema.name ++ count_part (length schema.areas) (codes " areas, ") ++ count_part (length schema.types) (codes " records, ") ++ count_part (length schema.sets) (codes " sets" ++ 10 ∷ [])
 
--- how many statements the script of this number has
+-- how many statements the script with this number has
 abbrev pub script_line : ℕ → ℕ → List ℕ
 script_line number count = codes "script " ++ count_part number (codes ": ") ++ count_part count (codes " statements" ++ 10 ∷ [])
 

@@ -3,13 +3,13 @@ use Rattle.std.specs.Prelude.{ℕ, ◌+◌, Bool, false, ◌==◌, List, [], ◌
 use Rattle.dbtg_unit.specs.declared.moves.Move.{Move}
 use Rattle.dbtg_unit.specs.declared.moves.Move.TheVariants.{Step, Quit}
 
--- steps of one unit go into one word, quits do not
+-- steps of one unit share a word, quits do not
 abbrev pub in_one_word : Move → Move → Bool
 in_one_word (Step u) (Step v) = u == v
 in_one_word (Step u) (Quit v) = false
 in_one_word (Quit u) n = false
 
--- a move in front: in the first word, where it goes into it, else in a word of its own
+-- adds a move at the beginning: to the first word if it can share that, otherwise as a word of its own
 abbrev pub onto_run : Move → List (Move × ℕ) → List (Move × ℕ)
 onto_run m [] = (m, 1) ∷ []
 onto_run m (r ∷ rs) = if in_one_word m r.0 then (m, 1 + r.1) ∷ rs else (m, 1) ∷ r ∷ rs
@@ -19,7 +19,7 @@ abbrev pub runs : List Move → List (Move × ℕ)
 runs [] = []
 runs (m ∷ ms) = onto_run m (runs ms)
 
--- nothing where it is once
+-- nothing if it is once
 abbrev pub times_text : ℕ → List ℕ
 times_text k = if k == 1 then [] else 42 ∷ decimal k
 
@@ -32,7 +32,7 @@ move_word (Quit u) k = 81 ∷ decimal u
 abbrev pub run_words : List (Move × ℕ) → List (List ℕ)
 run_words rs = map (λ r. move_word r.0 r.1) rs
 
--- a space behind a word, a line feed behind the last
+-- a space after a word, a line feed after the last
 abbrev pub gap_before : List (List ℕ) → ℕ
 gap_before [] = 10
 gap_before (w ∷ ws) = 32

@@ -3,7 +3,12 @@ use Rattle.std.proofs.lemmas.Result.{IfOk-weaker}
 use Rattle.dbtg_script.specs.Printing.Texts.{moves_text}
 use Rattle.dbtg_step.specs.Machine.Headline.{RunIs}
 use Rattle.dbtg_replay.specs.Replaying.{IsPrinted, shown_text}
+use Rattle.dbtg_replay.proofs.CanBeMade.{can_show}
 use Rattle.dbtg_replay.proofs.replay.moved_text.Goals as goal
+
+pub text_with_moves-text-requires : goal.text_with_moves-text-requires
+text_with_moves-text-requires c =
+    can_show c.args.schema.now c.args.capacity c.args.scripts c.in_ok-given.given c.args.shown.form c.requires.sound c.requires.units c.requires.fit c.in_ok-given.ensures.sequential
 
 pub returns : goal.returns
 returns c =

@@ -2,7 +2,12 @@ use Rattle.std.proofs.Common.{◌≡◌}
 use Rattle.std.proofs.lemmas.Result.{IfOk-weaker}
 use Rattle.dbtg_step.specs.Core.Serial.{SerialRunIs}
 use Rattle.dbtg_replay.specs.Replaying.{IsPrinted, shown_text}
+use Rattle.dbtg_replay.proofs.CanBeMade.{can_show}
 use Rattle.dbtg_replay.proofs.replay.serial_text.Goals as goal
+
+pub text_of-text-requires : goal.text_of-text-requires
+text_of-text-requires c =
+    can_show c.args.schema.now c.args.capacity c.args.scripts c.in_ok-given.given c.args.shown.form c.requires.sound c.requires.units c.requires.fit c.in_ok-given.ensures.1.sequential
 
 pub returns : goal.returns
 returns c =
