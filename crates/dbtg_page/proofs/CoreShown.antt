@@ -57,7 +57,7 @@ ticket_shown c schema answer same is =
     row_shown c answer
     ∙ ap (core_row (machine c)) (is ∙ ap (λ (s : Lists). newest_answer s c.history) (sym same) ∙ ap (newest_answer c.schema) (history_shown c))
 
--- one move more: its rows stand in front of those of the rest
+-- one move more: its rows stand before those of the rest
 pub move_shown : (out more : List ℕ) (old new : CoreState) (m : Move) (ms rest : List Move) (whole : List ℕ) → ms ≡ m ∷ rest → new ≡ after_move old m
     → more ≡ out ++ move_rows old m → out ++ rows_of_moves old ms ≡ whole → more ++ rows_of_moves new rest ≡ whole
 move_shown out more old new m ms rest whole split moved pushed before =

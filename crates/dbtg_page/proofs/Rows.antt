@@ -1,9 +1,14 @@
 -- Worked rows of the data.
-use Rattle.std.proofs.Common.{◌≡◌, [], ◌∷◌, true, refl}
-use Rattle.std.specs.Prelude.{codes, decimal}
-use Rattle.dbtg_timeline.specs.declared.event.Mark.TheVariants.{Blocked, Ticket}
+use Rattle.std.proofs.Common.{◌≡◌, [], ◌∷◌, ◌++◌, true, refl, ap, ◌∙◌, Some, None}
+use Rattle.std.specs.Prelude.{codes, decimal, option_and_then, option_map, slice_get, unwrap_or}
+use Rattle.dbtg_cells.specs.declared.name.CellName.TheVariants.{Usage}
+use Rattle.dbtg_step.specs.declared.watching.Newest.{Newest}
+use Rattle.dbtg_step.specs.Core.Newest.{newest_at}
+use Rattle.dbtg_step.specs.Core.Parts.{CoreState}
+use Rattle.dbtg_timeline.specs.declared.event.Mark.TheVariants.{Blocked, TakeArea, TakeCell, Ticket}
+use Rattle.dbtg_timeline.specs.Waiting.{area_name, cell_text}
 use Rattle.dbtg_page.specs.Json.{field, quoted, row}
-use Rattle.dbtg_page.specs.Rows.{event_row}
+use Rattle.dbtg_page.specs.Rows.{about_event, event_row}
 
 -- what HTML or JSON could take for something else is written as its number; so is the end of a line
 marks_are_numbers : quoted (codes "A<B\"C\\\n~") ≡ codes "\"A\\u003cB\\u0022C\\u005c\\u000a~\""
@@ -25,11 +30,23 @@ unfolding row quoted field
 two_strings = refl
 
 -- the ticket of unit 2's eleventh statement, which is refused
-a_refusal : event_row (record { unit = 2; mark = Ticket 12 505; place = 10; midway = true; wait = [] }) ≡ row (codes "EVENT") (decimal 2 ∷ codes "X" ∷ decimal 10 ∷ [] ∷ [])
+a_refusal : (c : CoreState) → event_row c (record { unit = 2; mark = Ticket 12 505; place = 10; midway = true; below = [] }) ≡ row (codes "EVENT") (decimal 2 ∷ codes "X" ∷ decimal 10 ∷ [] ∷ [])
 unfolding event_row
-a_refusal = refl
+a_refusal c = refl
 
 -- unit 2 is blocked
-a_wait : event_row (record { unit = 2; mark = Blocked; place = 0; midway = true; wait = codes "waits for MAIN, held exclusively by unit 1" }) ≡ row (codes "EVENT") (decimal 2 ∷ codes "B" ∷ decimal 0 ∷ codes "waits for MAIN, held exclusively by unit 1" ∷ [])
+a_wait : (c : CoreState) → event_row c (record { unit = 2; mark = Blocked; place = 0; midway = true; below = codes "waits for MAIN, held exclusively by unit 1" }) ≡ row (codes "EVENT") (decimal 2 ∷ codes "B" ∷ decimal 0 ∷ codes "waits for MAIN, held exclusively by unit 1" ∷ [])
 unfolding event_row
-a_wait = refl
+a_wait c = refl
+
+-- a unit took an area, and then a cell
+an_area : (c : CoreState) → c.schema.areas ≡ record { name = codes "MAIN" } ∷ [] → newest_at c 1 ≡ Some (record { area = Some 0; cell = None }) → about_event c 1 TakeArea [] ≡ codes "MAIN"
+an_area c areas newest =
+    ap (λ it. unwrap_or (option_map (area_name c.schema) (option_and_then (λ (it : Newest). it.area) it)) []) newest
+    ∙ ap (λ it. unwrap_or (option_map (λ a. a.name) (slice_get it 0)) []) areas
+
+a_cell : (c : CoreState) → c.schema.areas ≡ record { name = codes "MAIN" } ∷ [] → newest_at c 1 ≡ Some (record { area = Some 0; cell = Some (Usage 0) }) → about_event c 1 TakeCell [] ≡ codes "Usage(MAIN)"
+unfolding cell_text
+a_cell c areas newest =
+    ap (λ it. unwrap_or (option_map (cell_text c.schema) (option_and_then (λ (it : Newest). it.cell) it)) []) newest
+    ∙ ap (λ it. codes "Usage(" ++ unwrap_or (option_map (λ a. a.name) (slice_get it 0)) [] ++ codes ")") areas

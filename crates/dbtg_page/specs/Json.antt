@@ -18,10 +18,10 @@ byte_text b = if is_escaped b then codes "\\u00" ++ digit (b / 16) ∷ digit (b 
 unfoldable pub quoted : List ℕ → List ℕ
 quoted text = 34 ∷ flat_map byte_text text ++ 34 ∷ []
 
--- a string behind another
+-- a string, after another
 unfoldable pub field : List ℕ → List ℕ
 field text = 44 ∷ quoted text
 
--- a row of this kind, and the comma in front of the next
+-- a row of this kind, and the comma before the next
 unfoldable pub row : List ℕ → List (List ℕ) → List ℕ
 row kind fields = 91 ∷ quoted kind ++ flat_map field fields ++ codes "],\n"

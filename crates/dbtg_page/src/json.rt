@@ -55,7 +55,7 @@ fn push_quoted(out: &mut Vec<u8>, text: &[u8]) -> Result<(), AllocError>
     Ok(())
 }
 
-/// A string behind another of its row.
+/// Appends a string to its row.
 #[tactic(auto, unfolding(crate::specs::Json::field))]
 pub fn push_field(out: &mut Vec<u8>, text: &[u8]) -> Result<(), AllocError>
     ensures { OnOk result (out.new.items ≡ out.old.items ++ field text.now) }
@@ -64,7 +64,7 @@ pub fn push_field(out: &mut Vec<u8>, text: &[u8]) -> Result<(), AllocError>
     push_quoted(out, text)
 }
 
-/// The front of a row of this kind.
+/// The start of a row of this kind.
 pub fn push_kind(out: &mut Vec<u8>, kind: &[u8]) -> Result<(), AllocError>
     ensures { OnOk result (out.new.items ≡ out.old.items ++ 91 ∷ quoted kind.now) }
 {
@@ -88,7 +88,7 @@ fn push_fields(out: &mut Vec<u8>, fields: &[Row<u8>]) -> Result<(), AllocError>
     Ok(())
 }
 
-/// A row of this kind with these strings behind it.
+/// A row of this kind that goes on with these strings.
 #[tactic(auto, unfolding(crate::specs::Json::row))]
 pub fn push_row(out: &mut Vec<u8>, kind: &[u8], fields: &[Row<u8>]) -> Result<(), AllocError>
     ensures { OnOk result (out.new.items ≡ out.old.items ++ row kind.now fields.now) }
@@ -98,7 +98,7 @@ pub fn push_row(out: &mut Vec<u8>, kind: &[u8], fields: &[Row<u8>]) -> Result<()
     push_end(out)
 }
 
-/// A row of this kind with three strings behind it.
+/// A row of this kind that goes on with three strings.
 #[tactic(auto, unfolding(crate::specs::Json::row))]
 pub fn push_row_of_three(
     out: &mut Vec<u8>,

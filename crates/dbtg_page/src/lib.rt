@@ -1,4 +1,4 @@
-//! A page in which one steps through a run: HTML with the run's data in it, and with the script that draws them.
+//! A page in which one steps through a run: HTML with the run's data, and with the script that draws them.
 #![tactic(auto)]
 
 mod json;

@@ -1,4 +1,4 @@
-//! The page of a run. The core is stepped move by move; behind each ticket stands what it leads to.
+//! The page of a run. The core is stepped move by move; each ticket is followed by what it leads to.
 ghost use Rattle.std.specs.Prelude.{◌≡◌, ◌++◌, ◌∷◌, ◌≤◌, [], true, length, map, IfOk, OnOk, codes};
 ghost use Rattle.std.specs.List.{flat_map};
 ghost use Rattle.dbtg_schema.specs.Sound.{IsSound};
@@ -12,7 +12,7 @@ ghost use Rattle.std.specs.Option.{option_to_list};
 ghost use Rattle.dbtg_unit.specs.Database.State.Image.{image_of};
 ghost use Rattle.dbtg_timeline.specs.Watching.{opening_core};
 ghost use Rattle.dbtg_page.specs.Json.{row};
-ghost use Rattle.dbtg_page.specs.Rows.{core_row, event_row, front_rows, move_rows, newest_answer, page_text, rows_of_moves, run_rows, state_row, ticket_row};
+ghost use Rattle.dbtg_page.specs.Rows.{about_event, core_row, event_row, front_rows, move_rows, newest_answer, newest_area, newest_cell, page_text, rows_of_moves, run_rows, state_row, ticket_row};
 
 use crate::json::{push_end, push_field, push_kind, push_row, push_row_of_three};
 use crate::markup::MARKUP;
@@ -20,20 +20,20 @@ use crate::script::SCRIPT;
 use dbtg_schema::{Area, RecordType, Row, Schema, SetType};
 use dbtg_script::{image_text, push_answer, push_unit};
 use dbtg_step::Core;
-use dbtg_timeline::{Event, Mark, letter, watch_move};
+use dbtg_timeline::{Event, Mark, area_name, letter, push_cell, watch_move};
 use dbtg_unit::{Entry, Image, Move, Statement};
 use itoa::Buffer;
 use std::alloc::{AllocError, Global};
 
-/// What a page shows beside a run: the text of each statement, by its script and its place there, and what each cause of a refusal
-/// means, a line each.
+/// What a page shows in addition to a run: the text of each statement, by its script and its place there, and the meaning of each cause of
+/// a refusal, one per line.
 #[derive(Clone, Copy)]
 pub struct Told<'a> {
     pub scripts: &'a [Row<Row<u8>>],
     pub causes: &'a [u8],
 }
 
-/// What stays as it is along a run.
+/// What does not change during a run.
 #[derive(Clone, Copy)]
 struct Known<'a> {
     alloc: Global,
@@ -41,7 +41,7 @@ struct Known<'a> {
     units: u8,
 }
 
-// ---- in front of the run
+// ---- before the run
 
 fn names_of_types(alloc: Global, types: &[RecordType]) -> Result<Vec<Row<u8>>, AllocError>
     ensures { IfOk result (λ names. names.items ≡ map (λ t. t.name) types.now) }
@@ -147,7 +147,7 @@ fn newest_answer(known: &Known<'_>, history: &[Entry]) -> Result<Vec<u8>, AllocE
     Ok(text)
 }
 
-// What the history of a core leads to, behind this answer.
+// What the history of a core leads to, after this answer.
 #[tactic(auto, unfolding(crate::specs::Rows::state_row))]
 fn push_state(
     out: &mut Vec<u8>,
@@ -165,21 +165,72 @@ fn push_state(
     push_row_of_three(out, b"STATE", answer, database.as_slice(), units.as_slice())
 }
 
+fn push_newest_area(
+    out: &mut Vec<u8>,
+    known: &Known<'_>,
+    core: &Core,
+    unit: u8,
+) -> Result<(), AllocError>
+    requires { core.now.schema ≡ known.now.schema.now }
+    ensures { OnOk result (out.new.items ≡ out.old.items ++ newest_area (machine core.now) unit) }
+{
+    match core.newest(unit).and_then(|newest| newest.area) {
+        Some(area) => out.extend_from_slice(area_name(known.schema, area)),
+        None => Ok(()),
+    }
+}
+
+fn push_newest_cell(
+    out: &mut Vec<u8>,
+    known: &Known<'_>,
+    core: &Core,
+    unit: u8,
+) -> Result<(), AllocError>
+    requires { core.now.schema ≡ known.now.schema.now }
+    ensures { OnOk result (out.new.items ≡ out.old.items ++ newest_cell (machine core.now) unit) }
+{
+    match core.newest(unit).and_then(|newest| newest.cell) {
+        Some(cell) => push_cell(out, known.schema, cell),
+        None => Ok(()),
+    }
+}
+
+// The area or the cell that an event took, or for what its unit waits.
+fn about_event(known: &Known<'_>, core: &Core, event: &Event) -> Result<Vec<u8>, AllocError>
+    requires { core.now.schema ≡ known.now.schema.now }
+    ensures { IfOk result (λ text. text.items ≡ about_event (machine core.now) event.now.unit event.now.mark event.now.below) }
+{
+    let mut text = Vec::new(known.alloc);
+    match event.mark {
+        Mark::TakeArea => push_newest_area(&mut text, known, core, event.unit)?,
+        Mark::TakeCell => push_newest_cell(&mut text, known, core, event.unit)?,
+        _ => text.extend_from_slice(event.below.as_slice())?,
+    }
+    Ok(text)
+}
+
 #[tactic(auto, unfolding(crate::specs::Rows::event_row, crate::specs::Json::row))]
-fn push_event(out: &mut Vec<u8>, event: &Event) -> Result<(), AllocError>
-    ensures { OnOk result (out.new.items ≡ out.old.items ++ event_row event.now) }
+fn push_event(
+    out: &mut Vec<u8>,
+    known: &Known<'_>,
+    core: &Core,
+    event: &Event,
+) -> Result<(), AllocError>
+    requires { core.now.schema ≡ known.now.schema.now }
+    ensures { OnOk result (out.new.items ≡ out.old.items ++ event_row (machine core.now) event.now) }
 {
     let mut unit = Buffer::new();
     let mut place = Buffer::new();
+    let about = about_event(known, core, event)?;
     push_kind(out, b"EVENT")?;
     push_field(out, unit.format(event.unit).as_bytes())?;
     push_field(out, &[letter(event.mark)])?;
     push_field(out, place.format(event.place).as_bytes())?;
-    push_field(out, event.wait.as_slice())?;
+    push_field(out, about.as_slice())?;
     push_end(out)
 }
 
-// Behind a ticket, what it leads to.
+// After a ticket, what it leads to.
 #[tactic(auto, using(crate::proofs::CoreShown::ticket_shown))]
 fn push_ticket(
     out: &mut Vec<u8>,
@@ -214,7 +265,7 @@ fn push_move(
     ensures text { OnOk result (out.new.items ≡ out.old.items ++ move_rows (machine core.old) one) }
 {
     let event = watch_move(known.alloc, core, one)?;
-    push_event(out, &event)?;
+    push_event(out, known, core, &event)?;
     push_ticket(out, known, core, event.mark)
 }
 
@@ -250,7 +301,7 @@ fn push_run(
     push_moves(out, known, core, moves)
 }
 
-// The run of these moves, from the opening database on.
+// The run of these moves, starting with the opening database.
 #[tactic(auto, using(crate::proofs::CoreShown::begun_schema, crate::proofs::CoreShown::begun_count))]
 fn push_whole_run(
     out: &mut Vec<u8>,
@@ -271,7 +322,7 @@ fn push_whole_run(
     ran
 }
 
-/// The page of the run of these moves, from the opening database on, with a unit for each script. A step that finds no memory ends it.
+/// The page of the run of these moves, starting with the opening database, with a unit for each script. A step without memory ends it.
 #[tactic(auto, unfolding(crate::specs::Rows::page_text))]
 pub fn page_text(
     alloc: Global,

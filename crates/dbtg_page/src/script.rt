@@ -1,4 +1,4 @@
-//! What stands behind a page's data: the end of their list, and the script that draws them.
+//! What follows a page's data: the end of their list, and the script that draws them.
 
 pub static SCRIPT: &str = "\
 []]
@@ -13,6 +13,7 @@ const LETTERS = {
   T: 'draws its ticket', X: 'draws its ticket', l: 'links a cell', p: 'puts a cell back', v: 'leaves an area',
   Q: 'quits, and gives all back', B: 'is blocked: another unit holds what it wants', I: 'is idle',
 };
+const MOST_NAMED = 12;
 const COLOURS = ['#0b7fa0', '#b5179e', '#7b57e0', '#b8660b', '#2b8a3e', '#d6404a', '#2f7fd6', '#868e00'];
 const names = { TYPES: [], SETS: [], AREAS: [] };
 const scripts = [], events = [], states = [], causes = new Map();
@@ -62,11 +63,11 @@ function read() {
       const [answer, image, units] = fields;
       if (events.length > 0) events[events.length - 1].answer = answerOf(answer);
       states.push({ after: events.length, line: answer, text: image, units, image: imageOf(image), currents: linesOf(units).map(currentsOf) });
-    } else if (kind === 'EVENT') events.push({ unit: Number(fields[0]), letter: fields[1], place: Number(fields[2]), wait: fields[3] });
+    } else if (kind === 'EVENT') events.push({ unit: Number(fields[0]), letter: fields[1], place: Number(fields[2]), about: fields[3] });
   }
 }
 
-// ---- where the units are after so many events
+// ---- where the units are after a number of events
 
 function stateAfter(n) {
   let found = 0;
@@ -75,19 +76,19 @@ function stateAfter(n) {
 }
 
 function unitsAfter(n) {
-  const units = scripts.map(() => ({ answers: [], areas: 0, cells: 0, open: false, ticket: false, waits: '' }));
-  for (const { unit, letter, answer, wait } of events.slice(0, n)) {
+  const units = scripts.map(() => ({ answers: [], areas: [], cells: [], open: false, ticket: false, waits: '' }));
+  for (const { unit, letter, answer, about } of events.slice(0, n)) {
     const it = units[unit - 1];
     if (!it) continue;
-    it.waits = wait;
+    it.waits = letter === 'B' ? about : '';
     if (letter === 'b') Object.assign(it, { open: true, ticket: false });
-    if (letter === 'a') it.areas += 1;
-    if (letter === 'c') it.cells += 1;
-    if (letter === 'p' || letter === 'r') it.cells -= 1;
-    if (letter === 'v') it.areas -= 1;
-    if (letter === 'Q') Object.assign(it, { areas: 0, cells: 0, open: false });
+    if (letter === 'a') it.areas.push(about);
+    if (letter === 'c') it.cells.push(about);
+    if (letter === 'p' || letter === 'r') it.cells.pop();
+    if (letter === 'v') it.areas.pop();
+    if (letter === 'Q') Object.assign(it, { areas: [], cells: [], open: false });
     if (answer) it.ticket = it.answers.push(answer) > 0;
-    if (it.ticket && it.areas + it.cells === 0) it.open = false;
+    if (it.ticket && it.areas.length + it.cells.length === 0) it.open = false;
   }
   return units;
 }
@@ -168,7 +169,7 @@ function placeRecords(room) {
 const escaped = (text) => text.replaceAll('&', '&amp;').replaceAll('<', '&lt;').replaceAll('>', '&gt;');
 const word = (kind, x, y, text, rest = '') => `<text class='${kind}' x='${x}' y='${y}' ${rest}>${escaped(text)}</text>`;
 
-// From one box to another: straight to the next in a row, else bent from below or above.
+// From one box to another: straight to the next in a row, otherwise bent from below or above.
 function path(from, to, shift) {
   const [a, b] = [from.x + from.width / 2 + shift, to.x + to.width / 2 + shift];
   if (to.y > from.y) {
@@ -254,17 +255,24 @@ function picture(state, before, currents) {
 
 function told(n) {
   if (n === 0) return '<p>The opening database. Step on with the arrow keys: right and left by event, down and up by ticket.</p>';
-  const { unit, letter, answer, wait } = events[n - 1];
+  const { unit, letter, answer, about } = events[n - 1];
   const first = `<b>Unit ${unit}</b> ${LETTERS[letter]} &middot; <code>${escaped(statementOf(events[n - 1]))}</code>`;
-  if (!answer) return `<p>${first}</p>${wait && `<p>It ${escaped(wait)}.</p>`}`;
+  if (!answer) return `<p>${first}</p>${about && `<p>It ${letter === 'B' ? '' : 'takes '}${escaped(about)}.</p>`}`;
   const [, name, meaning, next] = answer.cause || ['', '', '', ''];
   const status = `<span class='status${answer.refused ? ' refused' : ''}' style='display:inline'>${answer.status}</span>`;
   if (!answer.refused) return `<p>${first}</p><p>Ticket ${answer.ticket}: ${status} done ${escaped(answer.found)}</p>`;
   return `<p>${first}</p><p>Ticket ${answer.ticket}: ${status} refused, <b>${escaped(name)}</b>. ${escaped(meaning)} <i>${escaped(next)}</i></p>`;
 }
 
+// What a unit holds, in the order of taking; of many the last ones.
+function holding({ areas, cells }) {
+  if (areas.length + cells.length === 0) return 'holds nothing';
+  const left = cells.length > MOST_NAMED ? [`${cells.length - MOST_NAMED} cells`] : [];
+  return `holds ${[...areas, ...left, ...cells.slice(-MOST_NAMED)].join(', ')}`;
+}
+
 function lane(it, number, chosen, event) {
-  const holds = it.areas + it.cells > 0 ? `holds areas ${it.areas}, cells ${it.cells}` : 'holds nothing';
+  const holds = escaped(holding(it));
   const statements = scripts[number - 1].map((text, place) => {
     const answer = it.answers[place];
     const kinds = [answer && 'made', it.open && place === it.answers.length - (it.ticket ? 1 : 0) && 'open', event && event.unit === number && event.place === place && 'now'];
@@ -314,7 +322,7 @@ function show(n) {
   if (here) here.scrollIntoView({ block: 'nearest' });
 }
 
-// A unit that is picked stays chosen until it is picked again; else it is the unit of the event.
+// A unit that is picked stays chosen until it is picked again; otherwise it is the unit of the event.
 function pick(unit) {
   if (unit > scripts.length) return;
   picked = picked === unit ? 0 : unit;
