@@ -4,6 +4,7 @@ use Rattle.std.proofs.Common.{◌≡◌, ℕ, zero, suc, ◌+◌, Bool, true, fa
 use Rattle.std.specs.Prelude.{⊤, flat_map, if◌then◌else◌, nat_lt, option_and_then}
 use Rattle.std.specs.List.{list_all}
 use Rattle.dbtg_schema.specs.Lists.{Lists}
+use Rattle.dbtg_unit.specs.declared.limits.TheConstants.{MOST_STATEMENTS}
 use Rattle.dbtg_unit.specs.declared.statement.Statement.{Statement}
 use Rattle.dbtg_unit.specs.declared.unit.Entry.{Entry}
 use Rattle.dbtg_unit.specs.Database.State.Image.{image_of}
@@ -19,7 +20,7 @@ use Rattle.dbtg_program.specs.Going.{Due, Step, at_line, due, ended, ends, from_
 use Rattle.dbtg_step.specs.Machine.SequentialDatabase.{unit_at}
 use Rattle.dbtg_step.proofs.Public.{fits_more}
 use Rattle.dbtg_going.specs.Turns as turns
-use Rattle.dbtg_going.specs.Turns.{after_turns, comes, made, most, statement_due, statement_of}
+use Rattle.dbtg_going.specs.Turns.{after_turns, comes, made, statement_due, statement_of}
 use Rattle.dbtg_outcomes.specs.Inside.Spelling.{behind, image_apart, list_apart, unit_apart, value_apart}
 use Rattle.dbtg_outcomes.specs.Spelling.{Apart, image_numbers, list_numbers, unit_numbers, value_numbers}
 use Rattle.dbtg_outcomes.proofs.States.SameImages.{same_databases}
@@ -156,7 +157,7 @@ module _ (m : Meeting) where
   fit_turns history (u ∷ us) h =
       fit_turns (turns.after_turn m.schema m.capacity m.programs history u) us
       (fit_made history u (statement_of m.schema m.programs history u) h
-      (of_due (unit_at m.programs u) (λ (p : Program). turns.due_after m.schema (length (entries_of u history)) (comes m.schema p u history)) (λ p s e. few_fits (nat_lt (length (entries_of u history)) most) (comes m.schema p u history) s e)))
+      (of_due (unit_at m.programs u) (λ (p : Program). turns.due_after m.schema (length (entries_of u history)) (comes m.schema p u history)) (λ p s e. few_fits (nat_lt (length (entries_of u history)) MOST_STATEMENTS) (comes m.schema p u history) s e)))
 
   pub order_fits : (o : List ℕ) → AllFit (history_of m o)
   order_fits o = fit_order (beginning m) o (fit_turns [] m.begun refl)

@@ -1,4 +1,4 @@
--- All that programs can come to when they meet.
+-- Everything that programs can come to when they meet.
 -- m is a meeting, u a unit.
 use Rattle.std.specs.Prelude.{ℕ, ◌≡◌, ◌<◌, ◌++◌, true, IfSome, Contains, length}
 use Rattle.dbtg_explore.specs.declared.explored.Endless.{Endless}

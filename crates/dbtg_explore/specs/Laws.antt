@@ -19,8 +19,8 @@ use Rattle.dbtg_explore.specs.Orders.{IsEnd, Meeting, beginning, can_go_on, hist
 use Rattle.dbtg_explore.specs.Results.{reached_of, result_text}
 use Rattle.dbtg_explore.specs.States.{state_after}
 
--- the statements of a history are those of the programs, each to its end: it begins as the meeting does; the entries of each unit are of its
--- program; the last program makes none behind that as long as it has to wait; and at the end no program can go on
+-- the statements of a history are those of the programs, each to its end: it begins like the meeting; the entries of each unit are of its
+-- program; the last program makes none after that as long as it has to wait; and at the end no program can go on
 pub record MakesAll (m : Meeting) (history : List Entry) : Type 0 where
   pub rest : List Entry
   pub begins : history ≡ beginning m ++ rest
@@ -28,7 +28,7 @@ pub record MakesAll (m : Meeting) (history : List Entry) : Type 0 where
   pub waited : (before after : List Entry) (e : Entry) → rest ≡ before ++ e ∷ after → waits m (beginning m ++ before) e.unit ≡ false
   pub at_end : (u : ℕ) → can_go_on m history u ≡ false
 
--- what is printed of a run behind `--`, but that the units that have an area open stand in the order of their numbers
+-- what is printed of a run after `--`, except that the units that have an area open are in the order of their numbers
 abbrev pub text_of_run : Meeting → Run → List ℕ
 text_of_run m run =
     run_text m.schema [] run.image.records run.image.lists run.image.next (map (by_unit (range_with_len 1 (length m.programs))) run.image.usage) run.units

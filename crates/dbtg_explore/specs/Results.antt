@@ -65,7 +65,7 @@ pub record Fails (m : Meeting) (f : Failure) : Type 0 where
   pub ended_is : unit_at (state_of m order).programs f.unit ≡ Some (ended state f.how)
   pub is_failure_is : is_failure f.how ≡ true
 
--- the line of an end, and behind it the number of its kind
+-- the line of an end, and after it the number of its kind
 abbrev pub end_numbers : End → List ℕ
 end_numbers Stop = 0 ∷ 0 ∷ []
 end_numbers (Assert line) = line ∷ 1 ∷ []

@@ -1,4 +1,4 @@
-//! A way that programs can go round for ever. A guess at one counts only where going it once has come back.
+//! A way that programs can go round for ever. A guess at one counts only if going round it once has come back.
 
 ghost use Rattle.dbtg_explore.specs.Explored.{IsEndless};
 ghost use Rattle.dbtg_explore.specs.Inside.Places.{IsPlace, IsPlaceOf};
@@ -14,7 +14,7 @@ use crate::search::Search;
 use dbtg_schema::Row;
 use std::alloc::{AllocError, Global};
 
-// Has the unit a turn in the round, if it can have one here?
+// Does the unit have a turn in the round, if it can have one here?
 fn has_one(meeting: &Meeting, here: &Place, round: &[u8], unit: u8) -> bool
     requires here { IsPlace meeting.now here.now }
     ensures { result ≡ true → can_turn meeting.now here.now.database.history unit ≡ true → Contains round.now unit }
@@ -26,7 +26,7 @@ fn has_one(meeting: &Meeting, here: &Place, round: &[u8], unit: u8) -> bool
     }
 }
 
-// Has each unit?
+// Does each unit?
 fn has_each(meeting: &Meeting, here: &Place, round: &[u8]) -> bool
     requires meeting { IsMeeting meeting.now }
     requires here { IsPlace meeting.now here.now }
@@ -40,7 +40,7 @@ fn has_each(meeting: &Meeting, here: &Place, round: &[u8]) -> bool
     true
 }
 
-// Goes on by these turns, if they can be had.
+// Takes these turns, if they can be had.
 fn go<'a>(
     alloc: Global,
     meeting: &Meeting<'a>,
@@ -59,7 +59,7 @@ fn go<'a>(
     Ok(true)
 }
 
-// Goes round once, and sees whether it comes back to the same state.
+// Goes round once, and checks whether it comes back to the same state.
 fn comes_back<'a>(
     alloc: Global,
     meeting: &Meeting<'a>,
@@ -78,7 +78,7 @@ fn comes_back<'a>(
     Ok(after.as_slice() == before.as_slice())
 }
 
-// Can programs that are here go round so for ever, with no unit kept waiting?
+// Can programs that are here go round like this for ever, with no unit kept waiting?
 fn goes_round<'a>(
     alloc: Global,
     meeting: &Meeting<'a>,
@@ -95,7 +95,7 @@ fn goes_round<'a>(
     comes_back(alloc, meeting, here, round)
 }
 
-// Can programs go round so for ever behind these turns?
+// Can programs go round like this for ever after these turns?
 fn is_endless(
     alloc: Global,
     meeting: &Meeting,
@@ -112,7 +112,7 @@ fn is_endless(
     endless
 }
 
-/// A way to go round for ever, if the search has shown one. It is one; that it is there wherever there is one is not promised.
+/// A way to go round for ever, if the search has shown one. It is not promised that one is found whenever there is one.
 pub fn endless_in(
     alloc: Global,
     meeting: &Meeting,

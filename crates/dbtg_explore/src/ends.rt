@@ -78,7 +78,7 @@ fn note_result(
 }
 
 impl Ends {
-    /// None.
+    /// Nothing noted.
     pub fn none(alloc: Global) -> Self
         ensures { (m : MeetingOfPrograms) → AreEndsOf m [] result }
     {

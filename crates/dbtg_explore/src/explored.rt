@@ -1,4 +1,4 @@
-//! All that programs can come to when they meet.
+//! Everything that programs can come to when they meet.
 
 ghost use Rattle.dbtg_explore.specs.Explored.{IsExplored};
 ghost use Rattle.dbtg_explore.specs.Inside.Visits.{HasVisited, IsThrough, IsVisited};
@@ -11,7 +11,7 @@ use crate::endless::endless_in;
 use crate::ends::Ends;
 use crate::meeting::Meeting;
 use crate::search::Search;
-use dbtg_outcomes::Stop;
+use dbtg_outcomes::{Stop, Watch};
 use dbtg_program::End;
 use dbtg_schema::Row;
 use std::alloc::Global;
@@ -30,7 +30,7 @@ pub struct Endless {
     pub round: Row<u8>,
 }
 
-/// All that programs can come to: how many states there are, the turns that lead to each result, the failures, and perhaps a way round.
+/// Everything that programs can come to: how many states there are, the turns that lead to each result, the failures, and maybe a way round.
 #[derive(Drop)]
 pub struct Explored {
     pub states: u64,
@@ -39,7 +39,7 @@ pub struct Explored {
     pub endless: Option<Endless>,
 }
 
-// The state to which the order at this place leads: what can be next is found, and its ends are noted.
+// The state to which the order at this place leads: finds what can be next, and notes its ends.
 fn visit(
     alloc: Global,
     meeting: &Meeting,
@@ -67,7 +67,12 @@ fn visit(
 }
 
 // All states.
-fn visit_all(alloc: Global, meeting: &Meeting, limit: usize) -> Result<(Search, Ends), Stop>
+fn visit_all<W: Watch>(
+    alloc: Global,
+    watch: &W,
+    meeting: &Meeting,
+    limit: usize,
+) -> Result<(Search, Ends), Stop>
     requires meeting { IsMeeting meeting.now }
     ensures through { IfOk result (λ all. IsThrough meeting.now limit all.0 all.1) }
     ensures stopped { IfErr result (λ stop. stop ≡ States → HasMoreStates meeting.now limit) }
@@ -77,20 +82,26 @@ fn visit_all(alloc: Global, meeting: &Meeting, limit: usize) -> Result<(Search, 
     let mut place = 0;
     while place < search.found.len() {
         visit(alloc, meeting, &mut search, &mut ends, place)?;
+        watch.seen(search.found.len());
         place += 1;
     }
     Ok((search, ends))
 }
 
-/// All that programs can come to when they meet, whatever the order of their statements. It stops where there are more states than the
+/// Everything that programs can come to when they meet, whatever the order of their statements. It stops if there are more states than the
 /// limit.
-pub fn explore(alloc: Global, meeting: &Meeting, limit: usize) -> Result<Explored, Stop>
+pub fn explore<W: Watch>(
+    alloc: Global,
+    watch: &W,
+    meeting: &Meeting,
+    limit: usize,
+) -> Result<Explored, Stop>
     requires { IsMeeting meeting.now }
     ensures explored { IfOk result (IsExplored meeting.now) }
     ensures within { IfOk result (λ all. all.states ≤ limit) }
     ensures stopped { IfErr result (λ stop. stop ≡ States → HasMoreStates meeting.now limit) }
 {
-    let (search, ends) = visit_all(alloc, meeting, limit)?;
+    let (search, ends) = visit_all(alloc, watch, meeting, limit)?;
     let endless = endless_in(alloc, meeting, &search)?;
     let Ends { results, failures } = ends;
     Ok(Explored {

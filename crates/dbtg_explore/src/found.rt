@@ -25,7 +25,7 @@ impl Model for Found {
 }
 
 impl Found {
-    /// None.
+    /// No orders.
     pub fn none(alloc: Global) -> Self
         ensures { result ≡ record { keys = []; orders = [] } }
     {
@@ -50,7 +50,7 @@ impl Found {
         self.orders[place].as_slice()
     }
 
-    /// Puts an order behind the others, if its key is new. Gives the place of the key.
+    /// Appends an order, if its key is new. Gives the place of the key.
     pub fn enter(&mut self, key: Vec<u64>, order: Row<u8>) -> Result<usize, AllocError>
         ensures { OnOk result (IsEntered self.old key.items order self.new) }
     {

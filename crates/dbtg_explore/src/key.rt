@@ -1,4 +1,4 @@
-//! The state of a meeting as numbers, that tell it from others.
+//! The state of a meeting as numbers, which tell it from others.
 
 ghost use Rattle.dbtg_explore.specs.Inside.Keys.{due_numbers, how_numbers, state_numbers};
 ghost use Rattle.dbtg_explore.specs.Inside.Places.{IsPlace};
@@ -68,7 +68,7 @@ fn spell_programs(goings: &[Going], out: &mut Vec<u64>) -> Result<(), AllocError
 }
 
 impl<'a> Meeting<'a> {
-    /// The state of a place as numbers. Two places have the same numbers just where they have the same state.
+    /// The state of a place as numbers. Two places have the same numbers exactly if they have the same state.
     pub(crate) fn state_key(&self, alloc: Global, place: &Place) -> Result<Vec<u64>, AllocError>
         requires { IsPlace self.now place.now }
         ensures { IfOk result (λ key. key.items ≡ state_numbers self.now (state_after self.now place.now.database.history)) }

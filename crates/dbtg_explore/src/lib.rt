@@ -1,4 +1,4 @@
-//! All that programs can come to when they meet: every order of their statements, by the states to which they lead.
+//! Everything that programs can come to when they meet: every order of their statements, by the states to which they lead.
 #![tactic(auto)]
 
 mod endless;
@@ -13,7 +13,9 @@ mod meeting;
 mod place;
 mod search;
 mod text;
+mod told;
 
 pub use explored::{Endless, Explored, Failure, explore};
 pub use laws::every_run_comes_out;
 pub use meeting::Meeting;
+pub use told::told_text;

@@ -1,4 +1,4 @@
-//! Programs that meet, and the turns that they can have.
+//! Programs that meet, and the turns that they can take.
 
 ghost use Rattle.dbtg_explore.specs.Inside.Places.{AreStanding, HasTurned, HaveTurned, IsPlace, IsPlaceOf};
 ghost use Rattle.dbtg_explore.specs.Orders.{CanFollow, IsMeeting, IsOrder, can_go_on, can_turn, due_of, waits};
@@ -20,9 +20,9 @@ pub struct Meeting<'a> {
     pub schema: &'a Schema,
     pub capacity: u16,
     pub programs: &'a [Program],
-    /// The turns that are behind when they meet.
+    /// The turns that were taken before they meet.
     pub begun: &'a [u8],
-    /// The last program has its turns only where no other can go on.
+    /// The last program has its turns only if no other can go on.
     pub last_waits: bool,
 }
 
@@ -43,7 +43,7 @@ impl<'a> Meeting<'a> {
         self.programs.len() as u8
     }
 
-    /// Where the programs meet.
+    /// The place where the programs meet.
     pub(crate) fn begin(&self, alloc: Global) -> Result<Place<'a>, AllocError>
         requires { IsMeeting self.now }
         ensures { IfOk result (IsPlaceOf self.now []) }

@@ -11,7 +11,7 @@ pub struct Place<'a> {
 }
 
 impl<'a> Place<'a> {
-    /// Lets go of it, and of its memory.
+    /// Drops the place.
     pub fn discard(self) {
         let Place { database, goings } = self;
         database.discard();

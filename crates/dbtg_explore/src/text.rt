@@ -13,11 +13,10 @@ ghost use Rattle.std.specs.Prelude.{◌≡◌, ◌++◌, [], length, map, IfOk};
 
 use crate::meeting::Meeting;
 use crate::place::Place;
-use dbtg_going::{Going, Reached, Standing, push_programs};
-use dbtg_outcomes::usage_by_unit;
+use crate::told::told_text;
+use dbtg_going::{Going, Reached, Standing};
 use dbtg_program::{Due, End};
 use dbtg_schema::Row;
-use dbtg_script::push_run;
 use dbtg_step::Run;
 use std::alloc::{AllocError, Global};
 
@@ -79,21 +78,18 @@ impl<'a> Meeting<'a> {
         }
     }
 
-    // What is printed of a run and its programs, but that the units that have an area open stand in the order of their numbers.
+    // What is printed of a run and its programs.
     fn text_of(&self, alloc: Global, run: Run, reached: &[Reached]) -> Result<Vec<u8>, AllocError>
         requires { IsMeeting self.now }
         ensures { IfOk result (λ text. text.items ≡ run_text self.now.schema [] run.image.records run.image.lists run.image.next (map (by_unit (range_with_len 1 (length self.now.programs))) run.image.usage) run.units ++ programs_text 1 self.now.programs reached.now) }
     {
         let mut run = run;
-        let mut out = Vec::new(alloc);
-        run.image.usage = usage_by_unit(alloc, run.image.usage.as_slice(), self.units())?;
-        let (image, units) = (&run.image, run.units.as_slice());
-        push_run(alloc, &mut out, self.schema, &[], image, units)?;
-        push_programs(&mut out, self.programs, reached)?;
-        Ok(out)
+        let text = told_text(alloc, self.schema, self.programs, &mut run, reached);
+        run.discard();
+        text
     }
 
-    /// What is printed of a place behind `--`, but that the units that have an area open stand in the order of their numbers.
+    /// What is printed of a place after `--`, except that the units that have an area open are in the order of their numbers.
     pub(crate) fn into_text(&self, alloc: Global, place: Place<'a>) -> Result<Vec<u8>, AllocError>
         requires meeting { IsMeeting self.now }
         requires place { IsPlace self.now place }

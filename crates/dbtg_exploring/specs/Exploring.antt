@@ -1,6 +1,6 @@
--- What `explore` prints of the texts that a source gives, and which fault it tells.
--- told are the turns that are told, none where the source gives none; asked is what an exploration is asked for.
-use Rattle.std.specs.Prelude.{ℕ, ◌≡◌, ◌≤◌, true, not, List, [], ◌++◌, Option, Some, ◌⊎◌, ◌==◌, flat_map, length, map, unwrap_or}
+-- What `explore` prints of the texts that a source gives, and which fault it reports.
+-- told are the turns that are given, none if the source gives none; asked is what an exploration is asked for.
+use Rattle.std.specs.Prelude.{ℕ, ◌≡◌, ◌≤◌, true, not, List, [], Option, Some, ◌⊎◌, ◌==◌, length, map, unwrap_or}
 use Rattle.dbtg_schema.specs.Lists.{Lists}
 use Rattle.dbtg_program.specs.declared.program.Program.{Program}
 use Rattle.dbtg_program.specs.Reading.{program}
@@ -19,9 +19,9 @@ use Rattle.dbtg_explore.specs.Explored.{IsExplored}
 use Rattle.dbtg_explore.specs.Orders.{Meeting}
 use Rattle.dbtg_explore.specs.States.{HasMoreStates}
 use Rattle.dbtg_exploring.specs.declared.setting.Exploring.{Exploring}
-use Rattle.dbtg_exploring.specs.Texts.{AreResultTexts, count_text, endless_text, failure_text}
+use Rattle.dbtg_exploring.specs.Texts.{AreTold}
 
--- the meeting of these programs that is asked for, with the turns that are behind
+-- the meeting of these programs that is asked for, with the turns that were taken
 abbrev pub meeting_of : Lists → List Program → Exploring → List ℕ → Meeting
 meeting_of schema programs asked begun = record {
   schema = schema;
@@ -36,16 +36,14 @@ abbrev pub Begins : Lists → List Program → List ℕ → Exploring → List �
 Begins schema programs told asked begun =
     after_turns schema asked.capacity programs [] begun ≡ after_turns schema asked.capacity programs [] (turns_before asked.around (length programs) (Some told))
 
--- the text tells all that the programs can come to from there on, in no more states than the limit; it is said whether a program fails
+-- the text lists what the programs can come to from there on, in no more states than the limit; it is said whether a program fails
 pub record IsExploration (schema : Lists) (programs : List Program) (told : List ℕ) (asked : Exploring) (printed : Printed) : Type 0 where
   pub begun : List ℕ
   pub begins : Begins schema programs told asked begun
   pub all : Explored
   pub are_all : IsExplored (meeting_of schema programs asked begun) all
   pub within : all.states ≤ asked.limit
-  pub results : List ℕ
-  pub are_results : AreResultTexts schema programs told asked 1 all.results results
-  pub text : printed.text.items ≡ count_text all ++ endless_text told all.endless ++ flat_map failure_text all.failures ++ results
+  pub told_is : AreTold schema programs told asked all printed.text.items
   pub failed_is : printed.failed ≡ not (length all.failures == 0)
 
 -- there are more states than the limit, and the fault says so, unless memory ran out
@@ -62,11 +60,11 @@ IsOver m limit (fault.Trace line cause) = ⊥
 IsOver m limit (fault.Unreadable path) = ⊥
 IsOver m limit fault.ScriptCount = ⊥
 
--- it is so of the programs from there on
+-- the same for the programs from there on
 abbrev pub GivesUp : Lists → List Program → List ℕ → Exploring → Fault → Type 0
 GivesUp schema programs told asked fault = (begun : List ℕ) × Begins schema programs told asked begun × IsOver (meeting_of schema programs asked begun) asked.limit fault
 
--- what is read before programs meet: 1 to 8 programs, and the turns that are told, and nothing is refused
+-- what is read before programs meet: 1 to 8 programs, and the turns that are given, and nothing is refused
 pub record ReadMeeting (holds : TextPlace → List ℕ → Type 0) (count : ℕ) (which : OrderKind) : Type 0 where
   pub counted : is_count count ≡ true
   pub schema : Lists
@@ -85,7 +83,7 @@ told_in read = unwrap_or read.turns []
 abbrev pub ExploresHeld : (TextPlace → List ℕ → Type 0) → ℕ → OrderKind → Exploring → Printed → Type 0
 ExploresHeld holds count which asked printed = (read : ReadMeeting holds count which) × IsExploration read.schema (programs_in read) (told_in read) asked printed
 
--- a fault that is told as of a run; or all is read, and there are too many states
+-- a fault that is reported as for a run; or everything is read, and there are too many states
 abbrev pub ToldOfExploring : (TextPlace → List ℕ → Type 0) → (TextPlace → Fault → Type 0) → Fault → ℕ → OrderKind → Exploring → Type 0
 ToldOfExploring holds fails fault count which asked =
     ToldOfRun holds fails fault count which

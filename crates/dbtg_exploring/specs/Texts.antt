@@ -1,20 +1,26 @@
--- What `explore` prints of all that programs can come to: how many states and results there are, the turns of a way round, the failures,
+-- What `explore` prints of what programs can come to: how many states and results there are, the turns of a way round, the failures,
 -- and then, result by result, turns that lead to it, and what `run` prints with them.
--- told are the turns that are told, as `--turns` has them; asked is what an exploration is asked for; k is the number of a result, order
--- the one that leads to it.
-use Rattle.std.specs.Prelude.{ℕ, ◌≡◌, ◌+◌, List, [], ◌∷◌, ◌++◌, Option, Some, None, codes, decimal, length, take}
+-- told are the turns that are given, as `--turns` has them; asked is what an exploration is asked for; k is the number of a result, order
+-- the one that leads to it; before are the results before it, where results are shown in brief.
+use Rattle.std.specs.Prelude.{ℕ, ◌≡◌, ◌+◌, false, List, [], ◌∷◌, ◌++◌, Option, Some, None, codes, decimal, flat_map, length, map, option_map, take}
+use Rattle.std.specs.List.{range_with_len}
 use Rattle.dbtg_schema.specs.Lists.{Lists}
+use Rattle.dbtg_script.specs.Printing.Texts.{run_text}
 use Rattle.dbtg_script.specs.Printing.WordTexts.{turns_text}
+use Rattle.dbtg_outcomes.specs.declared.brief.Told.{Told}
+use Rattle.dbtg_outcomes.specs.Brief.{none_before, shown_behind}
+use Rattle.dbtg_outcomes.specs.Named.{named}
+use Rattle.dbtg_outcomes.specs.Results.{by_unit}
 use Rattle.dbtg_program.specs.declared.program.Program.{Program}
 use Rattle.dbtg_going.specs.declared.going.ProgramRun.{ProgramRun}
-use Rattle.dbtg_going.specs.Texts.{end_text, given_text}
+use Rattle.dbtg_going.specs.Texts.{end_text, given_text, programs_text}
 use Rattle.dbtg_going.specs.Turns.{IsRunOf, turns_of}
 use Rattle.dbtg_explore.specs.declared.explored.Endless.{Endless}
 use Rattle.dbtg_explore.specs.declared.explored.Explored.{Explored}
 use Rattle.dbtg_explore.specs.declared.explored.Failure.{Failure}
 use Rattle.dbtg_exploring.specs.declared.setting.Exploring.{Exploring}
 
--- behind a space the words of a line, without its line feed; nothing where there is no line
+-- after a space the words of a line, without its line feed; nothing if there is no line
 abbrev pub spaced : List ℕ → List ℕ
 spaced [] = []
 spaced (c ∷ line) = 32 ∷ take (length line) (c ∷ line)
@@ -23,7 +29,7 @@ spaced (c ∷ line) = 32 ∷ take (length line) (c ∷ line)
 abbrev pub count_text : Explored → List ℕ
 count_text all = codes "states " ++ decimal all.states ++ codes ", results " ++ decimal (length all.results) ++ 10 ∷ []
 
--- a word, and turns behind it
+-- a word, followed by turns
 unfoldable pub with_turns : List ℕ → List ℕ → List ℕ
 with_turns word turns = word ++ spaced (turns_text turns)
 
@@ -31,7 +37,7 @@ with_turns word turns = word ++ spaced (turns_text turns)
 abbrev pub way_text : List ℕ → List ℕ → List ℕ
 way_text turns round = with_turns (codes "endless turns") turns ++ with_turns (codes " then") round ++ 10 ∷ []
 
--- nothing where there is no way round
+-- nothing if there is no way round
 abbrev pub endless_text : List ℕ → Option Endless → List ℕ
 endless_text told None = []
 endless_text told (Some e) = way_text (told ++ e.turns) e.round
@@ -44,15 +50,44 @@ failure_text f = codes "fails " ++ decimal f.unit ++ 32 ∷ end_text f.how ++ 10
 abbrev pub result_head : ℕ → List ℕ → List ℕ
 result_head k turns = codes "result " ++ decimal k ++ with_turns (codes "\nturns") turns ++ 10 ∷ []
 
--- the text of result k: its turns, those that are told in front, and all that `run` prints with them
-pub record IsResultText (schema : Lists) (programs : List Program) (told : List ℕ) (asked : Exploring) (k : ℕ) (order : List ℕ) (out : List ℕ) : Type 0 where
+-- what tells a run of programs from others: what is printed behind `--`, but that the units that have an area open stand in the order of
+-- their numbers; and what it leaves behind with records named by their STOREs, and the lines of the programs
+abbrev pub told_of : Lists → List Program → ProgramRun → Told
+told_of schema programs given =
+    let units = range_with_len 1 (length programs) in
+    let image = given.run.image in
+    let lines = programs_text 1 programs given.programs in
+    record {
+      text = run_text schema [] image.records image.lists image.next (map (by_unit units) image.usage) given.run.units ++ lines;
+      named = named false units given.run ++ lines ∷ [];
+    }
+
+-- what is shown of a run of programs: all of it, or in brief what is shown behind others
+abbrev pub shown_text : Lists → List Program → Option (List Told) → ProgramRun → List ℕ
+shown_text schema programs None given = given_text schema programs given
+shown_text schema programs (Some before) given = shown_behind before (told_of schema programs given) (given_text schema programs given)
+
+-- behind those before stands this one too
+abbrev pub and_told : Lists → List Program → Option (List Told) → ProgramRun → Option (List Told)
+and_told schema programs before given = option_map (λ them. them ++ told_of schema programs given ∷ []) before
+
+-- the text of result k: its turns, after those that are given, and what is shown of what `run` prints with them
+pub record IsResultText (schema : Lists) (programs : List Program) (told : List ℕ) (asked : Exploring) (before : Option (List Told)) (k : ℕ) (order : List ℕ) (out : List ℕ) : Type 0 where
   pub given : ProgramRun
   pub is_run : IsRunOf schema asked.capacity programs (turns_of schema asked.capacity programs asked.around (Some (told ++ order))) given
-  pub is_text : out ≡ result_head k (told ++ order) ++ given_text schema programs given
+  pub is_text : out ≡ result_head k (told ++ order) ++ shown_text schema programs before given
 
--- the texts of results, one behind another, the first of them number k
-abbrev pub AreResultTexts : Lists → List Program → List ℕ → Exploring → ℕ → List (List ℕ) → List ℕ → Type 0
-AreResultTexts schema programs told asked k [] out = out ≡ []
-AreResultTexts schema programs told asked k (order ∷ orders) out =
+-- the texts of results, one after another, the first of them number k; in brief behind those before, and after them all stand behind
+abbrev pub AreResultTexts : Lists → List Program → List ℕ → Exploring → Option (List Told) → Option (List Told) → ℕ → List (List ℕ) → List ℕ → Type 0
+AreResultTexts schema programs told asked before after k [] out = (out ≡ []) × (after ≡ before)
+AreResultTexts schema programs told asked before after k (order ∷ orders) out =
     (front : List ℕ) × (back : List ℕ) × (out ≡ front ++ back)
-    × IsResultText schema programs told asked k order front × AreResultTexts schema programs told asked (k + 1) orders back
+    × (is : IsResultText schema programs told asked before k order front)
+    × AreResultTexts schema programs told asked (and_told schema programs before is.given) after (k + 1) orders back
+
+-- all that is printed of what programs come to
+pub record AreTold (schema : Lists) (programs : List Program) (told : List ℕ) (asked : Exploring) (all : Explored) (out : List ℕ) : Type 0 where
+  pub texts : List ℕ
+  pub after : Option (List Told)
+  pub are_texts : AreResultTexts schema programs told asked (none_before asked.brief) after 1 all.results texts
+  pub is_text : out ≡ count_text all ++ endless_text told all.endless ++ flat_map failure_text all.failures ++ texts

@@ -1,4 +1,4 @@
-//! The turns that are behind when programs meet.
+//! The turns that were taken before programs meet.
 
 ghost use Rattle.dbtg_exploring.specs.Exploring.{Begins};
 ghost use Rattle.dbtg_going.specs.Turns.{first_turns, is_heard, turns_before};
@@ -6,8 +6,8 @@ ghost use Rattle.dbtg_schema.specs.Sound.{IsSound};
 ghost use Rattle.std.specs.Prelude.{◌≡◌, ◌≤◌, ◌++◌, IfOk, OnOk, Some, filter, length, map};
 
 use crate::setting::Setting;
-use dbtg_going::{Around, MOST_STATEMENTS, programs_after};
-use dbtg_unit::Entry;
+use dbtg_going::{Around, programs_after};
+use dbtg_unit::{Entry, MOST_STATEMENTS};
 use std::alloc::{AllocError, Global};
 
 // The turns in which the first program goes to its end, if there is one.
@@ -19,11 +19,11 @@ fn first_turns(alloc: Global, around: Around, units: u8) -> Result<Vec<u8>, Allo
         return Ok(turns);
     }
     let unit = around.others(units) + 1;
-    turns.resize(MOST_STATEMENTS as usize, unit)?;
+    turns.resize(MOST_STATEMENTS, unit)?;
     Ok(turns)
 }
 
-// Puts the turns that are heard behind others: all but those of the last program's unit.
+// Appends the turns that count: all but those of the last program's unit.
 fn push_heard(turns: &mut Vec<u8>, around: Around, units: u8, told: &[u8]) -> Result<(), AllocError>
     ensures { OnOk result (turns.new.items ≡ turns.old.items ++ filter (is_heard around units) told.now) }
 {
@@ -49,7 +49,7 @@ fn turns_before(
     Ok(turns)
 }
 
-// Whose statements they are.
+// The units whose statements they are.
 fn units_of(alloc: Global, history: &[Entry]) -> Result<Vec<u8>, AllocError>
     ensures { IfOk result (λ units. units.items ≡ map (λ e. e.unit) history.now) }
 {
@@ -60,7 +60,7 @@ fn units_of(alloc: Global, history: &[Entry]) -> Result<Vec<u8>, AllocError>
     Ok(units)
 }
 
-/// The turns that are behind, each of which makes a statement. The first program is told as many turns as a unit can have, and each
+/// The turns that were taken, each of which makes a statement. The first program is given as many turns as a unit can have, and each
 /// state that is made anew would have them all.
 pub fn begun_turns(alloc: Global, setting: &Setting) -> Result<Vec<u8>, AllocError>
     requires sound { IsSound setting.now.schema.now }

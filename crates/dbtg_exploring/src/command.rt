@@ -15,20 +15,25 @@ use crate::begun::begun_turns;
 use crate::setting::{Exploring, Setting};
 use dbtg_command::{Fault, Source, read_schema};
 use dbtg_explore::{Explored, Meeting, explore};
-use dbtg_outcomes::Stop;
+use dbtg_outcomes::{Stop, Watch};
 use dbtg_replay::replay::check_count;
 use dbtg_running::{Printed, read_programs, turns_wanted};
 use dbtg_schema::{Row, Schema};
 use std::alloc::Global;
 
-// All that programs can come to, unless there are too many states.
-fn explored(alloc: Global, meeting: &Meeting, limit: u64) -> Result<Explored, Fault>
+// Everything that programs can come to, unless there are too many states.
+fn explored<W: Watch>(
+    alloc: Global,
+    watch: &W,
+    meeting: &Meeting,
+    limit: u64,
+) -> Result<Explored, Fault>
     requires { IsMeeting meeting.now }
     ensures done { IfOk result (IsExplored meeting.now) }
     ensures within { IfOk result (λ all. all.states ≤ limit) }
     ensures refused { IfErr result (λ fault. IsOver meeting.now limit fault) }
 {
-    match explore(alloc, meeting, limit as usize) {
+    match explore(alloc, watch, meeting, limit as usize) {
         Ok(all) => Ok(all),
         Err(Stop::Memory) => Err(Fault::Memory),
         Err(Stop::States) => Err(Fault::StatesOver { limit }),
@@ -36,7 +41,7 @@ fn explored(alloc: Global, meeting: &Meeting, limit: u64) -> Result<Explored, Fa
 }
 
 // What is printed of programs that meet.
-fn explore_setting(alloc: Global, setting: &Setting) -> Result<Printed, Fault>
+fn explore_setting<W: Watch>(alloc: Global, watch: &W, setting: &Setting) -> Result<Printed, Fault>
     requires sound { IsSound setting.now.schema.now }
     requires few { length setting.now.programs.now ≤ 255 }
     ensures done { IfOk result (IsExploration setting.now.schema.now setting.now.programs.now setting.now.told.now setting.now.asked) }
@@ -50,14 +55,14 @@ fn explore_setting(alloc: Global, setting: &Setting) -> Result<Printed, Fault>
         begun: begun.as_slice(),
         last_waits: setting.asked.around.last,
     };
-    let all = explored(alloc, &meeting, setting.asked.limit)?;
+    let all = explored(alloc, watch, &meeting, setting.asked.limit)?;
     Ok(Printed {
         text: setting.exploration_text(alloc, &all)?,
         failed: !all.failures.is_empty(),
     })
 }
 
-// The turns, none where none are told.
+// The turns; none if none are given.
 fn told_of(turns: &Option<Row<u8>>) -> &[u8]
     ensures { result.now ≡ unwrap_or turns.now [] }
 {
@@ -68,8 +73,9 @@ fn told_of(turns: &Option<Row<u8>>) -> &[u8]
 }
 
 // What is printed of the programs over a schema that was read.
-fn explore_known<S: Source>(
+fn explore_known<S: Source, W: Watch>(
     alloc: Global,
+    watch: &W,
     source: &S,
     known: &Schema,
     asked: Exploring,
@@ -88,13 +94,14 @@ fn explore_known<S: Source>(
         told: told_of(&turns),
         asked,
     };
-    explore_setting(alloc, &setting)
+    explore_setting(alloc, watch, &setting)
 }
 
-/// What `explore` prints of the schema, the programs and the turns that a source gives, or the first fault: all that the programs can
-/// come to when they meet. The programs stand in the places of scripts, the first and the last one behind the others.
-pub fn explore_programs<S: Source>(
+/// What `explore` prints of the schema, the programs and the turns that a source gives, or the first fault: everything that the programs
+/// can come to when they meet. The programs take the places of scripts, the first and the last one after the others.
+pub fn explore_programs<S: Source, W: Watch>(
     alloc: Global,
+    watch: &W,
     source: &S,
     asked: Exploring,
 ) -> Result<Printed, Fault>
@@ -103,7 +110,7 @@ pub fn explore_programs<S: Source>(
 {
     check_count(source.count())?;
     let known = read_schema(alloc, source)?;
-    let said = explore_known(alloc, source, &known, asked);
+    let said = explore_known(alloc, watch, source, &known, asked);
     known.discard();
     said
 }

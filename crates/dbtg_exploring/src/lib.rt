@@ -1,4 +1,4 @@
-//! The command `explore`: all that the programs of a source can come to when they meet.
+//! The command `explore`: everything that the programs of a source can come to when they meet.
 #![tactic(auto)]
 
 mod begun;

@@ -10,11 +10,13 @@ pub struct Exploring {
     pub capacity: u16,
     /// Is there a program that is made first, and one that is made last?
     pub around: Around,
-    /// How many states may come.
+    /// Results are shown in brief.
+    pub brief: bool,
+    /// How many states are allowed.
     pub limit: u64,
 }
 
-/// Programs, the turns that are told, and what is asked for.
+/// Programs, the turns that are given, and what is asked for.
 #[derive(Clone, Copy)]
 pub struct Setting<'a> {
     pub schema: &'a Schema,

@@ -1,20 +1,24 @@
-//! The text of all that programs can come to.
+//! The text of everything that programs can come to.
 
-ghost use Rattle.dbtg_exploring.specs.Texts.{AreResultTexts, IsResultText, count_text, endless_text, failure_text, result_head, spaced, way_text, with_turns};
-ghost use Rattle.dbtg_going.specs.Texts.{given_text};
+ghost use Rattle.dbtg_exploring.specs.Inside.Shown.{IsShown};
+ghost use Rattle.dbtg_exploring.specs.Texts.{AreResultTexts, AreTold, and_told, count_text, endless_text, failure_text, result_head, shown_text, spaced, told_of, way_text, with_turns};
+ghost use Rattle.dbtg_going.specs.Texts.{programs_text};
 ghost use Rattle.dbtg_going.specs.declared.going.ProgramRun.{ProgramRun};
 ghost use Rattle.dbtg_going.specs.Turns.{IsRunOf, turns_of};
+ghost use Rattle.dbtg_outcomes.specs.declared.brief.Told.{Told as GivenTold};
+ghost use Rattle.dbtg_outcomes.specs.Brief.{none_before};
 ghost use Rattle.dbtg_schema.specs.Sound.{IsSound};
-ghost use Rattle.std.specs.Prelude.{◌≡◌, ◌≤◌, ◌++◌, ℕ, List, IfOk, OnOk, Some, flat_map, length, map};
+ghost use Rattle.std.specs.Prelude.{◌≡◌, ◌≤◌, ◌++◌, List, IfOk, OnOk, Option, Some, flat_map, length};
 
 use crate::setting::Setting;
-use dbtg_explore::{Endless, Explored, Failure};
-use dbtg_going::{push_end, run_programs, run_text};
+use dbtg_explore::{Endless, Explored, Failure, told_text};
+use dbtg_going::{ProgramRun, Reached, push_end, push_programs, run_programs, run_text};
+use dbtg_outcomes::{Told, as_numbers, named, none_before, push_shown};
 use dbtg_schema::Row;
 use dbtg_script::{push_number, turns_text};
 use std::alloc::{AllocError, Global};
 
-// The words of a line behind a space, without the end of the line.
+// The words of a line after a space, without the end of the line.
 fn push_spaced(out: &mut Vec<u8>, line: &[u8]) -> Result<(), AllocError>
     ensures { OnOk result (out.new.items ≡ out.old.items ++ spaced line.now) }
 {
@@ -25,7 +29,7 @@ fn push_spaced(out: &mut Vec<u8>, line: &[u8]) -> Result<(), AllocError>
     out.extend_from_slice(&line[..line.len() - 1])
 }
 
-// Turns, and behind them others.
+// Turns, followed by others.
 fn joined(alloc: Global, turns: &[u8], others: &[u8]) -> Result<Vec<u8>, AllocError>
     ensures { IfOk result (λ all. all.items ≡ turns.now ++ others.now) }
 {
@@ -34,7 +38,7 @@ fn joined(alloc: Global, turns: &[u8], others: &[u8]) -> Result<Vec<u8>, AllocEr
     Ok(all)
 }
 
-// A word, and turns behind it.
+// A word, followed by turns.
 #[tactic(auto, unfolding(crate::specs::Texts::with_turns))]
 fn push_with_turns(
     alloc: Global,
@@ -127,13 +131,64 @@ fn push_result_head(
 }
 
 impl<'a> Setting<'a> {
-    // What `run` prints with these turns.
-    fn printed(&self, alloc: Global, turns: &[u8]) -> Result<Vec<u8>, AllocError>
+    // What tells a run of the programs from others. In the image of the run the units that have an area open then stand in the order of
+    // their numbers.
+    fn told(&self, alloc: Global, given: &mut ProgramRun) -> Result<Told, AllocError>
+        requires few { length self.now.programs.now ≤ 255 }
+        ensures { IfOk result (λ told. told ≡ told_of self.now.schema.now self.now.programs.now given.old) }
+    {
+        let mut facts = named(alloc, false, self.programs.len() as u8, &given.run)?;
+        facts.push(Row::of(self.programs_fact(alloc, given.programs.as_slice())?))?;
+        let (run, reached) = (&mut given.run, given.programs.as_slice());
+        let text = told_text(alloc, self.schema, self.programs, run, reached)?;
+        Ok(Told {
+            text: Row::of(text),
+            named: facts,
+        })
+    }
+
+    // The lines of the programs.
+    fn programs_fact(&self, alloc: Global, reached: &[Reached]) -> Result<Vec<u64>, AllocError>
+        ensures { IfOk result (λ numbers. numbers.items ≡ programs_text 1 self.now.programs.now reached.now) }
+    {
+        let mut lines = Vec::new(alloc);
+        push_programs(&mut lines, self.programs, reached)?;
+        as_numbers(alloc, lines.as_slice())
+    }
+
+    // What is shown of a run of the programs. In brief it then stands behind those before.
+    fn push_given(
+        &self,
+        alloc: Global,
+        out: &mut Vec<u8>,
+        before: &mut Option<Row<Told>>,
+        given: &mut ProgramRun,
+    ) -> Result<(), AllocError>
+        requires few { length self.now.programs.now ≤ 255 }
+        ensures text { OnOk result (out.new.items ≡ out.old.items ++ shown_text self.now.schema.now self.now.programs.now before.old given.old) }
+        ensures behind { OnOk result (before.new ≡ and_told self.now.schema.now self.now.programs.now before.old given.old) }
+    {
+        let whole = run_text(alloc, self.schema, self.programs, given)?;
+        let Some(before) = before else {
+            return out.extend_from_slice(whole.as_slice());
+        };
+        let told = self.told(alloc, given)?;
+        push_shown(out, before, told, whole.as_slice())
+    }
+
+    // What is shown of a run with these turns.
+    fn push_run(
+        &self,
+        alloc: Global,
+        out: &mut Vec<u8>,
+        before: &mut Option<Row<Told>>,
+        turns: &[u8],
+    ) -> Result<(), AllocError>
         requires sound { IsSound self.now.schema.now }
         requires few { length self.now.programs.now ≤ 255 }
-        ensures { IfOk result (λ text. (given : ProgramRun) × IsRunOf self.now.schema.now self.now.asked.capacity self.now.programs.now (turns_of self.now.schema.now self.now.asked.capacity self.now.programs.now self.now.asked.around (Some turns.now)) given × (text.items ≡ given_text self.now.schema.now self.now.programs.now given)) }
+        ensures { OnOk result ((given : ProgramRun) × IsRunOf self.now.schema.now self.now.asked.capacity self.now.programs.now (turns_of self.now.schema.now self.now.asked.capacity self.now.programs.now self.now.asked.around (Some turns.now)) given × (out.new.items ≡ out.old.items ++ shown_text self.now.schema.now self.now.programs.now before.old given) × (before.new ≡ and_told self.now.schema.now self.now.programs.now before.old given)) }
     {
-        let given = run_programs(
+        let mut given = run_programs(
             alloc,
             self.schema,
             self.asked.capacity,
@@ -141,46 +196,50 @@ impl<'a> Setting<'a> {
             self.asked.around,
             Some(turns),
         )?;
-        let text = run_text(alloc, self.schema, self.programs, &given);
+        let pushed = self.push_given(alloc, out, before, &mut given);
         given.discard();
-        text
+        pushed
     }
 
     // The text of one result.
-    fn result_text(&self, alloc: Global, number: u64, order: &[u8]) -> Result<Vec<u8>, AllocError>
+    fn push_result(
+        &self,
+        alloc: Global,
+        out: &mut Vec<u8>,
+        before: &mut Option<Row<Told>>,
+        number: u64,
+        order: &[u8],
+    ) -> Result<(), AllocError>
         requires sound { IsSound self.now.schema.now }
         requires few { length self.now.programs.now ≤ 255 }
-        ensures { IfOk result (λ text. IsResultText self.now.schema.now self.now.programs.now self.now.told.now self.now.asked number order.now text.items) }
+        ensures { OnOk result (IsShown self.now.schema.now self.now.programs.now self.now.told.now self.now.asked number order.now out.old.items out.new.items before.old before.new) }
     {
         let turns = joined(alloc, self.told, order)?;
-        let printed = self.printed(alloc, turns.as_slice())?;
-        let mut out = Vec::new(alloc);
-        push_result_head(alloc, &mut out, number, turns.as_slice())?;
-        out.extend_from_slice(printed.as_slice())?;
-        Ok(out)
+        push_result_head(alloc, out, number, turns.as_slice())?;
+        self.push_run(alloc, out, before, turns.as_slice())
     }
 
     // The texts of all results.
     fn results_text(&self, alloc: Global, results: &[Row<u8>]) -> Result<Vec<u8>, AllocError>
         requires sound { IsSound self.now.schema.now }
         requires few { length self.now.programs.now ≤ 255 }
-        ensures { IfOk result (λ text. AreResultTexts self.now.schema.now self.now.programs.now self.now.told.now self.now.asked 1 results.now text.items) }
+        ensures { IfOk result (λ text. (after : Option (List GivenTold)) × AreResultTexts self.now.schema.now self.now.programs.now self.now.told.now self.now.asked (none_before self.now.asked.brief) after 1 results.now text.items) }
     {
         let mut out = Vec::new(alloc);
+        let mut before = none_before(alloc, self.asked.brief);
         let mut number = 0;
         for order in results {
             number += 1;
-            let text = self.result_text(alloc, number, order.as_slice())?;
-            out.extend_from_slice(text.as_slice())?;
+            self.push_result(alloc, &mut out, &mut before, number, order.as_slice())?;
         }
         Ok(out)
     }
 
-    /// The text of all that the programs can come to.
+    /// The text of everything that the programs can come to.
     pub fn exploration_text(&self, alloc: Global, all: &Explored) -> Result<Vec<u8>, AllocError>
         requires sound { IsSound self.now.schema.now }
         requires few { length self.now.programs.now ≤ 255 }
-        ensures { IfOk result (λ out. (results : List ℕ) × AreResultTexts self.now.schema.now self.now.programs.now self.now.told.now self.now.asked 1 all.now.results results × (out.items ≡ count_text all.now ++ endless_text self.now.told.now all.now.endless ++ flat_map failure_text all.now.failures ++ results)) }
+        ensures { IfOk result (λ out. AreTold self.now.schema.now self.now.programs.now self.now.told.now self.now.asked all.now out.items) }
     {
         let results = self.results_text(alloc, all.results.as_slice())?;
         let mut out = Vec::new(alloc);

@@ -1,3 +1,5 @@
 pub mod Lists
+mod Naming
 pub mod Orders
+mod Rows
 pub mod States

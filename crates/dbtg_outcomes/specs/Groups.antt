@@ -2,7 +2,7 @@
 use Rattle.std.specs.Prelude.{ℕ, Bool, ◌||◌, false, List, [], ◌∷◌, filter, length, map, if◌then◌else◌}
 use Rattle.std.specs.Str.{bytes_eq}
 
--- one of the keys is this
+-- one of the keys equals this one
 abbrev pub among : List (List ℕ) → List ℕ → Bool
 among [] k = false
 among (j ∷ js) k = bytes_eq k j || among js k

@@ -50,7 +50,7 @@ AreInOrder (o ∷ os) = ((p : List (ℕ × Statement)) → Contains os p → IsB
 abbrev pub BeginsWith : List (ℕ × Statement) → List (ℕ × Statement) → Type 0
 BeginsWith front o = (rest : List (ℕ × Statement)) × (front ++ rest ≡ o)
 
--- they are all merges of the scripts that begin with the script that is made first, each once, as a dictionary has them
+-- they are all merges of the scripts that begin with the script that is made first, each once, sorted like a dictionary
 pub record AreAllMerges (first : Bool) (scripts : List (List Statement)) : Type 0 where
   pub all : (o : List (ℕ × Statement)) → IsMerge scripts o → BeginsWith (made_first first scripts) o → Contains (orders first scripts) o
   pub merges : (o : List (ℕ × Statement)) → Contains (orders first scripts) o → IsMerge scripts o
@@ -63,12 +63,12 @@ pub record AreAllMerges (first : Bool) (scripts : List (List Statement)) : Type 
 pub record IsAtEnd (schema : Lists) (capacity : ℕ) (s : State (network schema capacity)) : Type 0 where
   pub each : (u : ℕ) (state : UnitState (network schema capacity)) → unit_at s.units u ≡ Some state → (state.remaining ≡ []) × (state.progress ≡ None)
 
--- the answers of each unit in a run as they are printed, but for their tickets, where they tell results apart
+-- the answers of each unit in a run as they are printed, without their tickets, if they tell results apart
 abbrev pub answers_of_run : Meeting → Run → List (List ℕ)
 answers_of_run m run = if m.tells then map (λ u. answers_text m.schema (map untimed (entries_of u run.history))) (units_of m) else []
 
--- the text of a run by which its result is told from others: these answers, and what is printed behind `--`, but that the units
--- that have an area open stand in the order of their numbers
+-- the text of a run by which its result is told from others: these answers, and what is printed after `--`, except that the units
+-- that have an area open are in the order of their numbers
 abbrev pub text_of_run : Meeting → Run → List ℕ
 text_of_run m run =
     flat_map (λ t. t) (answers_of_run m run) ++ run_text m.schema [] run.image.records run.image.lists run.image.next (map (by_unit (units_of m)) run.image.usage) run.units

@@ -1,6 +1,8 @@
+pub mod Brief
 pub mod Counted
 pub mod Groups
 pub mod Laws
+pub mod Named
 pub mod Orders
 pub mod Outcomes
 pub mod Results

@@ -22,7 +22,7 @@ extended_by scripts order u = option_to_list (option_map (λ x. order ++ (u, x) 
 abbrev pub extended : List (List Statement) → List (ℕ × Statement) → List ℕ → List (List (ℕ × Statement))
 extended scripts order us = flat_map (extended_by scripts order) us
 
--- an order goes on with so many statements more, in every way
+-- an order goes on with this many more statements, in every way
 unfoldable pub completed : List (List Statement) → ℕ → List (ℕ × Statement) → List (List (ℕ × Statement))
 completed scripts zero order = order ∷ []
 completed scripts (suc n) order = flat_map (completed scripts n) (extended scripts order (range_with_len 1 (length scripts)))
@@ -38,12 +38,12 @@ count_statements (script ∷ scripts) = length script + count_statements scripts
 abbrev pub last_of : List (List Statement) → List Statement
 last_of scripts = unwrap_or (slice_get scripts (length scripts - 1)) []
 
--- it is made first, or nothing is
+-- it is made first, or no script is
 abbrev pub first_script : Bool → List (List Statement) → List Statement
 first_script false scripts = []
 first_script true scripts = last_of scripts
 
--- as its unit, the last one, makes it
+-- made by its unit, the last one
 abbrev pub made_first : Bool → List (List Statement) → List (ℕ × Statement)
 made_first first scripts = map (λ x. (length scripts, x)) (first_script first scripts)
 
@@ -54,10 +54,10 @@ others true scripts = take (length scripts - 1) scripts
 
 -- ALL ORDERS
 
--- those that begin with it, up to so many statements of the others
+-- those that begin with it, up to this many statements of the others
 abbrev pub orders_after : Bool → List (List Statement) → ℕ → List (List (ℕ × Statement))
 orders_after first scripts n = completed scripts n (made_first first scripts)
 
--- with all statements of the others, as a dictionary has them by their units
+-- with all statements of the others, sorted like a dictionary by their units
 abbrev pub orders : Bool → List (List Statement) → List (List (ℕ × Statement))
 orders first scripts = orders_after first scripts (count_statements (others first scripts))

@@ -28,13 +28,13 @@ result_of g = record { turns = map (λ s. s.0) g.0; orders = counted g.1 }
 
 -- STATUSES
 
--- unit u's statement, made after this order, has the status of this number
+-- unit u's statement, made after this order, has the status with this number
 pub record HasStatus (m : Meeting) (o : List (ℕ × Statement)) (u : ℕ) (x : Statement) (code : ℕ) : Type 0 where
   pub outcome : Outcome
   pub outcome_is : outcome_of m.schema m.capacity (state_of m o) u x ≡ Some outcome
   pub code_is : code ≡ status_code x outcome.answer.status
 
--- in some order the unit's statement at this place of its script, from 0, comes behind these, and has the status of this number
+-- in some order the unit's statement at this place of its script, from 0, comes after these, and has the status with this number
 pub record Comes (m : Meeting) (u i code : ℕ) : Type 0 where
   pub before : List (ℕ × Statement)
   pub statement : Statement
@@ -48,7 +48,7 @@ abbrev pub AreRising : List ℕ → Type 0
 AreRising [] = ⊤
 AreRising (n ∷ ns) = ((k : ℕ) → Contains ns k → n < k) × AreRising ns
 
--- the statuses of a statement: just those that come, in rising order
+-- the statuses of a statement: exactly those that come, in rising order
 pub record AreStatuses (m : Meeting) (a : Answered) : Type 0 where
   pub rising : AreRising a.statuses.items
   pub come : (code : ℕ) → Contains a.statuses.items code → Comes m a.unit (a.place - 1) code
@@ -65,7 +65,7 @@ places_from u (script ∷ scripts) = map (λ i. (u, i)) (range_with_len 1 (lengt
 
 -- STATES
 
--- how many different states there are after so many statements, behind the script that is made first
+-- how many different states there are after the script that is made first and this many statements
 abbrev pub states_after : Meeting → ℕ → ℕ
 states_after m n = length (groups (state_key m) (orders_after m.first m.scripts n))
 

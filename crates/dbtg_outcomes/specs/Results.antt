@@ -1,4 +1,4 @@
--- What an order leads to: the state after it, and the text by which its result is told from others; and that text as it is shown line
+-- What an order leads to: the state after it, and the text by which its result is told from others; and that text line
 -- by line.
 -- m is a meeting of scripts, u a unit.
 use Rattle.std.specs.Prelude.{ℕ, ◌+◌, ◌==◌, Bool, List, [], ◌∷◌, ◌++◌, map, filter, length, option_map, option_to_list, flat_map, decimal, if◌then◌else◌}
@@ -47,12 +47,12 @@ entries_in schema capacity state [] = []
 entries_in schema capacity state (s ∷ order) =
     entry_in schema capacity state s ++ entries_in schema capacity (after_outcome state s.0 (outcome_of schema capacity state s.0 s.1)) order
 
--- the answers of a unit, as they are printed, but for their tickets
+-- the answers of a unit, as they are printed, without their tickets
 abbrev pub unit_answers : Meeting → List (ℕ × Statement) → ℕ → List ℕ
 unit_answers m order u =
     answers_text m.schema (entries_of u (entries_in m.schema m.capacity (opening_state m.schema (length m.scripts)) order))
 
--- those of each unit, where they tell results apart
+-- those of each unit, if they tell results apart
 abbrev pub answers_told : Meeting → List (ℕ × Statement) → List (List ℕ)
 answers_told m order = if m.tells then map (unit_answers m order) (units_of m) else []
 
@@ -60,7 +60,7 @@ answers_told m order = if m.tells then map (unit_answers m order) (units_of m) e
 abbrev pub by_unit : List ℕ → List (ℕ × Mode) → List (ℕ × Mode)
 by_unit units users = flat_map (λ u. filter (λ e. e.0 == u) users) units
 
--- what is printed behind `--`, but that the units that have an area open stand in the order of their numbers; before it the
+-- what is printed after `--`, except that the units that have an area open are in the order of their numbers; before it the
 -- answers that tell results apart
 abbrev pub result_text : Meeting → List (ℕ × Statement) → List ℕ
 result_text m order =
@@ -78,7 +78,7 @@ state_key m order =
 
 -- LINE BY LINE
 
--- an answer behind its unit and the place of its statement: these stand in place of ticket and unit
+-- an answer after its unit and the place of its statement, instead of ticket and unit
 abbrev pub placed_answer : Lists → ℕ → Entry → List ℕ
 placed_answer schema place e = decimal e.unit ++ 46 ∷ decimal place ++ 32 ∷ behind 32 (behind 32 (answer_text schema e))
 
@@ -91,8 +91,8 @@ placed_answers schema place (e ∷ es) = placed_answer schema place e ++ placed_
 abbrev pub placed_told : Meeting → List Entry → List ℕ
 placed_told m history = if m.tells then flat_map (λ u. placed_answers m.schema 1 (map untimed (entries_of u history))) (units_of m) else []
 
--- what tells the result of a run from others, a line for each answer, and then what is printed behind `--`, but that the units that
--- have an area open stand in the order of their numbers
+-- what tells the result of a run from others, a line for each answer, and then what is printed after `--`, except that the units that
+-- have an area open are in the order of their numbers
 abbrev pub told_text : Meeting → Run → List ℕ
 told_text m run =
     placed_told m run.history ++ run_text m.schema [] run.image.records run.image.lists run.image.next (map (by_unit (units_of m)) run.image.usage) run.units

@@ -12,7 +12,7 @@ use Rattle.dbtg_unit.specs.declared.unit.Currency.{Currency}
 use Rattle.dbtg_unit.specs.declared.unit.Unit as unit
 use Rattle.dbtg_unit.specs.Database.State.Image.{Image}
 
--- whatever is spelled behind two things, where all is spelled alike the things are one, and so is what is behind them
+-- whatever is spelled after two things, if everything is spelled alike the things are equal, and so is what follows them
 abbrev pub Apart : {X : Type 0} → (X → List ℕ) → Type 0
 Apart {X} numbers = (x y : X) (a b : List ℕ) → numbers x ++ a ≡ numbers y ++ b → (x ≡ y) × (a ≡ b)
 
@@ -20,24 +20,24 @@ Apart {X} numbers = (x y : X) (a b : List ℕ) → numbers x ++ a ≡ numbers y 
 abbrev pub one_number : ℕ → List ℕ
 one_number n = n ∷ []
 
--- None is a 0; before what is there stands a 1
+-- None is a 0; a 1 comes before anything else
 abbrev pub option_numbers : {X : Type 0} → (X → List ℕ) → Option X → List ℕ
 option_numbers numbers None = 0 ∷ []
 option_numbers numbers (Some x) = 1 ∷ numbers x
 
--- of a pair the first part, then the second
+-- for a pair the first part, then the second
 abbrev pub pair_numbers : {X Y : Type 0} → (X → List ℕ) → (Y → List ℕ) → X × Y → List ℕ
 pair_numbers f g p = f p.0 ++ g p.1
 
--- before the items stands how many they are
+-- the number of items comes before them
 abbrev pub list_numbers : {X : Type 0} → (X → List ℕ) → List X → List ℕ
 list_numbers numbers xs = length xs ∷ flat_map numbers xs
 
--- of a key its record type, its number and its generation
+-- for a key its record type, its number and its generation
 abbrev pub key_numbers : DbKey → List ℕ
 key_numbers k = k.rtype ∷ k.number ∷ k.generation ∷ []
 
--- SYSTEM is a 0; before the key of a record stands a 1
+-- SYSTEM is a 0; a 1 comes before the key of a record
 abbrev pub owner_numbers : Owner → List ℕ
 owner_numbers System = 0 ∷ []
 owner_numbers (Rec k) = 1 ∷ key_numbers k
@@ -55,26 +55,26 @@ mode_number mode.ExclusiveUpdate = 5
 abbrev pub mode_numbers : Mode → List ℕ
 mode_numbers m = mode_number m ∷ []
 
--- of a current of a set its owner, and where it is
+-- for a current of a set its owner, and where it is
 abbrev pub place_numbers : Place → List ℕ
 place_numbers p = owner_numbers p.owner ++ option_numbers key_numbers p.at
 
--- before a number stands a 0, before a text a 1
+-- a 0 comes before a number, a 1 before a text
 abbrev pub value_numbers : Value → List ℕ
 value_numbers (Num n) = 0 ∷ n ∷ []
 value_numbers (Text t) = 1 ∷ list_numbers one_number t
 
--- of kept records each key, with the version
+-- for kept records each key, with the version
 abbrev pub kept_numbers : List (DbKey × ℕ) → List ℕ
 kept_numbers = list_numbers (pair_numbers key_numbers one_number)
 
--- of the currents those of the run-unit, of the record types, of the areas and of the sets
+-- for the currents those of the run-unit, of the record types, of the areas and of the sets
 abbrev pub currency_numbers : Currency → List ℕ
 currency_numbers c =
     option_numbers key_numbers c.run_unit ++ (list_numbers (option_numbers key_numbers) c.types
     ++ (list_numbers (option_numbers key_numbers) c.areas ++ list_numbers (option_numbers place_numbers) c.sets))
 
--- of a unit its number, its currents, its usage modes and what it keeps
+-- for a unit its number, its currents, its usage modes and what it keeps
 abbrev pub unit_numbers : unit.Unit → List ℕ
 unit_numbers u =
     one_number u.number ++ (currency_numbers u.currency ++ (list_numbers (option_numbers mode_numbers) u.modes ++ kept_numbers u.kept))

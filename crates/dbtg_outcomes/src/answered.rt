@@ -1,4 +1,4 @@
-//! The statuses that each statement has, over all orders.
+//! The statuses that each statement can have, over all orders.
 ghost use Rattle.std.specs.Prelude.{◌≡◌, ◌≤◌, ◌<◌, ◌==◌, ◌&&◌, length, IfOk, OnOk};
 ghost use Rattle.dbtg_outcomes.specs.Inside.Statuses.{AreAllAnswered, AreAnswered, AreOfNotes, IsAnswered, IsEntered, TakesNote};
 
@@ -15,7 +15,7 @@ pub struct Answered {
     pub statuses: Vec<u16>,
 }
 
-// A status into its place, if it is not there.
+// Inserts a status in its place, if it is not there.
 fn enter_status(statuses: &mut Vec<u16>, status: u16) -> Result<(), AllocError>
     ensures { OnOk result (IsEntered statuses.old.items status statuses.new.items) }
 {
@@ -28,14 +28,14 @@ fn enter_status(statuses: &mut Vec<u16>, status: u16) -> Result<(), AllocError>
     }
 }
 
-// The note is of the statement of this unit at this place, from 0.
+// Is the note about the statement of this unit at this place, from 0?
 fn is_of(note: Note, unit: u8, place: usize) -> bool
     ensures { result ≡ (note.unit == unit && note.place == place) }
 {
     note.unit == unit && note.place == place
 }
 
-// The status of a note goes in, if the note is of this statement.
+// Inserts the status of a note, if the note is about this statement.
 fn enter_noted(
     statuses: &mut Vec<u16>,
     note: Note,
@@ -50,7 +50,7 @@ fn enter_noted(
     Ok(())
 }
 
-// The statuses that are noted of the statement of this unit at this place, from 0.
+// The statuses that are noted for the statement of this unit at this place, from 0.
 fn statuses_of(
     alloc: Global,
     notes: &[Note],
@@ -66,7 +66,7 @@ fn statuses_of(
     Ok(statuses)
 }
 
-// The statement of this unit at this place, from 1, goes behind the others.
+// Appends the statement of this unit at this place, from 1.
 fn answer_one(
     alloc: Global,
     all: &mut Vec<Answered>,
@@ -86,7 +86,7 @@ fn answer_one(
     Ok(())
 }
 
-// So many statements of one unit's script go behind the others.
+// Appends this many statements of one unit's script.
 fn answer_script(
     alloc: Global,
     all: &mut Vec<Answered>,
@@ -102,7 +102,7 @@ fn answer_script(
     Ok(())
 }
 
-/// Every statement of the scripts, with the statuses that are noted of it.
+/// Every statement of the scripts, with the statuses that are noted for it.
 pub fn answered_by(
     alloc: Global,
     scripts: &[Row<Statement>],

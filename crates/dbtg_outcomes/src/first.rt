@@ -13,7 +13,7 @@ use dbtg_step::{Run, WholeDatabase};
 use dbtg_unit::Statement;
 use std::alloc::{AllocError, Global};
 
-// The last of scripts, where it is made first; else no statement.
+// The last of the scripts, if it is made first; otherwise no statement.
 fn first_script(first: bool, scripts: &[Row<Statement>]) -> &[Statement]
     ensures { result.now ≡ first_script first scripts.now }
 {
@@ -26,7 +26,7 @@ fn first_script(first: bool, scripts: &[Row<Statement>]) -> &[Statement]
     }
 }
 
-// The scripts that are left behind it.
+// The scripts that are left after it.
 fn others(first: bool, scripts: &[Row<Statement>]) -> &[Row<Statement>]
     ensures { result.now ≡ others first scripts.now }
 {
@@ -38,7 +38,7 @@ fn others(first: bool, scripts: &[Row<Statement>]) -> &[Row<Statement>]
 }
 
 impl<'a> Meeting<'a> {
-    /// The scripts that are left behind the one that is made first.
+    /// The scripts that are left after the one that is made first.
     pub(crate) fn others(&self) -> &'a [Row<Statement>]
         ensures { result.now ≡ others self.now.first self.now.scripts }
     {
@@ -96,7 +96,7 @@ impl<'a> Meeting<'a> {
         Ok(())
     }
 
-    /// What comes of the script that is made first; the statuses of its statements are noted.
+    /// The result of the script that is made first; the statuses of its statements are noted.
     pub(crate) fn first_run(&self, alloc: Global, notes: &mut Vec<Note>) -> Result<Run, AllocError>
         requires meeting { IsMeeting self.now }
         requires none { notes.old.items ≡ [] }

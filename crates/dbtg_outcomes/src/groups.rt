@@ -1,4 +1,4 @@
-//! Histories in groups: those of one group have the same key. Of each group the first is kept, with the number of orders.
+//! Histories in groups: those of one group have the same key. The first history of each group is kept, with the number of orders.
 ghost use Rattle.std.specs.Prelude.{◌≡◌, ◌++◌, ◌∷◌, ◌<◌, [], false, length, map, IfOk, IfSome, IfNone, OnOk};
 ghost use Rattle.dbtg_outcomes.specs.Inside.Grouped.{IsAdded, IsAt, keys_of};
 ghost use Rattle.dbtg_outcomes.specs.Groups.{among};
@@ -33,7 +33,7 @@ impl Model for Groups {
 }
 
 impl Groups {
-    /// None.
+    /// No groups.
     pub fn none(alloc: Global) -> Self
         ensures { result ≡ [] }
     {
@@ -49,7 +49,7 @@ impl Groups {
         self.groups.len()
     }
 
-    // Where the group of this key is.
+    // The place of the group with this key.
     fn find(&self, key: &[u64]) -> Option<usize>
         ensures found { IfSome result (IsAt self.now key.now) }
         ensures absent { IfNone result (among (keys_of self.now) key.now ≡ false) }
@@ -57,7 +57,7 @@ impl Groups {
         self.groups.get_index_of(key)
     }
 
-    // A group behind the others.
+    // Appends a group.
     fn enter(&mut self, key: Vec<u64>, group: Group) -> Result<(), AllocError>
         requires { among (keys_of self.old) key.items ≡ false }
         ensures { OnOk result (self.new ≡ self.old ++ (key.items, group) ∷ []) }
@@ -66,7 +66,7 @@ impl Groups {
         Ok(())
     }
 
-    /// A history that stands for so many orders: into the group of its key, or a group of its own behind the others.
+    /// Adds a history that stands for this many orders: to the group with its key, or as a new group after the others.
     pub fn add(&mut self, key: Vec<u64>, group: Group) -> Result<(), AllocError>
         ensures { OnOk result (IsAdded self.old key.items group self.new) }
     {

@@ -2,11 +2,14 @@
 ghost use Rattle.std.specs.Prelude.{Bool, List};
 ghost use Rattle.dbtg_unit.specs.declared.statement.Statement as statement;
 ghost use Rattle.dbtg_outcomes.specs.Laws.{AreAllMerges, EveryRunComesOut};
+ghost use Rattle.dbtg_outcomes.specs.Named.{key_name};
 ghost use Rattle.dbtg_outcomes.specs.Outcomes.{IsMeeting};
 ghost use Rattle.dbtg_outcomes.specs.Results.{Meeting};
+ghost use Rattle.dbtg_outcomes.specs.Spelling.{Apart};
+ghost use Rattle.dbtg_cells.specs.declared.key.DbKey.{DbKey};
 
-/// The orders are all merges of the scripts that begin with the script that is made first, each of them once, and stand as a dictionary
-/// has the lists of the units whose turn it is: so the first order of a result is the first of all that lead to it.
+/// The orders are all merges of the scripts that begin with the script that is made first, each of them once, sorted like a dictionary
+/// by the lists of the units whose turn it is: so the first order of a result is the first of all that lead to it.
 pub fn orders_are_all_merges()
     ensures { (first : Bool) (scripts : List (List statement.Statement)) → AreAllMerges first scripts }
 {}
@@ -16,4 +19,10 @@ pub fn orders_are_all_merges()
 /// and the status of each of its statements is one of those that the statement can have.
 pub fn every_run_comes_out()
     ensures { (m : Meeting) → IsMeeting m → EveryRunComesOut m }
+{}
+
+/// Different records have different names, whatever records were stored: so results that are alike but for numbers are made one by
+/// renamings that are one-to-one.
+pub fn names_tell_records_apart()
+    ensures { (stored : List DbKey) → Apart (key_name stored) }
 {}

@@ -2,24 +2,31 @@
 #![tactic(auto)]
 
 mod answered;
+mod brief;
 mod count;
+mod facts;
 mod first;
 mod groups;
 mod laws;
 mod meeting;
+mod names;
 mod notes;
 mod outcomes;
 mod parts;
 mod search;
 mod spelled;
 mod told;
+mod watch;
 mod wishes;
 
 pub use answered::Answered;
-pub use laws::{every_run_comes_out, orders_are_all_merges};
+pub use brief::{Told, none_before, push_shown};
+pub use facts::named;
+pub use laws::{every_run_comes_out, names_tell_records_apart, orders_are_all_merges};
 pub use meeting::{Meeting, as_numbers};
 pub use outcomes::{OneResult, Outcomes, all_outcomes};
 pub use search::Stop;
 pub use spelled::{Spelled, spell_each};
 pub use told::usage_by_unit;
+pub use watch::{Unwatched, Watch};
 pub use wishes::{Wish, broken_turns, is_there};

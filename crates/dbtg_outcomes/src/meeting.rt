@@ -7,8 +7,11 @@ ghost use Rattle.dbtg_unit.specs.Database.Laws.Replaying.{statements_of};
 ghost use Rattle.dbtg_step.specs.Core.Whole.{HasMade};
 ghost use Rattle.dbtg_outcomes.specs.Outcomes.{HasStatus, IsMeeting};
 ghost use Rattle.dbtg_outcomes.specs.Inside.Outcomes.{IsRunOf};
+ghost use Rattle.dbtg_outcomes.specs.Brief.{told_of};
 ghost use Rattle.dbtg_outcomes.specs.Results.{answers_told, placed_told, result_text, state_key, told_text};
 
+use crate::brief::Told;
+use crate::facts::named;
 use crate::spelled::Spelled;
 use crate::told::{answers_by_unit, placed_by_unit, result_text, usage_by_unit};
 use dbtg_schema::{Row, Schema};
@@ -26,7 +29,7 @@ pub struct Meeting<'a> {
     pub scripts: &'a [Row<Statement>],
     /// The last script is made whole before all others.
     pub first: bool,
-    /// The answers that units get tell results apart too.
+    /// Results are also told apart by the answers that units get.
     pub tells_answers: bool,
 }
 
@@ -111,7 +114,7 @@ impl<'a> Meeting<'a> {
         Ok(database)
     }
 
-    /// What comes of a history.
+    /// The run to which a history leads.
     pub(crate) fn replayed(&self, alloc: Global, history: &[Entry]) -> Result<Run, AllocError>
         requires meeting { IsMeeting self.now }
         requires history { IsHistoryOf self.now.schema self.now.capacity (length self.now.scripts) history.now }
@@ -120,7 +123,7 @@ impl<'a> Meeting<'a> {
         self.after(alloc, history)?.into_run()
     }
 
-    /// What comes of a history with one statement more, and the status of that.
+    /// The run to which a history with one more statement leads, and the status of that statement.
     pub(crate) fn extended(
         &self,
         alloc: Global,
@@ -151,7 +154,7 @@ impl<'a> Meeting<'a> {
         }
     }
 
-    /// The answers so far, where they tell results apart.
+    /// The answers so far, if they tell results apart.
     fn answers(&self, alloc: Global, history: &[Entry]) -> Result<Row<Row<u8>>, AllocError>
         requires meeting { IsMeeting self.now }
         requires history { IsHistoryOf self.now.schema self.now.capacity (length self.now.scripts) history.now }
@@ -164,7 +167,7 @@ impl<'a> Meeting<'a> {
         }
     }
 
-    /// The state to which a history leads, as numbers: all that what comes after it depends on.
+    /// The state to which a history leads, as numbers: everything on which what comes after it depends.
     pub(crate) fn state_key(&self, alloc: Global, run: &Run) -> Result<Vec<u64>, AllocError>
         requires meeting { IsMeeting self.now }
         requires run { IsRunOf self.now (statements_of run.now.history) run.now }
@@ -179,7 +182,7 @@ impl<'a> Meeting<'a> {
         Ok(key)
     }
 
-    // The text of the result to which a run leads, byte by byte. In the image of the run the units that have an area open then stand in
+    // The text of the result to which a run leads, byte by byte. In the image of the run the units that have an area open are then in
     // the order of their numbers.
     fn key_told(&self, alloc: Global, run: &mut Run) -> Result<Vec<u64>, AllocError>
         requires meeting { IsMeeting self.now }
@@ -215,7 +218,7 @@ impl<'a> Meeting<'a> {
         Ok((key?, history))
     }
 
-    // The answers of a history with the places of their statements, where they tell results apart.
+    // The answers of a history with the places of their statements, if they tell results apart.
     fn placed_answers(&self, alloc: Global, history: &[Entry]) -> Result<Vec<u8>, AllocError>
         requires { IsMeeting self.now }
         ensures { IfOk result (λ text. text.items ≡ placed_told self.now history.now) }
@@ -227,9 +230,9 @@ impl<'a> Meeting<'a> {
         }
     }
 
-    /// What tells the result of a run from others, line by line: the answers, where they do, and what is printed behind `--`. In the
-    /// image of the run the units that have an area open then stand in the order of their numbers.
-    pub fn told_text(&self, alloc: Global, run: &mut Run) -> Result<Vec<u8>, AllocError>
+    // What tells the result of a run from others, line by line: the answers, if they count, and what is printed after `--`. In the
+    // image of the run the units that have an area open are then in the order of their numbers.
+    fn told_text(&self, alloc: Global, run: &mut Run) -> Result<Vec<u8>, AllocError>
         requires { IsMeeting self.now }
         ensures { IfOk result (λ text. text.items ≡ told_text self.now run.old) }
     {
@@ -238,5 +241,16 @@ impl<'a> Meeting<'a> {
         let (image, units) = (&run.image, run.units.as_slice());
         push_run(alloc, &mut out, self.schema, &[], image, units)?;
         Ok(out)
+    }
+
+    /// What tells a run from others: its text, and what it leaves behind. In the image of the run the units that have an area open then
+    /// stand in the order of their numbers.
+    pub fn told(&self, alloc: Global, run: &mut Run) -> Result<Told, AllocError>
+        requires { IsMeeting self.now }
+        ensures { IfOk result (λ told. told ≡ told_of self.now run.old) }
+    {
+        let facts = named(alloc, self.tells_answers, self.units(), run)?;
+        let text = Row::of(self.told_text(alloc, run)?);
+        Ok(Told { text, named: facts })
     }
 }

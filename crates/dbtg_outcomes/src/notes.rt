@@ -1,4 +1,4 @@
-//! The statuses that statements have in some order, as a search notes them.
+//! The statuses that statements have in some order, noted during a search.
 ghost use Rattle.std.specs.Prelude.{◌≡◌, true, Contains, OnOk};
 ghost use Rattle.dbtg_outcomes.specs.Inside.Statuses.{HasNoted};
 
@@ -12,7 +12,7 @@ pub struct Note {
     pub status: u16,
 }
 
-// The note is there.
+// Is the note there?
 fn is_noted(notes: &[Note], note: Note) -> bool
     ensures { result ≡ true → Contains notes.now note }
 {
@@ -24,7 +24,7 @@ fn is_noted(notes: &[Note], note: Note) -> bool
     false
 }
 
-/// A note goes behind the others, if it is not there.
+/// Appends a note, if it is not there.
 pub fn enter_note(notes: &mut Vec<Note>, note: Note) -> Result<(), AllocError>
     ensures { OnOk result (HasNoted notes.old.items note notes.new.items) }
 {

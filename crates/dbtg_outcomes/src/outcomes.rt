@@ -12,11 +12,12 @@ use crate::count::together;
 use crate::groups::{Group, Groups};
 use crate::meeting::Meeting;
 use crate::search::{Search, Stop};
+use crate::watch::Watch;
 use dbtg_schema::Row;
 use dbtg_unit::Entry;
 use std::alloc::{AllocError, Global};
 
-/// A result: the first order that leads to it, by the units whose turn it is, and how many orders lead to it; none where these are
+/// A result: the first order that leads to it, by the units whose turn it is, and how many orders lead to it; none if that is
 /// more than a `u64` can count.
 #[derive(Drop)]
 pub struct OneResult {
@@ -33,7 +34,12 @@ pub struct Outcomes {
 }
 
 // The states after all statements.
-fn search_all(alloc: Global, meeting: &Meeting, limit: usize) -> Result<Search, Stop>
+fn search_all<W: Watch>(
+    alloc: Global,
+    watch: &W,
+    meeting: &Meeting,
+    limit: usize,
+) -> Result<Search, Stop>
     requires { IsMeeting meeting.now }
     ensures at { IfOk result (IsAt meeting.now (count_statements (others meeting.now.first meeting.now.scripts))) }
     ensures limit { IfOk result (λ search. search.limit ≡ limit) }
@@ -42,11 +48,11 @@ fn search_all(alloc: Global, meeting: &Meeting, limit: usize) -> Result<Search, 
 {
     let left = meeting.others();
     let mut search = Search::begin(alloc, meeting, limit)?;
-    search.pass(alloc, meeting, left)?;
+    search.pass(alloc, watch, meeting, left)?;
     Ok(search)
 }
 
-// A group into the group of its result.
+// Adds a group to the group of its result.
 fn join_result(
     alloc: Global,
     meeting: &Meeting,
@@ -112,7 +118,7 @@ fn all_orders(groups: &[Group]) -> Option<u64>
     orders
 }
 
-// What a search comes to that has made all statements.
+// The outcomes of a search that has made all statements.
 fn outcomes_of(alloc: Global, meeting: &Meeting, search: &Search) -> Result<Outcomes, AllocError>
     requires meeting { IsMeeting meeting.now }
     requires at { IsAt meeting.now (count_statements (others meeting.now.first meeting.now.scripts)) search.now }
@@ -128,17 +134,22 @@ fn outcomes_of(alloc: Global, meeting: &Meeting, search: &Search) -> Result<Outc
     })
 }
 
-/// All that can come out when these scripts run at the same time, a unit for each; where the last script is made first, behind it.
-/// The turns of a result are those of all units, the first script's in front. It stops where there are more states than the limit; at a
-/// limit of 0 at once, without memory.
-pub fn all_outcomes(alloc: Global, meeting: &Meeting, limit: usize) -> Result<Outcomes, Stop>
+/// All that can come out when these scripts run at the same time, with a unit for each; if the last script is made first, after it.
+/// The turns of a result are those of all units, the first script's at the beginning. It stops if there are more states than the limit;
+/// with a limit of 0 at once, without memory.
+pub fn all_outcomes<W: Watch>(
+    alloc: Global,
+    watch: &W,
+    meeting: &Meeting,
+    limit: usize,
+) -> Result<Outcomes, Stop>
     requires { IsMeeting meeting.now }
     ensures outcomes { IfOk result (AreOutcomes meeting.now) }
     ensures within { IfOk result (λ all. count_states meeting.now ≤ limit) }
     ensures stopped { IfErr result (λ stop. stop ≡ States → limit < count_states meeting.now) }
     ensures at_once { limit ≡ 0 → MatchResult result (λ _. ⊥) (λ stop. stop ≡ States) }
 {
-    let search = search_all(alloc, meeting, limit)?;
+    let search = search_all(alloc, watch, meeting, limit)?;
     let outcomes = outcomes_of(alloc, meeting, &search)?;
     Ok(outcomes)
 }

@@ -1,4 +1,4 @@
-//! A search among all orders of the statements of scripts, layer by layer: a layer has the states after so many statements, each
+//! A search among all orders of the statements of scripts, layer by layer: a layer has the states after a number of statements, each
 //! with the first order that leads there and the number of all orders that do.
 ghost use Rattle.std.specs.Prelude.{◌≡◌, ◌≤◌, ◌<◌, ◌∷◌, [], Some, length, option_map, All, IfErr, IfOk, MatchResult, OnOk};
 ghost use Rattle.dbtg_unit.specs.Database.Laws.Replaying.{statements_of};
@@ -14,12 +14,13 @@ ghost use Rattle.dbtg_outcomes.specs.Inside.Steps.{Advances, Extends, ExtendsAll
 use crate::groups::{Group, Groups};
 use crate::meeting::{Meeting, made_by};
 use crate::notes::{Note, enter_note};
+use crate::watch::Watch;
 use dbtg_schema::Row;
 use dbtg_step::Run;
 use dbtg_unit::{Entry, Statement};
 use std::alloc::{AllocError, AllocFailed, Global};
 
-/// Why there are no outcomes: memory was refused, or there are more states than are wanted.
+/// Why there are no outcomes: memory was refused, or there are more states than allowed.
 #[derive(Debug, Drop, PartialEq, Eq)]
 pub enum Stop {
     Memory,
@@ -53,7 +54,7 @@ impl<'a> Meeting<'a> {
         self.scripts[unit as usize - 1].get(place)
     }
 
-    // A run's history, which stands for so many orders, into the group of its state.
+    // Adds a run's history, which stands for this many orders, to the group of its state.
     fn add_state(
         &self,
         alloc: Global,
@@ -70,7 +71,7 @@ impl<'a> Meeting<'a> {
         next.add(key?, Group { history, orders })
     }
 
-    // The order of a group goes on with this statement, the unit's next.
+    // Extends the order of a group by this statement, the unit's next.
     fn extend_with(
         &self,
         alloc: Global,
@@ -99,7 +100,7 @@ impl<'a> Meeting<'a> {
         Ok(())
     }
 
-    // The order of a group goes on with the next statement of this unit, if it has one.
+    // Extends the order of a group by the next statement of this unit, if it has one.
     fn extend_by(
         &self,
         alloc: Global,
@@ -120,7 +121,7 @@ impl<'a> Meeting<'a> {
         }
     }
 
-    // The order of a group goes on with the next statement of each unit that has one.
+    // Extends the order of a group by the next statement of each unit that has one.
     fn extend(
         &self,
         alloc: Global,
@@ -138,11 +139,13 @@ impl<'a> Meeting<'a> {
         Ok(())
     }
 
-    // The states to which groups lead by one statement more, if they are so many at most.
-    fn extend_all(
+    // The states to which groups lead by one more statement, if there are at most this many.
+    fn extend_all<W: Watch>(
         &self,
         alloc: Global,
+        watch: &W,
         layer: &[Group],
+        before: usize,
         most: usize,
         notes: &mut Vec<Note>,
     ) -> Result<Groups, Stop>
@@ -158,12 +161,13 @@ impl<'a> Meeting<'a> {
             if most < next.len() {
                 return Err(Stop::States);
             }
+            watch.seen(before.saturating_add(next.len()));
         }
         Ok(next)
     }
 }
 
-/// A search: the states after so many statements, how many states there were so far, how many there may be, and the statuses of
+/// A search: the states after some number of statements, how many states there were so far, how many there may be, and the statuses of
 /// all statements on the way.
 #[derive(Drop)]
 pub struct Search {
@@ -174,7 +178,7 @@ pub struct Search {
 }
 
 impl Search {
-    /// Behind the script that is made first there is one state.
+    /// After the script that is made first there is one state.
     pub fn begin(alloc: Global, meeting: &Meeting, limit: usize) -> Result<Search, Stop>
         requires meeting { IsMeeting meeting.now }
         ensures at { IfOk result (IsAt meeting.now 0) }
@@ -200,8 +204,13 @@ impl Search {
         })
     }
 
-    // One statement more.
-    pub(crate) fn step(&mut self, alloc: Global, meeting: &Meeting) -> Result<(), Stop>
+    // Goes on by one statement.
+    pub(crate) fn step<W: Watch>(
+        &mut self,
+        alloc: Global,
+        watch: &W,
+        meeting: &Meeting,
+    ) -> Result<(), Stop>
         requires meeting { IsMeeting meeting.now }
         requires at { IsUnderWay meeting.now self.old }
         ensures advances { OnOk result (Advances meeting.now 1 self.old self.new) }
@@ -209,29 +218,36 @@ impl Search {
     {
         let most = self.limit - self.states;
         let layer = self.layer.as_slice();
-        let next = meeting.extend_all(alloc, layer, most, &mut self.notes)?;
+        let next = meeting.extend_all(alloc, watch, layer, self.states, most, &mut self.notes)?;
         self.states += next.len();
         self.layer = next.into_groups(alloc)?;
         Ok(())
     }
 
-    // So many statements more.
-    fn steps(&mut self, alloc: Global, meeting: &Meeting, count: usize) -> Result<(), Stop>
+    // Goes on by this many statements.
+    fn steps<W: Watch>(
+        &mut self,
+        alloc: Global,
+        watch: &W,
+        meeting: &Meeting,
+        count: usize,
+    ) -> Result<(), Stop>
         requires meeting { IsMeeting meeting.now }
         requires at { IsUnderWay meeting.now self.old }
         ensures advances { OnOk result (Advances meeting.now count self.old self.new) }
         ensures stopped { IfErr result (λ stop. stop ≡ States → IsOver meeting.now count self.old) }
     {
         for _turn in 0..count {
-            self.step(alloc, meeting)?;
+            self.step(alloc, watch, meeting)?;
         }
         Ok(())
     }
 
-    /// As many statements more as these scripts have.
-    pub fn pass(
+    /// Goes on by as many statements as these scripts have.
+    pub fn pass<W: Watch>(
         &mut self,
         alloc: Global,
+        watch: &W,
         meeting: &Meeting,
         scripts: &[Row<Statement>],
     ) -> Result<(), Stop>
@@ -241,7 +257,7 @@ impl Search {
         ensures stopped { IfErr result (λ stop. stop ≡ States → IsOver meeting.now (count_statements scripts.now) self.old) }
     {
         for script in scripts {
-            self.steps(alloc, meeting, script.len())?;
+            self.steps(alloc, watch, meeting, script.len())?;
         }
         Ok(())
     }

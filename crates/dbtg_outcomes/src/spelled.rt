@@ -1,4 +1,4 @@
-//! Things spelled as numbers, so that two are one just where they are spelled alike. Whatever is spelled behind a thing, the
+//! Things spelled as numbers, so that two are equal exactly if they are spelled alike. Whatever follows a thing, the
 //! numbers tell where it ends.
 ghost use Rattle.std.specs.Prelude.{◌≡◌, ◌++◌, ℕ, List, OnOk, flat_map};
 ghost use Rattle.dbtg_outcomes.specs.Inside.Spelling.{list_apart, one_apart, option_apart, pair_apart};
@@ -12,11 +12,11 @@ pub trait Spelled {
     /// The numbers of a thing.
     ghost numbers: { Self → List ℕ };
 
-    /// Its numbers go behind the others.
+    /// Appends its numbers.
     fn spell(&self, out: &mut Vec<u64>) -> Result<(), AllocError>
         ensures { OnOk result (out.new.items ≡ out.old.items ++ numbers self.now) };
 
-    /// Two things whose numbers are alike, whatever follows, are one.
+    /// Two things whose numbers are alike, whatever follows, are equal.
     ghost apart: { Apart numbers };
 }
 
@@ -53,7 +53,7 @@ impl Spelled for u64 {
     ghost apart = { one_apart };
 }
 
-// None is a 0; before what is there stands a 1.
+// None is a 0; a 1 comes before anything else.
 impl<T: Spelled> Spelled for Option<T> {
     ghost numbers = { option_numbers T.numbers };
 
@@ -94,7 +94,7 @@ pub fn spell_each<T: Spelled>(items: &[T], out: &mut Vec<u64>) -> Result<(), All
     Ok(())
 }
 
-// Before the items stands how many they are.
+// The number of items comes before them.
 impl<T: Spelled> Spelled for Row<T> {
     ghost numbers = { list_numbers T.numbers };
 

@@ -1,4 +1,4 @@
-//! What is wished of the status of a statement over all orders, and turns that break the wish.
+//! A wish for the status of a statement over all orders, and turns that break it.
 ghost use Rattle.std.specs.Prelude.{◌≡◌, ◌≤◌, ◌<◌, ◌-◌, ◌++◌, ◌∷◌, [], Some, length, map, true, All, IfErr, IfOk, OnOk};
 ghost use Rattle.dbtg_unit.specs.Database.Laws.Replay.{IsHistoryOf};
 ghost use Rattle.dbtg_unit.specs.Database.Laws.Replaying.{statements_of};
@@ -13,11 +13,12 @@ use crate::groups::Group;
 use crate::meeting::{Meeting, made_by};
 use crate::outcomes::turns_of;
 use crate::search::{Search, Stop};
+use crate::watch::Watch;
 use dbtg_schema::Row;
 use dbtg_unit::{Entry, Statement};
 use std::alloc::{AllocError, Global};
 
-/// What is wished of a statement, by its unit and its place in the unit's script, both from 1: that it never has this status, or
+/// A wish for a statement, named by its unit and its place in the unit's script, both from 1: that it never has this status, or
 /// always.
 #[derive(Clone, Copy)]
 pub struct Wish {
@@ -40,7 +41,7 @@ impl Wish {
 }
 
 impl<'a> Meeting<'a> {
-    // Does the unit's next statement, which is that of the wish, break it?
+    // Does the unit's next statement break the wish, if it is the statement of the wish?
     fn breaks_with(
         &self,
         alloc: Global,
@@ -61,7 +62,7 @@ impl<'a> Meeting<'a> {
         Ok(wish.is_broken_by(status))
     }
 
-    // Is the wish broken by the statement that its unit makes next, behind a history?
+    // Does the statement that its unit makes next, after a history, break the wish?
     fn is_broken_behind(
         &self,
         alloc: Global,
@@ -84,7 +85,7 @@ impl<'a> Meeting<'a> {
         }
     }
 
-    // The turns up to the statement that breaks the wish, behind the first of these groups where it does.
+    // The turns up to the statement that breaks the wish, after the first of these groups in which it does.
     fn broken_in(
         &self,
         alloc: Global,
@@ -125,8 +126,14 @@ pub struct Hunt {
 }
 
 impl Hunt {
-    // One statement more, where nothing is found yet.
-    fn step(&mut self, alloc: Global, meeting: &Meeting, wish: Wish) -> Result<(), Stop>
+    // Goes on by one statement, if nothing is found yet.
+    fn step<W: Watch>(
+        &mut self,
+        alloc: Global,
+        watch: &W,
+        meeting: &Meeting,
+        wish: Wish,
+    ) -> Result<(), Stop>
         requires meeting { IsMeeting meeting.now }
         requires numbered { 0 < wish.unit }
         requires within { wish.unit ≤ length (others meeting.now.first meeting.now.scripts) }
@@ -143,14 +150,15 @@ impl Hunt {
                 self.broken = Some(turns);
                 Ok(())
             }
-            None => self.search.step(alloc, meeting),
+            None => self.search.step(alloc, watch, meeting),
         }
     }
 
-    // So many statements more.
-    fn steps(
+    // Goes on by this many statements.
+    fn steps<W: Watch>(
         &mut self,
         alloc: Global,
+        watch: &W,
         meeting: &Meeting,
         wish: Wish,
         count: usize,
@@ -164,15 +172,16 @@ impl Hunt {
         ensures stopped { IfErr result (λ stop. stop ≡ States → IsHuntOver meeting.now wish count self.old) }
     {
         for _turn in 0..count {
-            self.step(alloc, meeting, wish)?;
+            self.step(alloc, watch, meeting, wish)?;
         }
         Ok(())
     }
 
-    // As many statements more as these scripts have.
-    fn pass(
+    // Goes on by as many statements as these scripts have.
+    fn pass<W: Watch>(
         &mut self,
         alloc: Global,
+        watch: &W,
         meeting: &Meeting,
         wish: Wish,
         scripts: &[Row<Statement>],
@@ -186,7 +195,7 @@ impl Hunt {
         ensures stopped { IfErr result (λ stop. stop ≡ States → IsHuntOver meeting.now wish (count_statements scripts.now) self.old) }
     {
         for script in scripts {
-            self.steps(alloc, meeting, wish, script.len())?;
+            self.steps(alloc, watch, meeting, wish, script.len())?;
         }
         Ok(())
     }
@@ -228,10 +237,11 @@ pub fn is_there(meeting: &Meeting, wish: Wish) -> bool
 }
 
 /// The turns of units, in the order in which they make statements, up to one that breaks the wish: the last of them makes the
-/// statement of the wish. With fewer turns no order breaks it. None where no order does. It stops where there are more states than
+/// statement of the wish. With fewer turns no order breaks it. None if no order does. It stops if there are more states than
 /// the limit.
-pub fn broken_turns(
+pub fn broken_turns<W: Watch>(
     alloc: Global,
+    watch: &W,
     meeting: &Meeting,
     wish: Wish,
     limit: usize,
@@ -243,6 +253,6 @@ pub fn broken_turns(
 {
     let left = meeting.others();
     let mut hunt = Hunt::begin(alloc, meeting, wish, limit)?;
-    hunt.pass(alloc, meeting, wish, left)?;
+    hunt.pass(alloc, watch, meeting, wish, left)?;
     Ok(hunt.into_broken())
 }

@@ -1,5 +1,5 @@
 -- What is noted of the orders that a search has found: results and failures.
--- m is a meeting, o and p are orders, seen are those that are behind.
+-- m is a meeting, o and p are orders, seen are those that came before.
 use Rattle.std.specs.Prelude.{ℕ, ◌≡◌, ◌++◌, List, [], ◌∷◌, Some, Contains, map}
 use Rattle.dbtg_unit.specs.declared.unit.Entry.{Entry}
 use Rattle.dbtg_explore.specs.declared.ends.Ends as given
@@ -12,7 +12,7 @@ use Rattle.dbtg_explore.specs.Pairwise.{ArePairwise}
 use Rattle.dbtg_explore.specs.Results.{FailsBefore, result_text}
 use Rattle.dbtg_explore.specs.States.{MeetingState, state_after, state_of}
 
--- a program has failed so in a state
+-- a program has failed in this way in a state
 abbrev pub FailsIn : MeetingState → Failure → Type 0
 FailsIn state f = failure_in state f.unit ≡ Some f.how
 
@@ -36,11 +36,11 @@ pub record AreEndsOf (m : Meeting) (seen : List (List ℕ)) (ends : given.Ends) 
   pub results : AreResultsOf m seen ends.results
   pub failures : AreFailuresOf m seen ends.failures.items
 
--- an order is behind all these
+-- an order comes after all these
 abbrev pub IsBehind : List (List ℕ) → List ℕ → Type 0
 IsBehind seen o = (p : List ℕ) → Contains seen p → IsBefore p o
 
--- one order more, which is behind all others, has its result noted
+-- one order more, which comes after all others, has its result noted
 abbrev pub NotesResult : Meeting → List ℕ → FoundOrders → FoundOrders → Type 0
 NotesResult m o old new = (seen : List (List ℕ)) → IsBehind seen o → AreResultsOf m seen old → AreResultsOf m (seen ++ o ∷ []) new
 

@@ -5,7 +5,7 @@ pub record FoundOrders : Type 0 where
   pub keys : List (List ℕ)
   pub orders : List (List ℕ)
 
--- an order goes behind the others under a new key
+-- an order is appended under a new key
 pub record IsPut (old : FoundOrders) (key order : List ℕ) (new : FoundOrders) : Type 0 where
   pub absent : Contains old.keys key → ⊥
   pub keys_are : new.keys ≡ old.keys ++ key ∷ []

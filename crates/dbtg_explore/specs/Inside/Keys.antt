@@ -1,4 +1,4 @@
--- States as numbers, that tell them apart.
+-- States as numbers, which tell them apart.
 use Rattle.std.specs.Prelude.{ℕ, List, [], ◌∷◌, ◌++◌}
 use Rattle.dbtg_unit.specs.Database.State.Image.{image_of}
 use Rattle.dbtg_program.specs.declared.program.End.{End}
@@ -9,23 +9,23 @@ use Rattle.dbtg_outcomes.specs.Spelling.{image_numbers, list_numbers, unit_numbe
 use Rattle.dbtg_explore.specs.Orders.{Meeting}
 use Rattle.dbtg_explore.specs.States.{MeetingState}
 
--- of a program's state the sentence, the status and the values
+-- for a program's state the sentence, the status and the values
 abbrev pub program_numbers : ProgramState → List ℕ
 program_numbers state = state.at ∷ state.status ∷ list_numbers value_numbers state.values
 
--- of an end its kind and its line
+-- for an end its kind and its line
 abbrev pub how_numbers : End → List ℕ
 how_numbers Stop = 1 ∷ 0 ∷ []
 how_numbers (Assert line) = 2 ∷ line ∷ []
 how_numbers (Size line) = 3 ∷ line ∷ []
 how_numbers (Astray line) = 4 ∷ line ∷ []
 
--- how a program stands, where a due statement is a 0, and its state. Which statement is due the state tells
+-- how a program is, with a 0 for a due statement, and its state, which determines the statement that is due
 abbrev pub due_numbers : Due → List ℕ
 due_numbers (due state s) = 0 ∷ 0 ∷ program_numbers state
 due_numbers (ended state how) = how_numbers how ++ program_numbers state
 
--- of a state the database, the units, and the programs
+-- for a state the database, the units, and the programs
 abbrev pub state_numbers : Meeting → MeetingState → List ℕ
 state_numbers m state =
     image_numbers (image_of m.schema m.capacity state.sequential.database)

@@ -142,7 +142,7 @@ module _ (m : Meeting) where
       let next : take i layer ++ g ∷ [] ≡ take (i + 1) layer = ap (λ (f : Group). take i layer ++ f ∷ []) is ∙ sym (take_more layer i g low) in
       subst (λ (gs : List Group). ExtendsAll m gs b k n) next (extends_last (take i layer) g a b k l n h r)
 
-  -- more states than so many from some of the groups are more from all of them
+  -- more states than this from some of the groups are more from all of them
   lead_on : (gs hs : List Group) (new : List (List ℕ × Group)) (k n : List Note) (most : ℕ) → ExtendsAll m gs new k n → most < length new → LeadToMore m (gs ++ hs) most
   lead_on gs hs new k n most h many = λ ws held.
       let parts = split gs hs ws held in

@@ -58,7 +58,7 @@ module _ (m : Meeting) where
         noted are;
   }
 
-  -- a script of which so many statements are made and noted
+  -- a script of which this many statements are made and noted
   pub record IsBegun (u : ℕ) (script : List Statement) (making : Making) (notes : List Note) : Type 0 where
     pub at : IsMaking m (by_one u script) making
     pub noted : AreNotedOf m (by_one u script) notes

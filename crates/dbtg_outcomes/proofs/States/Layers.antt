@@ -1,4 +1,4 @@
--- Layers of a search among orders: the states after so many statements, each with its first order and the number of its orders.
+-- Layers of a search among orders: the states after a number of statements, each with its first order and the number of its orders.
 -- m is a meeting, o, p, q are orders, ws are orders with weights, n is how many statements are made.
 use Rattle.std.proofs.Common.{◌≡◌, refl, sym, ◌∙◌, ap, subst, ℕ, zero, suc, ◌+◌, true, false, List, [], ◌∷◌, ◌++◌, length, map, Option, Some, None, ◌<◌, ◌≤◌, ◌^◌, inl, inr, ◌⊎◌, arith, slice_get, slice_set}
 use Rattle.std.specs.Str.{bytes_eq}

@@ -1,4 +1,4 @@
--- The states after so many statements, layer by layer.
+-- The states after a number of statements, layer by layer.
 -- m is a meeting, o, p are orders, s is a statement with its unit, n is how many statements are made.
 use Rattle.std.proofs.Common.{◌≡◌, refl, sym, ◌∙◌, ap, subst, ℕ, zero, suc, ◌+◌, true, ◌||◌, List, [], ◌∷◌, ◌++◌, length, map, None, inl, inr, ⊎_elim, ◌⊎◌}
 use Rattle.std.specs.Prelude.{◌&&◌, filter, flat_map}

@@ -7,7 +7,7 @@ use Rattle.std.specs.Str.{bytes_eq}
 abbrev pub each_of : {A : Type 0} → ℕ → List A → List (A × ℕ)
 each_of c xs = map (λ x. (x, c)) xs
 
--- an element into its group, or into one of its own behind the others
+-- an element is added to its group, or as a new group after the others
 abbrev pub enter : {A : Type 0} → (A → List ℕ) → List (A × ℕ) → A → ℕ → List (A × ℕ)
 enter key [] q c = (q, c) ∷ []
 enter key (w ∷ ws) q c = if bytes_eq (key w.0) (key q) then (w.0, w.1 + c) ∷ ws else w ∷ enter key ws q c

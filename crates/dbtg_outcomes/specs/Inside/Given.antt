@@ -8,7 +8,7 @@ use Rattle.dbtg_outcomes.specs.Inside.Grouped.{sum_of}
 abbrev pub one_result : Group → OneResult
 one_result g = record { turns = map (λ e. e.unit) g.history; orders = g.orders }
 
--- so many orders, and those of groups
+-- this many orders, and those of groups
 abbrev pub all_orders : Option ℕ → List Group → Option ℕ
 all_orders n [] = n
 all_orders n (g ∷ gs) = all_orders (sum_of n g.orders) gs

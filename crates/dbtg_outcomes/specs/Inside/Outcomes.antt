@@ -10,7 +10,7 @@ use Rattle.dbtg_outcomes.specs.declared.notes.Note.{Note}
 use Rattle.dbtg_outcomes.specs.Results.{Meeting, state_of}
 use Rattle.dbtg_outcomes.specs.Inside.Search.{AreNotedOf}
 
--- what comes of an order of statements
+-- the run to which an order of statements leads
 pub record IsRunOf (m : Meeting) (o : List (ℕ × Statement)) (run : Run) : Type 0 where
   pub order_is : statements_of run.history ≡ o
   pub history_of : IsHistoryOf m.schema m.capacity (length m.scripts) run.history

@@ -17,7 +17,7 @@ use Rattle.dbtg_outcomes.specs.Results.{Meeting, state_key}
 
 -- GROUPS
 
--- the states after n statements behind the script that is made first, each with its first order and the number of its orders
+-- the states after the script that is made first and n statements more, each with its first order and the number of its orders
 abbrev pub layer : Meeting → ℕ → List (List (ℕ × Statement) × ℕ)
 layer m n = groups (state_key m) (orders_after m.first m.scripts n)
 
@@ -71,7 +71,7 @@ pub record AreNoted (m : Meeting) (ps : List (List (ℕ × Statement) × ℕ)) (
   pub all : (p : List (ℕ × Statement) × ℕ) (x : Statement) → Contains ps p → next_of m.scripts p.0 p.1 ≡ Some x → HasNote m new p.0 p.1 x
   pub only : (note : Note) → Contains new note → Contains old note ⊎ ((p : List (ℕ × Statement) × ℕ) × Contains ps p × IsNextNote m p note)
 
--- a statement of an order, by what stands before it, and its note
+-- a statement of an order, by what comes before it, and its note
 pub record IsNoteIn (m : Meeting) (order : List (ℕ × Statement)) (note : Note) : Type 0 where
   pub before : List (ℕ × Statement)
   pub unit : ℕ
@@ -91,7 +91,7 @@ pub record AreNotedOf (m : Meeting) (order : List (ℕ × Statement)) (notes : L
 
 -- THE SEARCH
 
--- after n statements behind the script that is made first it has the states to which they lead; it has counted the states so far, and
+-- after the script that is made first and n statements more it has the states to which they lead; it has counted the states so far, and
 -- noted the statuses of the statements so far
 pub record IsAt (m : Meeting) (n : ℕ) (s : given.Search) : Type 0 where
   pub held : AreHeld m s.layer.items (layer m n)

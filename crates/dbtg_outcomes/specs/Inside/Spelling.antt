@@ -96,7 +96,7 @@ kept_apart = list_apart (pair_numbers key_numbers one_number) (pair_apart key_nu
 currents_apart : Apart (list_numbers (option_numbers key_numbers))
 currents_apart = list_apart (option_numbers key_numbers) (option_apart key_numbers key_apart)
 
--- one thing behind another, and what is behind both
+-- one thing after another, and what follows both
 pub behind : {X : Type 0} (f : X → List ℕ) → Apart f → (x y : X) (p q a b : List ℕ) → (f x ++ p) ++ a ≡ (f y ++ q) ++ b → (x ≡ y) × (p ++ a ≡ q ++ b)
 behind f h x y p q a b e = h x y (p ++ a) (q ++ b) (sym (append_assoc (f x) p a) ∙ e ∙ append_assoc (f y) q b)
 

@@ -7,11 +7,11 @@ use Rattle.dbtg_outcomes.specs.declared.answered.Answered.{Answered}
 use Rattle.dbtg_outcomes.specs.declared.notes.Note.{Note}
 use Rattle.dbtg_outcomes.specs.Outcomes.{AreRising, place_of, places_from}
 
--- the note was there, or it is behind the others
+-- the note was there, or it is appended
 abbrev pub HasNoted : List Note → Note → List Note → Type 0
 HasNoted old note new = (Contains old note × (new ≡ old)) ⊎ (new ≡ old ++ note ∷ [])
 
--- one status more in a rising list
+-- a rising list with one more status
 pub record IsEntered (old : List ℕ) (status : ℕ) (new : List ℕ) : Type 0 where
   pub rising : AreRising old → AreRising new
   pub kept : (code : ℕ) → Contains old code → Contains new code
@@ -30,7 +30,7 @@ pub record TakesNote (u i : ℕ) (note : Note) (old new : List ℕ) : Type 0 whe
 
 -- STATEMENTS WITH THEIR STATUSES
 
--- the statement of unit u at this place, from 1, goes behind the others, with the statuses that are noted of it
+-- the statement of unit u at this place, from 1, is appended, with the statuses that are noted of it
 pub record IsAnswered (notes : List Note) (u place : ℕ) (old new : List Answered) : Type 0 where
   pub answered : Answered
   pub unit_is : answered.unit ≡ u
@@ -42,7 +42,7 @@ pub record IsAnswered (notes : List Note) (u place : ℕ) (old new : List Answer
 abbrev pub EachAsNoted : List Note → List Answered → Type 0
 EachAsNoted notes all = (a : Answered) → Contains all a → AreOfNotes notes a.unit (a.place - 1) a.statuses.items
 
--- the first statements of unit u, so many, go behind the others, each with the statuses that are noted of it
+-- the first statements of unit u are appended, each with the statuses that are noted of it
 pub record AreAnswered (notes : List Note) (u count : ℕ) (old new : List Answered) : Type 0 where
   pub places_are : map place_of new ≡ map place_of old ++ map (λ i. (u, i)) (range_with_len 1 count)
   pub each : EachAsNoted notes old → EachAsNoted notes new

@@ -26,7 +26,7 @@ abbrev pub IsBroken : Meeting → Wish → List (ℕ × Statement) → Bool → 
 IsBroken m w o true = Breaks m w o
 IsBroken m w o false = Breaks m w o → ⊥
 
--- the turns of the order of a group after which it does, with that of the wish; none where there is no such group
+-- the turns of the order of a group after which it does, with that of the wish; none if there is no such group
 abbrev pub IsBrokenIn : Meeting → Wish → List Group → Option (List ℕ) → Type 0
 IsBrokenIn m w gs None = (g : Group) → Contains gs g → Breaks m w (statements_of g.history) → ⊥
 IsBrokenIn m w gs (Some turns) =

@@ -2,8 +2,8 @@ use Rattle.dbtg_explore.proofs.Visiting.{is_explored}
 use Rattle.dbtg_explore.proofs.explored.explore.Goals as goal
 
 pub returns-clause-explored : goal.returns-clause-explored
-returns-clause-explored c =
+returns-clause-explored g c =
     is_explored c.args.meeting.now c.args.limit c.in_ok-search.search c.in_ok-search.ends c.in_ok-search.ensures.through _ c.len.ensures c.into_orders.ensures c.of.ensures c.in_ok-endless.ensures
 
 pub endless_in-requires-clause-orders : goal.endless_in-requires-clause-orders
-endless_in-requires-clause-orders c = c.in_ok-search.ensures.through.visited.at.under_way.are_orders
+endless_in-requires-clause-orders g c = c.in_ok-search.ensures.through.visited.at.under_way.are_orders

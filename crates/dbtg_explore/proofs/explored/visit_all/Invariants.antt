@@ -3,7 +3,7 @@ use Rattle.dbtg_explore.proofs.Visiting.{IsOnTheWay}
 use Rattle.dbtg_explore.proofs.explored.visit_all.Given as goal
 
 abbrev pub invariant-loop-place : goal.invariant-loop-place
-invariant-loop-place l = IsOnTheWay l.meeting l.limit l.place l.search l.ends
+invariant-loop-place g l = IsOnTheWay l.meeting l.limit l.place l.search l.ends
 
 abbrev pub decreases-loop-place : goal.decreases-loop-place
-decreases-loop-place l = l.limit - l.place
+decreases-loop-place g l = l.limit - l.place

@@ -6,34 +6,34 @@ use Rattle.dbtg_outcomes.proofs.States.Searched.{over_all, over_first}
 use Rattle.dbtg_outcomes.proofs.outcomes.search_all.Goals as goal
 
 pub pass-requires-clause-at : goal.pass-requires-clause-at
-pass-requires-clause-at c = record { made = 0; at = c.in_ok-search.ensures.at }
+pass-requires-clause-at g c = record { made = 0; at = c.in_ok-search.ensures.at }
 
 pub returns-in_err-search-clause-stopped : goal.returns-in_err-search-clause-stopped
-returns-in_err-search-clause-stopped c =
+returns-in_err-search-clause-stopped g c =
     let told = err_from_is_err_and c.from_residual.result c.from_residual.ensures.1 in
     rw (told.1, told.2) (λ e. over_first c.args.meeting.now c.args.limit (c.in_err-search.ensures.stopped e))
 
 pub returns-in_err-pass-clause-stopped : goal.returns-in_err-pass-clause-stopped
-returns-in_err-pass-clause-stopped c =
+returns-in_err-pass-clause-stopped g c =
     let told = err_from_is_err_and c.from_residual-in_err-pass.result c.from_residual-in_err-pass.ensures.1 in
     rw (told.1, told.2) (λ e. over_all c.args.meeting.now c.others-left.result.now c.in_ok-search.search c.args.limit c.others-left.ensures c.in_ok-search.ensures.limit c.in_ok-search.ensures.at (c.in_err-pass.ensures.stopped e))
 
 pub returns-clause-at : goal.returns-clause-at
-returns-clause-at c =
+returns-clause-at g c =
     let m = c.args.meeting.now in
     let all : 0 + count_statements c.others-left.result.now ≡ count_statements (others m.first m.scripts) = omega (arith, ap count_statements c.others-left.ensures) in
     subst (λ (n : ℕ). IsAt m n c.pass.new.self) all (c.in_ok-pass.ensures.advances.at 0 c.in_ok-search.ensures.at)
 
 pub returns-clause-limit : goal.returns-clause-limit
-returns-clause-limit c = c.in_ok-pass.ensures.advances.limit_is ∙ c.in_ok-search.ensures.limit
+returns-clause-limit g c = c.in_ok-pass.ensures.advances.limit_is ∙ c.in_ok-search.ensures.limit
 
 pub returns-in_err-search-clause-at_once : goal.returns-in_err-search-clause-at_once
-returns-in_err-search-clause-at_once c = λ none.
+returns-in_err-search-clause-at_once g c = λ none.
     let told = err_from_is_err_and c.from_residual.result c.from_residual.ensures.1 in
     rw (told.1, told.2) (c.in_err-search.ensures.at_once none)
 
 pub returns-in_err-pass-clause-at_once : goal.returns-in_err-pass-clause-at_once
-returns-in_err-pass-clause-at_once c = λ none. absurd (c.in_ok-search.ensures.at_once none)
+returns-in_err-pass-clause-at_once g c = λ none. absurd (c.in_ok-search.ensures.at_once none)
 
 pub returns-clause-at_once : goal.returns-clause-at_once
-returns-clause-at_once c = λ none. absurd (c.in_ok-search.ensures.at_once none)
+returns-clause-at_once g c = λ none. absurd (c.in_ok-search.ensures.at_once none)

@@ -7,12 +7,12 @@ use Rattle.dbtg_outcomes.proofs.States.Broken.{hunt_over_all, judged, others_few
 use Rattle.dbtg_outcomes.proofs.wishes.broken_turns.Goals as goal
 
 pub returns-in_err-pass-clause-stopped : goal.returns-in_err-pass-clause-stopped
-returns-in_err-pass-clause-stopped c =
+returns-in_err-pass-clause-stopped g c =
     let told = err_from_is_err_and c.from_residual-in_err-pass.result c.from_residual-in_err-pass.ensures.1 in
     rw (told.1, told.2) (λ e. hunt_over_all c.args.meeting.now c.args.wish c.others-left.result.now c.in_ok-hunt.hunt c.args.limit c.others-left.ensures c.in_ok-hunt.ensures.limit c.in_ok-hunt.ensures.hunts (c.in_err-pass.ensures.stopped e))
 
 pub returns-clause-judged : goal.returns-clause-judged
-returns-clause-judged c =
+returns-clause-judged g c =
     let m = c.args.meeting.now in
     let w = c.args.wish in
     let is = there m w c.requires.there in

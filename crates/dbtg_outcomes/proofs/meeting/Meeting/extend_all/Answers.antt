@@ -7,17 +7,17 @@ use Rattle.dbtg_outcomes.proofs.Orders.Extending.{extends_group, extends_nothing
 use Rattle.dbtg_outcomes.proofs.meeting.Meeting.extend_all.Goals as goal
 
 pub loop-group-init : goal.loop-group-init
-loop-group-init c = record {
+loop-group-init g c = record {
   all = subst (λ (l : List (List ℕ × Group)). ExtendsAll c.args.self.now [] l c.args.notes.now.items c.args.notes.now.items) (sym c.none-next.ensures) (extends_nothing c.args.self.now c.args.notes.now.items);
   few = subst (λ (l : List (List ℕ × Group)). length l ≤ c.args.most) (sym c.none-next.ensures) (omega arith);
 }
 
 pub extend-requires-clause-history : goal.extend-requires-clause-history
-extend-requires-clause-history c =
+extend-requires-clause-history g c =
     subst (λ (g : Group). HasHistory c.args.self.now g) (sym c.group-item.is) (c.requires.histories c.loop-group.group-index c.group-item.result (omega (arith, c.loop-group-test.true)))
 
 pub loop-group-preserved : goal.loop-group-preserved
-loop-group-preserved c = record {
+loop-group-preserved g c = record {
   all =
       extends_group c.args.self.now c.args.layer.now c.loop-group.group-index c.group-item.result c.loop-group.next c.extend.new.next c.args.notes.now.items c.loop-group.notes.items c.extend.new.notes.items
       (omega (arith, c.loop-group-test.true)) c.group-item.is c.loop-group.invariant.all c.in_ok-extend.ensures;
@@ -25,16 +25,16 @@ loop-group-preserved c = record {
 }
 
 pub returns-in_err-extend-clause-stopped : goal.returns-in_err-extend-clause-stopped
-returns-in_err-extend-clause-stopped c =
+returns-in_err-extend-clause-stopped g c =
     let told = err_from_is_err_and c.from_residual.result c.from_residual.ensures.1 in
     rw (told.1, told.2) (λ e. absurd (cc (e)))
 
 pub returns-then-most-len-clause-stopped : goal.returns-then-most-len-clause-stopped
-returns-then-most-len-clause-stopped c = λ e.
+returns-then-most-len-clause-stopped g c = λ e.
     lead_to_more c.args.self.now c.args.layer.now c.loop-group.group-index c.group-item.result c.loop-group.next c.extend.new.next c.args.notes.now.items c.loop-group.notes.items c.extend.new.notes.items c.args.most
     (omega (arith, c.loop-group-test.true)) c.group-item.is c.loop-group.invariant.all c.in_ok-extend.ensures (omega (arith, c.len.ensures))
 
 pub returns-clause-all : goal.returns-clause-all
-returns-clause-all c =
+returns-clause-all g c =
     let whole : take c.loop-group.group-index c.args.layer.now ≡ c.args.layer.now = take_all c.loop-group.group-index c.args.layer.now (omega (arith, c.loop-group-test.false)) in
     subst (λ (gs : List Group). ExtendsAll c.args.self.now gs c.loop-group.next c.args.notes.now.items c.loop-group.notes.items) whole c.loop-group.invariant.all

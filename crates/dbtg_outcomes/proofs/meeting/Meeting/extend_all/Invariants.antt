@@ -3,7 +3,7 @@ use Rattle.dbtg_outcomes.specs.Inside.Steps.{ExtendsAll}
 use Rattle.dbtg_outcomes.proofs.meeting.Meeting.extend_all.Given as goal
 
 abbrev pub invariant-loop-group : goal.invariant-loop-group
-invariant-loop-group l = record {
+invariant-loop-group g l = record {
   all : ExtendsAll l.self (take l.group-index l.layer) l.next l.initial.notes.items l.notes.items;
   few : length l.next ≤ l.most;
 }

@@ -9,13 +9,13 @@ use Rattle.dbtg_outcomes.proofs.States.Searched.{advances_more, advances_none, o
 use Rattle.dbtg_outcomes.proofs.search.Search.pass.Goals as goal
 
 pub loop-script-init : goal.loop-script-init
-loop-script-init c = advances_none c.args.meeting.now c.args.self.now
+loop-script-init g c = advances_none c.args.meeting.now c.args.self.now
 
 pub steps-requires-clause-at : goal.steps-requires-clause-at
-steps-requires-clause-at c = under_way c.args.meeting.now (count_statements (take c.loop-script.script-index c.args.scripts.now)) c.args.self.now c.loop-script.self c.loop-script.invariant c.requires.at
+steps-requires-clause-at g c = under_way c.args.meeting.now (count_statements (take c.loop-script.script-index c.args.scripts.now)) c.args.self.now c.loop-script.self c.loop-script.invariant c.requires.at
 
 pub loop-script-preserved : goal.loop-script-preserved
-loop-script-preserved c =
+loop-script-preserved g c =
     let m = c.args.meeting.now in
     let scripts = c.args.scripts.now in
     let made = count_statements (take c.loop-script.script-index scripts) in
@@ -24,7 +24,7 @@ loop-script-preserved c =
     (advances_more m made c.len.result c.args.self.now c.loop-script.self c.steps.new.self c.loop-script.invariant c.in_ok-steps.ensures.advances)
 
 pub returns-in_err-steps-clause-stopped : goal.returns-in_err-steps-clause-stopped
-returns-in_err-steps-clause-stopped c =
+returns-in_err-steps-clause-stopped g c =
     let m = c.args.meeting.now in
     let scripts = c.args.scripts.now in
     let made = count_statements (take c.loop-script.script-index scripts) in
@@ -34,6 +34,6 @@ returns-in_err-steps-clause-stopped c =
     rw (told.1, told.2) (λ e. over_later m made c.len.result (count_statements scripts) c.args.self.now c.loop-script.self (omega (arith, next, most)) c.loop-script.invariant (c.in_err-steps.ensures.stopped e))
 
 pub returns-clause-advances : goal.returns-clause-advances
-returns-clause-advances c =
+returns-clause-advances g c =
     let whole : take c.loop-script.script-index c.args.scripts.now ≡ c.args.scripts.now = take_all c.loop-script.script-index c.args.scripts.now (omega (arith, c.loop-script-test.false)) in
     subst (λ (l : List (List Statement)). Advances c.args.meeting.now (count_statements l) c.args.self.now c.loop-script.self) whole c.loop-script.invariant

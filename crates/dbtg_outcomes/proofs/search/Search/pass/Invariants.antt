@@ -4,4 +4,4 @@ use Rattle.dbtg_outcomes.specs.Inside.Steps.{Advances}
 use Rattle.dbtg_outcomes.proofs.search.Search.pass.Given as goal
 
 abbrev pub invariant-loop-script : goal.invariant-loop-script
-invariant-loop-script l = Advances l.meeting (count_statements (take l.script-index l.scripts)) l.initial.self l.self
+invariant-loop-script g l = Advances l.meeting (count_statements (take l.script-index l.scripts)) l.initial.self l.self

@@ -9,20 +9,20 @@ use Rattle.dbtg_outcomes.proofs.States.Searched.{advances_one, held_histories, o
 use Rattle.dbtg_outcomes.proofs.search.Search.step.Goals as goal
 
 pub overflow_sub-most : goal.overflow_sub-most
-overflow_sub-most c = omega (arith, c.requires.at.at.within)
+overflow_sub-most g c = omega (arith, c.requires.at.at.within)
 
 pub extend_all-requires-clause-histories : goal.extend_all-requires-clause-histories
-extend_all-requires-clause-histories c =
+extend_all-requires-clause-histories g c =
     let m = c.args.meeting.now in
     All-from_recursion (HasHistory m) c.as_slice-layer.result.now
     (subst (λ (gs : List Group). AllByRecursion (HasHistory m) gs) (sym c.as_slice-layer.ensures.value) (held_histories m c.args.self.now.layer.items (layer m c.requires.at.made) c.requires.at.at.held))
 
 pub returns-in_err-next-clause-stopped : goal.returns-in_err-next-clause-stopped
-returns-in_err-next-clause-stopped c =
+returns-in_err-next-clause-stopped g c =
     let told = err_from_is_err_and c.from_residual.result c.from_residual.ensures.1 in
     rw (told.1, told.2) (λ e. over_one c.args.meeting.now c.requires.meeting c.args.self.now c.as_slice-layer.result.now c.as_slice-layer.ensures.value (c.in_err-next.ensures.stopped e))
 
 pub returns-clause-advances : goal.returns-clause-advances
-returns-clause-advances c =
+returns-clause-advances g c =
     advances_one c.args.meeting.now c.requires.meeting c.args.self.now _ c.as_slice-layer.result.now c.in_ok-next.next c.len.result c.as_slice-layer.ensures.value
     c.in_ok-next.ensures.all c.in_ok-next.ensures.few c.len.ensures c.in_ok-self.ensures refl refl

@@ -9,13 +9,13 @@ use Rattle.dbtg_outcomes.proofs.States.Broken.{hunt_over_later, hunting, hunts_m
 use Rattle.dbtg_outcomes.proofs.wishes.Hunt.pass.Goals as goal
 
 pub loop-script-init : goal.loop-script-init
-loop-script-init c = hunts_none c.args.meeting.now c.args.wish c.args.self.now
+loop-script-init g c = hunts_none c.args.meeting.now c.args.wish c.args.self.now
 
 pub steps-requires-clause-at : goal.steps-requires-clause-at
-steps-requires-clause-at c = hunting c.args.meeting.now c.args.wish (count_statements (take c.loop-script.script-index c.args.scripts.now)) c.args.self.now c.loop-script.self c.loop-script.invariant c.requires.at
+steps-requires-clause-at g c = hunting c.args.meeting.now c.args.wish (count_statements (take c.loop-script.script-index c.args.scripts.now)) c.args.self.now c.loop-script.self c.loop-script.invariant c.requires.at
 
 pub loop-script-preserved : goal.loop-script-preserved
-loop-script-preserved c =
+loop-script-preserved g c =
     let m = c.args.meeting.now in
     let w = c.args.wish in
     let scripts = c.args.scripts.now in
@@ -25,7 +25,7 @@ loop-script-preserved c =
     (hunts_more m w made c.len.result c.args.self.now c.loop-script.self c.steps.new.self c.loop-script.invariant c.in_ok-steps.ensures.on)
 
 pub returns-in_err-steps-clause-stopped : goal.returns-in_err-steps-clause-stopped
-returns-in_err-steps-clause-stopped c =
+returns-in_err-steps-clause-stopped g c =
     let m = c.args.meeting.now in
     let w = c.args.wish in
     let scripts = c.args.scripts.now in
@@ -36,6 +36,6 @@ returns-in_err-steps-clause-stopped c =
     rw (told.1, told.2) (λ e. hunt_over_later m w made c.len.result (count_statements scripts) c.args.self.now c.loop-script.self (omega (arith, next, most)) c.loop-script.invariant (c.in_err-steps.ensures.stopped e))
 
 pub returns-clause-on : goal.returns-clause-on
-returns-clause-on c =
+returns-clause-on g c =
     let whole : take c.loop-script.script-index c.args.scripts.now ≡ c.args.scripts.now = take_all c.loop-script.script-index c.args.scripts.now (omega (arith, c.loop-script-test.false)) in
     subst (λ (l : List (List Statement)). HuntsOn c.args.meeting.now c.args.wish (count_statements l) c.args.self.now c.loop-script.self) whole c.loop-script.invariant

@@ -11,7 +11,7 @@ use Rattle.dbtg_outcomes.proofs.States.Searched.{held_histories}
 use Rattle.dbtg_outcomes.proofs.wishes.Hunt.step.Goals as goal
 
 pub broken_in-requires-clause-histories : goal.broken_in-requires-clause-histories
-broken_in-requires-clause-histories c =
+broken_in-requires-clause-histories g c =
     let m = c.args.meeting.now in
     let none : c.args.self.now.broken ≡ None = none_found c.args.self.now.broken (sym c.is_some.ensures ∙ c.if-is_some.false) in
     let at = subst (IsHunt m c.args.wish c.requires.at.made c.args.self.now) none c.requires.at.hunts in
@@ -19,7 +19,7 @@ broken_in-requires-clause-histories c =
     (subst (λ (gs : List Group). AllByRecursion (HasHistory m) gs) (sym c.as_slice.ensures.value) (held_histories m c.args.self.now.search.layer.items (layer m c.requires.at.made) at.0.held))
 
 pub returns-in-Some-clause-on : goal.returns-in-Some-clause-on
-returns-in-Some-clause-on c =
+returns-in-Some-clause-on g c =
     let m = c.args.meeting.now in
     let w = c.args.wish in
     let few = others_few m.first m.scripts in
@@ -30,7 +30,7 @@ returns-in-Some-clause-on c =
     (subst (λ (gs : List Group). IsBrokenIn m w gs (Some c.in-Some.turns)) c.as_slice.ensures.value found)
 
 pub returns-in-None-clause-on : goal.returns-in-None-clause-on
-returns-in-None-clause-on c =
+returns-in-None-clause-on g c =
     let m = c.args.meeting.now in
     let w = c.args.wish in
     let few = others_few m.first m.scripts in

@@ -1,0 +1,6 @@
+-- The worked rows: how texts differ, which results are alike, how records are named.
+-- May use: all definitions; no lemma.
+-- Promises: each row is a theorem that computes.
+pub mod Differences
+pub mod Likes
+pub mod Names

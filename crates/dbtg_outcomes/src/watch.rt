@@ -1,0 +1,13 @@
+//! Who is told how far a search is.
+
+/// What is told how many states a search has found so far. It has no say in what the search comes to.
+pub trait Watch {
+    fn seen(&self, states: usize);
+}
+
+/// Nobody is told.
+pub struct Unwatched;
+
+impl Watch for Unwatched {
+    fn seen(&self, _states: usize) {}
+}
