@@ -3,4 +3,3 @@ mod SavedTurns
 mod TextsAtHand
 mod Pictures
 mod Listings
-mod Rows

@@ -1,8 +1,8 @@
--- What `outcomes` prints, of a wish too: statuses have four digits, the texts of results stand one behind another, and what was read is
+-- What `outcomes` prints, of a wish too: statuses have four digits, the texts of results stand one after another, and what was read is
 -- told as the texts say.
 use Rattle.std.proofs.Common.{◌≡◌, ℕ, Bool, true, ◌+◌, ◌-◌, ◌<◌, ◌≤◌, ◌⊎◌, inl, inr, zero, suc, List, [], ◌∷◌, ◌++◌, take, drop, map, length, Option, Some, None, refl, sym, ap, ◌∙◌, subst, arith, get_or}
-use Rattle.std.specs.Prelude.{Contains, codes, nat_lt, if◌then◌else◌}
-use Rattle.std.proofs.lemmas.Bool.{and_from, le-ltb, lt-ltb}
+use Rattle.std.specs.Prelude.{Contains, codes, nat_lt}
+use Rattle.std.proofs.lemmas.Bool.{and_from, lt-ltb}
 use Rattle.std.proofs.lemmas.List.{append-nil, append_assoc, length-take-le, take_more}
 use Rattle.std.specs.List.{list_all}
 use Rattle.dbtg_schema.specs.Lists.{Lists}
@@ -14,11 +14,12 @@ use Rattle.dbtg_unit.specs.declared.unit.Status.{Status}
 use Rattle.dbtg_unit.specs.declared.unit.Status.TheVariants.{Done, Refused}
 use Rattle.dbtg_unit.specs.Database.Statements.Codes.{cause_code, statement_code, status_code}
 use Rattle.dbtg_outcomes.specs.declared.answered.Answered.{Answered}
+use Rattle.dbtg_outcomes.specs.declared.brief.Told.{Told}
 use Rattle.dbtg_outcomes.specs.declared.outcomes.OneResult.{OneResult}
 use Rattle.dbtg_outcomes.specs.declared.outcomes.Outcomes.{Outcomes}
 use Rattle.dbtg_outcomes.specs.declared.wishes.Wish.{Wish}
 use Rattle.dbtg_outcomes.specs.Outcomes.{AreOutcomes, AreStatuses, Comes, HasStatus}
-use Rattle.dbtg_outcomes.specs.Results.{Meeting, told_text}
+use Rattle.dbtg_outcomes.specs.Results.{Meeting}
 use Rattle.dbtg_script.specs.declared.limits.TheConstants.{MOST_MOVES}
 use Rattle.dbtg_script.specs.Statements.{script}
 use Rattle.dbtg_script.specs.Printing.WordTexts.{moves_words_text, turns_text}
@@ -29,14 +30,13 @@ use Rattle.dbtg_command.specs.declared.fault.Fault.{Fault}
 use Rattle.dbtg_command.specs.declared.fault.Fault.TheVariants.{Memory, MovesOver}
 use Rattle.dbtg_command.specs.declared.order.Order.TheVariants.{Serial}
 use Rattle.dbtg_command.specs.declared.place.TextPlace.{TextPlace}
-use Rattle.dbtg.specs.declared.outcomes.Front.{Front}
+use Rattle.dbtg.specs.declared.outcomes.Showing.{Showing}
 use Rattle.dbtg.specs.declared.outcomes.ListingOptions.{ListingOptions}
 use Rattle.dbtg.specs.declared.wishes.Judged.{Judged}
 use Rattle.dbtg.specs.Judging.{IsJudgedAs, IsUnjudged, JudgedHeld, ToldOfJudging}
-use Rattle.dbtg.specs.Listing.{AreResultTexts, IsListing, IsLong, IsOver, IsResultText, OutcomesHeld, ToldOfOutcomes, difference_text, meeting_of, result_line, result_text, shown_text, summary_text, worded}
-use Rattle.dbtg.specs.Inside.Listing.{IsFront, IsUntold, are_short}
+use Rattle.dbtg.specs.Listing.{AreResultTexts, IsListing, IsLong, IsOver, IsResultText, OutcomesHeld, ToldOfOutcomes, and_told, meeting_of, result_line, result_text, shown_text, summary_text, worded}
+use Rattle.dbtg.specs.Inside.Listing.{IsFront, IsShown, IsUntold, are_short}
 use Rattle.dbtg_replay.specs.Ordering.{first_turns}
-use Rattle.dbtg_replay.specs.Replaying.{given_text}
 use Rattle.dbtg_command.specs.Refusals.{is_count}
 use Rattle.dbtg_command.specs.Sources.{ReadSchema, ReadScripts}
 use Rattle.dbtg_command.proofs.Public.{all_accepted, read_texts}
@@ -94,42 +94,60 @@ all_short m all are = all_of are_short all.answered.items (λ a among. all_of (�
 
 -- TEXTS OF RESULTS
 
--- the first result is shown whole, also where others are compared with it
-pub shown_whole : (m : Meeting) (lists : Lists) (first : Option (List ℕ)) (text : List ℕ) (k : ℕ) (given : Run) → lists ≡ m.schema → first ≡ Some text → k ≤ 1 → given_text lists given ≡ shown_text m first k given
-shown_whole m lists first text k given same some low =
-    ap (λ (s : Lists). given_text s given) same ∙ sym (ap (λ (f : Option (List ℕ)). shown_text m f k given) some ∙ ap (λ (b : Bool). if b then difference_text text (told_text m given) else given_text m.schema given) (le-ltb 1 k low))
+-- of another number that is the same, and behind the same results before
+moved : (m : Meeting) (before others : Option (List Told)) (j k : ℕ) (one : OneResult) (text : List ℕ) → (is : IsResultText m before j one text) → before ≡ others → j ≡ k
+    → (of : IsResultText m others k one text) × (of.given ≡ is.given)
+moved m before others j k one text is same number = (
+  record {
+    moves = is.moves;
+    given = is.given;
+    by_turns = is.by_turns;
+    few = is.few;
+    front = is.front;
+    are_first = is.are_first;
+    is_text = is.is_text ∙ (λ i. result_text (number i) one (drop (length (first_turns m.first m.scripts)) one.turns) (drop (length is.front) is.moves) (shown_text m (same i) is.given));
+  },
+  refl,
+)
 
--- one more behind the others
-pub one_more : (m : Meeting) (first : Option (List ℕ)) (k : ℕ) (ones : List OneResult) (one : OneResult) (out text : List ℕ)
-    → AreResultTexts m first k ones out → IsResultText m first (k + length ones) one text → AreResultTexts m first k (ones ++ one ∷ []) (out ++ text)
-one_more m first k [] one out text e is =
-    let same : k + 0 ≡ k = omega arith in
-    (text, [], ap (λ o. o ++ text) e ∙ sym (append-nil text), subst (λ n. IsResultText m first n one text) same is, refl)
-one_more m first k (o ∷ ones) one out text are is =
-    let same : k + length (o ∷ ones) ≡ k + 1 + length ones = omega arith in
-    (are.0, are.1 ++ text, ap (λ t. t ++ text) are.2 ∙ append_assoc are.0 are.1 text, are.3, one_more m first (k + 1) ones one are.1 text are.4 (subst (λ n. IsResultText m first n one text) same is))
+-- one more after the others
+pub one_more : (m : Meeting) (before after : Option (List Told)) (k : ℕ) (ones : List OneResult) (one : OneResult) (out text : List ℕ)
+    → AreResultTexts m before after k ones out → (is : IsResultText m after (k + length ones) one text) → AreResultTexts m before (and_told m after is.given) k (ones ++ one ∷ []) (out ++ text)
+one_more m before after k [] one out text are is =
+    let of = moved m after before (k + 0) k one text is are.1 (omega arith) in
+    let last : and_told m after is.given ≡ and_told m before of.0.given = λ i. and_told m (are.1 i) (sym of.1 i) in
+    (text, [], ap (λ o. o ++ text) are.0 ∙ sym (append-nil text), of.0, (refl, last))
+one_more m before after k (o ∷ ones) one out text are is =
+    let of = moved m after after (k + length (o ∷ ones)) (k + 1 + length ones) one text is refl (omega arith) in
+    let rest = subst (λ (given : Run). AreResultTexts m (and_told m before are.3.given) (and_told m after given) (k + 1) (ones ++ one ∷ []) (are.1 ++ text)) of.1
+    (one_more m (and_told m before are.3.given) after (k + 1) ones one are.1 text are.4 of.0) in
+    (are.0, are.1 ++ text, ap (λ t. t ++ text) are.2 ∙ append_assoc are.0 are.1 text, are.3, rest)
 
--- four texts behind one
+-- four texts after one
 texts_behind : (old a b c d : List ℕ) → old ++ a ++ b ++ c ++ d ≡ old ++ (a ++ b ++ c ++ d)
 texts_behind old a b c d = ap (λ x. x ++ c ++ d) (append_assoc old a b) ∙ ap (λ x. x ++ d) (append_assoc old (a ++ b) c) ∙ append_assoc old (a ++ b ++ c) d
 
 -- of a result that is made by its turns
 module _ (m : Meeting) (one : OneResult) (moves : List Move) (given : Run) (run : IsRunByTurns m.schema m.capacity m.scripts one.turns moves given) where
-  -- the text, where this number of turns and moves in front is left out
-  pub result_told : (first : Option (List ℕ)) (front : Front) (k : ℕ) (shown : List Move) (old new : List ℕ) → IsFront m front → shown ≡ moves → length moves ≤ MOST_MOVES
-      → new ≡ old ++ result_line k one ++ worded (codes "turns") (turns_text (drop front.turns one.turns)) ++ worded (codes "moves") (moves_words_text (drop front.moves shown)) ++ shown_text m first k given
-      → (text : List ℕ) × (new ≡ old ++ text) × IsResultText m first k one text
-  result_told first front k shown old new is_front shown_is few new_is =
+  -- the text, where these numbers of turns and moves in front are left out
+  pub result_told : (showing after : Showing) (k : ℕ) (shown : List Move) (old new : List ℕ) → IsFront m showing.front → shown ≡ moves → length moves ≤ MOST_MOVES
+      → new ≡ old ++ result_line k one ++ worded (codes "turns") (turns_text (drop showing.front.turns one.turns)) ++ worded (codes "moves") (moves_words_text (drop showing.front.moves shown)) ++ shown_text m showing.before given
+      → after ≡ record { front = showing.front; before = and_told m showing.before given }
+      → IsShown m k one old new showing after
+  result_told showing after k shown old new is_front shown_is few new_is after_is =
       let left : List ℕ = drop (length (first_turns m.first m.scripts)) one.turns in
       let rest : List Move = drop (length is_front.before) moves in
-      let turns : drop front.turns one.turns ≡ left = ap (λ n. drop n one.turns) is_front.turns_are in
-      let behind : drop front.moves shown ≡ rest = (λ i. drop (is_front.moves_are i) (shown_is i)) in (
-        result_text k one left rest (shown_text m first k given),
-        new_is
-            ∙ (λ i. old ++ result_line k one ++ worded (codes "turns") (turns_text (turns i)) ++ worded (codes "moves") (moves_words_text (behind i)) ++ shown_text m first k given)
-            ∙ texts_behind old (result_line k one) (worded (codes "turns") (turns_text left)) (worded (codes "moves") (moves_words_text rest)) (shown_text m first k given),
-        record { moves = moves; given = given; by_turns = run; few = few; before = is_front.before; are_first = is_front.are_first; is_text = refl },
-      )
+      let turns : drop showing.front.turns one.turns ≡ left = ap (λ n. drop n one.turns) is_front.turns_are in
+      let behind : drop showing.front.moves shown ≡ rest = (λ i. drop (is_front.moves_are i) (shown_is i)) in
+      record {
+        text = result_text k one left rest (shown_text m showing.before given);
+        new_is =
+            new_is
+            ∙ (λ i. old ++ result_line k one ++ worded (codes "turns") (turns_text (turns i)) ++ worded (codes "moves") (moves_words_text (behind i)) ++ shown_text m showing.before given)
+            ∙ texts_behind old (result_line k one) (worded (codes "turns") (turns_text left)) (worded (codes "moves") (moves_words_text rest)) (shown_text m showing.before given);
+        is_text = record { moves = moves; given = given; by_turns = run; few = few; front = is_front.before; are_first = is_front.are_first; is_text = refl };
+        shown_is = after_is;
+      }
 
   -- where its moves are not given it is too long
   pub long_told : (said : Option (List Move)) → AreGiven MOST_MOVES moves said → (told : Fault) → (told ≡ Memory) ⊎ ((told ≡ MovesOver) × (said ≡ None)) → (told ≡ Memory) ⊎ ((told ≡ MovesOver) × IsLong m one)
@@ -139,17 +157,20 @@ module _ (m : Meeting) (one : OneResult) (moves : List Move) (given : Run) (run 
 -- the next of the results that can come out
 module _ (m : Meeting) (all : Outcomes) (i : ℕ) (one : OneResult) (below : i < length all.results.items) (at : one ≡ get_or all.results.items i one) where
   -- with its text the texts are those of one more
-  pub one_more_taken : (first : Option (List ℕ)) (out new texts text : List ℕ) (k : ℕ) → k ≡ i + 1 → out ≡ summary_text all ++ texts → AreResultTexts m first 1 (take i all.results.items) texts
-      → new ≡ out ++ text → IsResultText m first k one text
-      → (ts : List ℕ) × (new ≡ summary_text all ++ ts) × AreResultTexts m first 1 (take (i + 1) all.results.items) ts
-  one_more_taken first out new texts text k k_is out_is are new_is is =
+  pub one_more_taken : (before : Option (List Told)) (showing shown : Showing) (out new texts : List ℕ) (k : ℕ) → k ≡ i + 1 → out ≡ summary_text all ++ texts
+      → AreResultTexts m before showing.before 1 (take i all.results.items) texts → IsShown m k one out new showing shown
+      → (ts : List ℕ) × (new ≡ summary_text all ++ ts) × AreResultTexts m before shown.before 1 (take (i + 1) all.results.items) ts
+  one_more_taken before showing shown out new texts k k_is out_is are is =
       let taken = length-take-le i all.results.items (omega arith) in
       let many : k ≡ 1 + length (take i all.results.items) = omega arith in
-      let next : take i all.results.items ++ one ∷ [] ≡ take (i + 1) all.results.items = ap (λ (o : OneResult). take i all.results.items ++ o ∷ []) at ∙ sym (take_more all.results.items i one below) in (
-        texts ++ text,
-        new_is ∙ ap (λ o. o ++ text) out_is ∙ append_assoc (summary_text all) texts text,
-        subst (λ ones. AreResultTexts m first 1 ones (texts ++ text)) next
-            (one_more m first 1 (take i all.results.items) one texts text are (subst (λ n. IsResultText m first n one text) many is)),
+      let next : take i all.results.items ++ one ∷ [] ≡ take (i + 1) all.results.items = ap (λ (o : OneResult). take i all.results.items ++ o ∷ []) at ∙ sym (take_more all.results.items i one below) in
+      let of = moved m showing.before showing.before k (1 + length (take i all.results.items)) one is.text is.is_text refl many in
+      let last : and_told m showing.before of.0.given ≡ shown.before = ap (and_told m showing.before) of.1 ∙ sym (ap (λ (s : Showing). s.before) is.shown_is) in (
+        texts ++ is.text,
+        is.new_is ∙ ap (λ o. o ++ is.text) out_is ∙ append_assoc (summary_text all) texts is.text,
+        subst (λ ones. AreResultTexts m before shown.before 1 ones (texts ++ is.text)) next
+            (subst (λ (after : Option (List Told)). AreResultTexts m before after 1 (take i all.results.items ++ one ∷ []) (texts ++ is.text)) last
+            (one_more m before showing.before 1 (take i all.results.items) one texts is.text are of.0)),
       )
 
   -- it may be too long
@@ -182,7 +203,7 @@ module _ (holds : TextPlace → List ℕ → Type 0) (lists : Lists) (count : �
   pub over : (fails : TextPlace → Fault → Type 0) (fault : Fault) → IsOver (meeting_of lists statements options) options.limit fault → ToldOfOutcomes holds fails fault count options
   over fails fault is = inr (record { lists = lists; right = right; schema = read; scripts = scripts; over = of_texts (λ m. IsOver m options.limit fault) is })
 
-  -- the same of a wish
+  -- the same for a wish
   pub judged_held : (w : Wish) (judged : Judged) → IsJudgedAs (meeting_of lists statements options) w judged → JudgedHeld holds count options w judged
   judged_held w judged is = (
     read_texts holds lists count read scripts Serial tt,

@@ -103,7 +103,7 @@ none_made : (made : List Entry) (left : List Statement) → [] ≡ map (λ (e : 
 none_made [] left e = refl
 none_made (m ∷ ms) left e = absurd (cc (e))
 
--- at a place in front of the last element, whatever that is
+-- at a place before the last element, whatever that is
 in_front : {A : Type 0} (xs ys zs : List A) (y z d : A) (k : ℕ) → ys ≡ xs ++ y ∷ [] → zs ≡ xs ++ z ∷ [] → k < length xs → get_or ys k d ≡ get_or zs k d
 in_front xs ys zs y z d k ys_are zs_are below =
     ap (λ es. get_or es k d) ys_are ∙ get_or_append_left xs (y ∷ []) d k below ∙ sym (get_or_append_left xs (z ∷ []) d k below) ∙ sym (ap (λ es. get_or es k d) zs_are)

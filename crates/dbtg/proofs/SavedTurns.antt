@@ -15,7 +15,7 @@ use Rattle.dbtg_command.specs.declared.place.TextPlace.{TextPlace}
 use Rattle.dbtg_command.specs.Refusals.{AcceptsTexts, is_count, schema_in}
 use Rattle.dbtg_command.specs.Sources.{ReadSchema, ReadScripts}
 use Rattle.dbtg_command.proofs.Public.{all_accepted, read_texts}
-use Rattle.dbtg_replay.specs.declared.replay.AnswerForm.TheVariants.{Plain}
+use Rattle.dbtg_replay.specs.declared.replay.AnswerForm.{AnswerForm}
 use Rattle.dbtg_replay.specs.Replaying.{IsShownReplay}
 use Rattle.dbtg_replay.proofs.Public.{made_again_behind}
 use Rattle.dbtg.specs.Threading.{IsHistoryOfAll, IsPrintedOnThreads, ThreadsHeld, audit_line}
@@ -38,24 +38,24 @@ sequential lists capacity scripts history image units all = record {
   scripts_begin = begins lists capacity scripts history image units all;
 }
 
-saved_again : (first : Bool) (text : List ℕ) (scripts : List (List ℕ)) (capacity : ℕ) (out turns : List ℕ) → is_count (length scripts) ≡ true → AcceptsTexts text scripts
-    → IsPrintedOnThreads first (schema_in text) capacity (map (script (schema_in text)) scripts) out turns
-    → (turns_refusal turns ≡ None) × ((printed : List ℕ) → IsShownReplay first Plain text scripts (Turns turns) capacity printed → out ≡ printed ++ audit_line)
-saved_again first text scripts capacity out turns right accepted printed_is =
+saved_again : (first : Bool) (form : AnswerForm) (text : List ℕ) (scripts : List (List ℕ)) (capacity : ℕ) (out turns : List ℕ) → is_count (length scripts) ≡ true → AcceptsTexts text scripts
+    → IsPrintedOnThreads first form (schema_in text) capacity (map (script (schema_in text)) scripts) scripts out turns
+    → (turns_refusal turns ≡ None) × ((printed : List ℕ) → IsShownReplay first form text scripts (Turns turns) capacity printed → out ≡ printed ++ audit_line)
+saved_again first form text scripts capacity out turns right accepted printed_is =
     let lists = schema_in text in
-    let law = sequential lists capacity (map (script lists) scripts) printed_is.history printed_is.image printed_is.units printed_is.is_history in
-    let again = made_again_behind first text scripts capacity printed_is.history printed_is.image printed_is.units printed_is.behind turns right accepted law printed_is.in_turn printed_is.are_turns in
+    let law = sequential lists capacity (map (script lists) scripts) printed_is.given.history printed_is.given.image printed_is.given.units printed_is.is_history in
+    let again = made_again_behind first form text scripts capacity printed_is.given printed_is.behind turns right accepted law printed_is.in_turn printed_is.are_turns in
     (again.0, λ printed r. printed_is.is_text ∙ ap (λ xs. xs ++ audit_line) (sym (again.1 printed r)))
 
 -- what the statements that were read come to on threads is what the texts do
-pub runs_on_threads : (holds : TextPlace → List ℕ → Type 0) (lists : Lists) (count : ℕ) (first : Bool) (capacity : ℕ) (out turns : List ℕ)
+pub runs_on_threads : (holds : TextPlace → List ℕ → Type 0) (lists : Lists) (count : ℕ) (first : Bool) (form : AnswerForm) (capacity : ℕ) (out turns : List ℕ)
     → is_count count ≡ true → ReadSchema holds lists → (scripts : ReadScripts holds lists count)
-    → IsPrintedOnThreads first lists capacity (map (script lists) scripts.texts) out turns → ThreadsHeld holds count first capacity out turns
-runs_on_threads holds lists count first capacity out turns right read scripts run =
+    → IsPrintedOnThreads first form lists capacity (map (script lists) scripts.texts) scripts.texts out turns → ThreadsHeld holds count first form capacity out turns
+runs_on_threads holds lists count first form capacity out turns right read scripts run =
     let counted = ap is_count scripts.many ∙ right in
     let accepted = all_accepted holds lists count read scripts in
-    let of_texts = subst (λ (s : Lists). IsPrintedOnThreads first s capacity (map (script s) scripts.texts) out turns) read.says run in
-    let saved = saved_again first read.text scripts.texts capacity out turns counted accepted of_texts in (
+    let of_texts = subst (λ (s : Lists). IsPrintedOnThreads first form s capacity (map (script s) scripts.texts) scripts.texts out turns) read.says run in
+    let saved = saved_again first form read.text scripts.texts capacity out turns counted accepted of_texts in (
       read_texts holds lists count read scripts Serial tt,
       record {
         count = counted;

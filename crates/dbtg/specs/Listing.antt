@@ -1,8 +1,8 @@
 -- What `outcomes` prints: how many orders and results there are, each statement that has more than one status, and then, result by
--- result, the first order that leads to it and what its moves print, or how that differs from the first result.
+-- result, the first order that leads to it and what its moves print, or in brief how that differs from the first result.
 -- text and scripts are bytes, lists the schema that a text says, m is a meeting, all is what can come out, one is a result and k its
--- number; first is the text with which others are compared, where they are; options are those of the command.
-use Rattle.std.specs.Prelude.{ℕ, ◌≡◌, ◌<◌, ◌≤◌, ◌+◌, ◌++◌, ◌∷◌, ◌⊎◌, nat_lt, Bool, true, false, not, List, [], Option, Some, None, Contains, codes, decimal, drop, filter, length, map, if◌then◌else◌}
+-- number; before are the results before it, where results are shown in brief; options are those of the command.
+use Rattle.std.specs.Prelude.{ℕ, ◌≡◌, ◌<◌, ◌≤◌, ◌+◌, ◌++◌, ◌∷◌, ◌⊎◌, nat_lt, Bool, true, List, [], Option, Some, None, Contains, codes, decimal, drop, length, map, option_map, if◌then◌else◌}
 use Rattle.std.specs.List.{flat_map}
 use Rattle.dbtg_schema.specs.Lists.{Lists}
 use Rattle.dbtg_unit.specs.declared.moves.Move.{Move}
@@ -10,11 +10,11 @@ use Rattle.dbtg_unit.specs.declared.statement.Statement.{Statement}
 use Rattle.dbtg_outcomes.specs.declared.answered.Answered.{Answered}
 use Rattle.dbtg_outcomes.specs.declared.outcomes.OneResult.{OneResult}
 use Rattle.dbtg_outcomes.specs.declared.outcomes.Outcomes.{Outcomes}
-use Rattle.dbtg_outcomes.specs.Groups.{among}
+use Rattle.dbtg_outcomes.specs.declared.brief.Told.{Told}
+use Rattle.dbtg_outcomes.specs.Brief.{none_before, shown_behind, told_of}
 use Rattle.dbtg_outcomes.specs.Outcomes.{AreOutcomes, count_states}
-use Rattle.dbtg_outcomes.specs.Results.{Meeting, told_text}
+use Rattle.dbtg_outcomes.specs.Results.{Meeting}
 use Rattle.dbtg_script.specs.declared.limits.TheConstants.{MOST_MOVES}
-use Rattle.dbtg_script.specs.Lines.{lines}
 use Rattle.dbtg_script.specs.Statements.{script}
 use Rattle.dbtg_script.specs.Printing.Texts.{four_digits}
 use Rattle.dbtg_script.specs.Printing.WordTexts.{moves_words_text, turns_text}
@@ -52,7 +52,7 @@ count_text all = codes "orders " ++ orders_text all.orders ++ codes ", results "
 abbrev pub summary_text : Outcomes → List ℕ
 summary_text all = count_text all ++ flat_map differing_text all.answered.items
 
--- a word in front of a line; where there is no line the word is one
+-- a word before a line; if there is no line the word is one
 abbrev pub worded : List ℕ → List ℕ → List ℕ
 worded word [] = word ++ 10 ∷ []
 worded word (c ∷ line) = word ++ 32 ∷ c ∷ line
@@ -61,22 +61,14 @@ worded word (c ∷ line) = word ++ 32 ∷ c ∷ line
 abbrev pub result_line : ℕ → OneResult → List ℕ
 result_line k one = codes "result " ++ decimal k ++ codes ", orders " ++ orders_text one.orders ++ 10 ∷ []
 
--- a line behind a mark
-abbrev pub marked : List ℕ → List ℕ → List ℕ
-marked mark line = mark ++ line ++ 10 ∷ []
+-- what is printed of the run of a result: all of it, or what is shown in brief behind others
+abbrev pub shown_text : Meeting → Option (List Told) → Run → List ℕ
+shown_text m None given = given_text m.schema given
+shown_text m (Some before) given = shown_behind before (told_of m given) (given_text m.schema given)
 
--- the lines of a text that are no lines of another, each behind a mark
-abbrev pub lines_apart : List ℕ → List ℕ → List ℕ → List ℕ
-lines_apart mark text other = flat_map (marked mark) (filter (λ line. not (among (lines other) line)) (lines text))
-
--- how a text differs from the first: the lines that only the first has, and then those that only the text has
-abbrev pub difference_text : List ℕ → List ℕ → List ℕ
-difference_text first text = lines_apart (codes "- ") first text ++ lines_apart (codes "+ ") text first
-
--- what is printed of the run of result k: all of it; or, where it is compared, of each but the first how it differs from that
-abbrev pub shown_text : Meeting → Option (List ℕ) → ℕ → Run → List ℕ
-shown_text m None k given = given_text m.schema given
-shown_text m (Some first) k given = if nat_lt 1 k then difference_text first (told_text m given) else given_text m.schema given
+-- behind those before stands this one too
+abbrev pub and_told : Meeting → Option (List Told) → Run → Option (List Told)
+and_told m before given = option_map (λ them. them ++ told_of m given ∷ []) before
 
 -- a result: its line, these turns and moves of its first order, and what is printed after them
 abbrev pub result_text : ℕ → OneResult → List ℕ → List Move → List ℕ → List ℕ
@@ -85,20 +77,21 @@ result_text k one turns moves shown =
 
 -- the text shows a result: its turns stand for these moves, which are no more than a text of moves may have; what they print
 -- follows. The turns and moves of the script that is made first are left out
-pub record IsResultText (m : Meeting) (first : Option (List ℕ)) (k : ℕ) (one : OneResult) (out : List ℕ) : Type 0 where
+pub record IsResultText (m : Meeting) (before : Option (List Told)) (k : ℕ) (one : OneResult) (out : List ℕ) : Type 0 where
   pub moves : List Move
   pub given : Run
   pub by_turns : IsRunByTurns m.schema m.capacity m.scripts one.turns moves given
   pub few : length moves ≤ MOST_MOVES
-  pub before : List Move
-  pub are_first : AreFirstMoves m.first m.schema m.capacity m.scripts before
-  pub is_text : out ≡ result_text k one (drop (length (first_turns m.first m.scripts)) one.turns) (drop (length before) moves) (shown_text m first k given)
+  pub front : List Move
+  pub are_first : AreFirstMoves m.first m.schema m.capacity m.scripts front
+  pub is_text : out ≡ result_text k one (drop (length (first_turns m.first m.scripts)) one.turns) (drop (length front) moves) (shown_text m before given)
 
--- the texts of results, one behind another, the first of them number k
-abbrev pub AreResultTexts : Meeting → Option (List ℕ) → ℕ → List OneResult → List ℕ → Type 0
-AreResultTexts m first k [] out = out ≡ []
-AreResultTexts m first k (one ∷ rest) out =
-    (front : List ℕ) × (back : List ℕ) × (out ≡ front ++ back) × IsResultText m first k one front × AreResultTexts m first (k + 1) rest back
+-- the texts of results, one after another, the first of them number k; in brief behind those before, and after them all stand behind
+abbrev pub AreResultTexts : Meeting → Option (List Told) → Option (List Told) → ℕ → List OneResult → List ℕ → Type 0
+AreResultTexts m before after k [] out = (out ≡ []) × (after ≡ before)
+AreResultTexts m before after k (one ∷ rest) out =
+    (front : List ℕ) × (back : List ℕ) × (out ≡ front ++ back)
+    × (is : IsResultText m before k one front) × AreResultTexts m (and_told m before is.given) after (k + 1) rest back
 
 -- the turns of a result stand for more moves than a text of moves may have
 pub record IsLong (m : Meeting) (one : OneResult) : Type 0 where
@@ -107,32 +100,18 @@ pub record IsLong (m : Meeting) (one : OneResult) : Type 0 where
   pub many : MOST_MOVES < length moves
 
 -- the text is the summary of what comes out, and then that of each result
-pub record AreTold (m : Meeting) (first : Option (List ℕ)) (all : Outcomes) (out : List ℕ) : Type 0 where
+pub record AreTold (m : Meeting) (before : Option (List Told)) (all : Outcomes) (out : List ℕ) : Type 0 where
   pub texts : List ℕ
-  pub are_texts : AreResultTexts m first 1 all.results.items texts
+  pub after : Option (List Told)
+  pub are_texts : AreResultTexts m before after 1 all.results.items texts
   pub is_text : out ≡ summary_text all ++ texts
-
--- the text tells a result from others: that of the run which its turns give
-pub record TellsResult (m : Meeting) (one : OneResult) (text : List ℕ) : Type 0 where
-  pub moves : List Move
-  pub given : Run
-  pub by_turns : IsRunByTurns m.schema m.capacity m.scripts one.turns moves given
-  pub text_is : text ≡ told_text m given
-
--- results are compared with the first of them, where they are shown briefly
-abbrev pub AreComparedWith : Meeting → Bool → List OneResult → Option (List ℕ) → Type 0
-AreComparedWith m false ones first = first ≡ None
-AreComparedWith m true [] first = first ≡ None
-AreComparedWith m true (one ∷ ones) first = (text : List ℕ) × (first ≡ Some text) × TellsResult m one text
 
 -- the text shows all that can come out
 pub record IsListing (m : Meeting) (brief : Bool) (limit : ℕ) (out : List ℕ) : Type 0 where
   pub all : Outcomes
   pub are : AreOutcomes m all
   pub within : count_states m ≤ limit
-  pub first : Option (List ℕ)
-  pub compared : AreComparedWith m brief all.results.items first
-  pub told : AreTold m first all out
+  pub told : AreTold m (none_before brief) all out
 
 -- one of the results is too long
 pub record HasLongResult (m : Meeting) : Type 0 where

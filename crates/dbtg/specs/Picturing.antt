@@ -1,12 +1,14 @@
 -- What `timeline` and `page` print: the picture of the events that moves make, or the page of their run. Without moves or turns these
 -- are the moves of the serial run.
 -- text, scripts and order are bytes, lists the schema that a text says.
-use Rattle.std.specs.Prelude.{ℕ, ◌≡◌, Bool, true, List, ◌++◌, length, map}
+use Rattle.std.specs.Prelude.{ℕ, ◌≡◌, Bool, true, false, List, ◌++◌, length, map}
 use Rattle.dbtg_schema.specs.Lists.{Lists}
 use Rattle.dbtg_unit.specs.declared.moves.Move.{Move}
 use Rattle.dbtg_unit.specs.declared.statement.Statement.{Statement}
 use Rattle.dbtg_script.specs.Lines.{statement_lines}
 use Rattle.dbtg_script.specs.Statements.{script}
+use Rattle.dbtg_timeline.specs.declared.event.Event.{Event}
+use Rattle.dbtg_timeline.specs.Notes.{noted}
 use Rattle.dbtg_timeline.specs.Svg.{timeline_svg}
 use Rattle.dbtg_timeline.specs.Text.{timeline_text}
 use Rattle.dbtg_timeline.specs.Watching.{events_of_run}
@@ -18,14 +20,20 @@ use Rattle.dbtg_command.specs.declared.order.OrderKind.{OrderKind}
 use Rattle.dbtg_command.specs.declared.place.TextPlace.{TextPlace}
 use Rattle.dbtg.specs.declared.timeline.Form.{Form}
 use Rattle.dbtg.specs.declared.timeline.Form.TheVariants.{Page, Svg, Text}
+use Rattle.dbtg_replay.specs.Explaining.{said_of_run}
 use Rattle.dbtg_replay.specs.Ordering.{AreFirstMoves, StandFor, first_turns, serial_turns}
 use Rattle.dbtg_command.specs.Refusals.{AcceptsOrder, AcceptsTexts, is_count, moves_in, schema_in, turns_in}
 use Rattle.dbtg_command.specs.Sources.{Texts}
 
+-- the events of the run; where it is explained, each ticket with what is said of its statement
+abbrev pub events_shown : Bool → Lists → ℕ → List (List Statement) → List Move → List Event
+events_shown false lists capacity scripts moves = events_of_run lists capacity scripts moves
+events_shown true lists capacity scripts moves = map (noted (said_of_run lists capacity scripts moves)) (events_of_run lists capacity scripts moves)
+
 -- the run of these moves: as plain text, as SVG, or as a page
 abbrev pub picture : Form → Lists → ℕ → List (List Statement) → List (List ℕ) → List Move → List ℕ
-picture Text lists capacity scripts texts moves = timeline_text (map statement_lines texts) (events_of_run lists capacity scripts moves)
-picture Svg lists capacity scripts texts moves = timeline_svg (map statement_lines texts) (events_of_run lists capacity scripts moves)
+picture (Text explained) lists capacity scripts texts moves = timeline_text (map statement_lines texts) (events_shown explained lists capacity scripts moves)
+picture (Svg explained) lists capacity scripts texts moves = timeline_svg (map statement_lines texts) (events_shown explained lists capacity scripts moves)
 picture Page lists capacity scripts texts moves = page_text lists capacity scripts (map statement_lines texts) CAUSES.now moves
 
 -- these moves say the order, or its turns stand for them; where one script is made first, its moves or turns stand before them

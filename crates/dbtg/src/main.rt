@@ -1,4 +1,4 @@
-//! The program: reads the command's words and the files that they name, and prints what comes of them.
+//! The program: reads the command's words and the files that they name, and prints the result.
 #![tactic(auto)]
 
 ghost use Rattle.std.specs.Prelude.{◌≡◌, ◌<◌, IfErr, true};
@@ -6,8 +6,8 @@ ghost use Rattle.std.specs.Process.{exit_status};
 ghost use Rattle.dbtg_schema.specs.Sound.{IsSound};
 ghost use Rattle.dbtg_command.specs.Refusals.{is_count, status_of};
 
-mod brief;
 mod outcomes;
+mod progress;
 mod replay;
 mod threads;
 mod timeline;
@@ -31,6 +31,7 @@ use dbtg_running::{Printed, RunOptions, check_programs, run};
 use dbtg_schema::Schema;
 use dbtg_shell::{Broken, Session, converse, write_file};
 use outcomes::{ListingOptions, print_outcomes};
+use progress::Progress;
 use std::alloc::Global;
 use std::env;
 use std::io::{self, IsTerminal, Write};
@@ -41,13 +42,13 @@ use threads::{OnThreads, run_on_threads};
 use timeline::{Form, timeline};
 use wishes::{Judged, judge_outcomes};
 
-/// The exit status where a program ended by ASSERT, SIZE or ASTRAY, or can end so.
+/// The exit status if a program ended by ASSERT, SIZE or ASTRAY, or can end by one.
 const PROGRAM_FAILED: u8 = 4;
 
 /// The exit status of a program whose reader has gone away: the one with which a shell reports that SIGPIPE ended it.
 const READER_GONE: u8 = 141;
 
-/// The exit status where some order breaks a wish.
+/// The exit status if some order breaks a wish.
 const WISH_BROKEN: u8 = 4;
 
 /// The exit status of a fault of the command's words.
@@ -66,7 +67,7 @@ fn print_text(rt: &HostRuntime, text: &[u8]) -> ExitCode {
     print_with(rt, text, ExitCode::SUCCESS)
 }
 
-// The text, and this status where it could be written.
+// The text, and this status if it could be written.
 fn print_with(rt: &HostRuntime, text: &[u8], status: ExitCode) -> ExitCode {
     let mut out = io::writer(rt);
     match out.write_all(text) {
@@ -118,12 +119,24 @@ fn told_of(rt: &HostRuntime, fault: &Fault, paths: &Paths, explains: bool) -> Ex
 }
 
 fn form_of(call: &Call) -> Form {
-    if call.svg { Form::Svg } else { Form::Text }
+    let explained = explains_refusals(call);
+    if call.svg {
+        Form::Svg { explained }
+    } else {
+        Form::Text { explained }
+    }
+}
+
+// Are refusals explained? What goes to standard output is the same on a terminal.
+fn explains_refusals(call: &Call) -> bool {
+    call.explains && !call.no_explain
 }
 
 fn answer_form(call: &Call) -> AnswerForm {
     if call.trace {
         AnswerForm::Trace
+    } else if call.echo && explains_refusals(call) {
+        AnswerForm::Explained(call.capacity)
     } else if call.echo {
         AnswerForm::Echo
     } else {
@@ -131,7 +144,7 @@ fn answer_form(call: &Call) -> AnswerForm {
     }
 }
 
-// What a command prints that is asked of files, whatever says their order.
+// What a command prints that reads files, whatever gives their order.
 fn printed(rt: &HostRuntime, files: &Files<HostRuntime>, call: &Call) -> Result<Vec<u8>, Fault> {
     let alloc = rt.alloc();
     match call.named {
@@ -156,7 +169,7 @@ fn check_files(
     }
 }
 
-// The first fault of each file that has one; where none has one, what `check` prints.
+// The first fault of each file that has one; if none has one, what `check` prints.
 fn tell_each(rt: &HostRuntime, files: &Files<HostRuntime>, call: &Call) -> ExitCode {
     match each_fault(rt.alloc(), files, call.programs) {
         Ok(faults) => {
@@ -194,7 +207,9 @@ fn print_run(
     call: &Call,
 ) -> ExitCode {
     if given.is_ok() {
-        tell_refusals(rt, files, call);
+        if let Err(fault) = tell_refusals(rt, files, call) {
+            return told(rt, &fault);
+        }
     }
     print_or_tell(rt, given, files.paths, explains(rt, call))
 }
@@ -213,15 +228,21 @@ fn begins_with_file(call: &Call) -> bool {
     runs && call.first && call.schema != "-" && call.scripts.last().is_some_and(|path| *path != "-")
 }
 
-// Which statements of the script that is made first were refused.
-fn tell_refusals(rt: &HostRuntime, files: &Files<HostRuntime>, call: &Call) {
+// Which statements of the script that is made first were refused. Nothing is told where memory is wanting, and that is a fault; nor where
+// the files have become others since the run, and that is none.
+fn tell_refusals(rt: &HostRuntime, files: &Files<HostRuntime>, call: &Call) -> Result<(), Fault> {
     if !begins_with_file(call) {
-        return;
+        return Ok(());
     }
-    let Ok(told) = refusals_of_first(rt.alloc(), files, call.capacity) else {
-        return;
-    };
-    tell_text(rt, told.as_slice());
+    match refusals_of_first(rt.alloc(), files, call.capacity) {
+        Ok(told) => {
+            let lines = String::from_utf8_lossy(rt.alloc(), told.as_slice())?;
+            let _ = eprint!(rt; "{lines}");
+            Ok(())
+        }
+        Err(Fault::Memory) => Err(Fault::Memory),
+        Err(_) => Ok(()),
+    }
 }
 
 fn print_threads<R: Threads + Wait + Sync>(rt: &HostRuntime, threads: &R, call: &Call) -> ExitCode {
@@ -230,11 +251,12 @@ fn print_threads<R: Threads + Wait + Sync>(rt: &HostRuntime, threads: &R, call: 
         reader: rt,
         paths: &paths,
     };
-    match run_on_threads(threads, rt.alloc(), &files, call.capacity, call.first) {
-        Ok(said) => {
-            tell_refusals(rt, &files, call);
-            print_saved(rt, &said, call.saved)
-        }
+    let form = answer_form(call);
+    match run_on_threads(threads, rt.alloc(), &files, call.capacity, form, call.first) {
+        Ok(said) => match tell_refusals(rt, &files, call) {
+            Ok(()) => print_saved(rt, &said, call.saved),
+            Err(fault) => told(rt, &fault),
+        },
         Err(fault) => told_of(rt, &fault, &paths, explains(rt, call)),
     }
 }
@@ -250,7 +272,7 @@ fn print_saved(rt: &HostRuntime, said: &OnThreads, saved: Option<&str>) -> ExitC
     print_text(rt, said.printed.as_slice())
 }
 
-// Which programs are made before and behind all others.
+// Which programs run before and after all others.
 fn around_of(call: &Call) -> Around {
     Around {
         first: call.first,
@@ -267,7 +289,7 @@ fn print_programs(rt: &HostRuntime, call: &Call) -> ExitCode {
     let options = RunOptions {
         capacity: call.capacity,
         around: around_of(call),
-        echo: call.echo,
+        form: answer_form(call),
     };
     print_said(rt, run(rt.alloc(), &files, options), &paths, call)
 }
@@ -277,13 +299,16 @@ fn tell_explored(rt: &HostRuntime, call: &Call) -> ExitCode {
     let asked = Exploring {
         capacity: call.capacity,
         around: around_of(call),
+        brief: call.brief,
         limit: call.limit,
     };
     let files = Files {
         reader: rt,
         paths: &paths,
     };
-    let said = explore_programs(rt.alloc(), &files, asked);
+    let progress = Progress::begin(rt);
+    let said = explore_programs(rt.alloc(), &progress, &files, asked);
+    progress.end();
     print_said(rt, said, &paths, call)
 }
 
@@ -348,10 +373,10 @@ fn audit_files(rt: &HostRuntime, call: &Call) -> ExitCode
         all: call.all,
     };
     match audit(rt.alloc(), &files, options) {
-        Ok(said) => {
-            tell_refusals(rt, &files, call);
-            print_verdict(rt, &said, call.explains)
-        }
+        Ok(said) => match tell_refusals(rt, &files, call) {
+            Ok(()) => print_verdict(rt, &said, call.explains),
+            Err(fault) => told(rt, &fault),
+        },
         Err(fault) => told_of(rt, &fault, &paths, call.explains),
     }
 }
@@ -416,15 +441,13 @@ fn tell_outcomes(rt: &HostRuntime, call: &Call) -> ExitCode {
         brief: call.brief,
         limit: call.limit,
     };
-    match call.wish {
-        Some(wished) => tell_judged(rt, call, options, wished),
-        None => print_run(
-            rt,
-            print_outcomes(rt.alloc(), &files, options),
-            &files,
-            call,
-        ),
+    if let Some(wished) = call.wish {
+        return tell_judged(rt, call, options, wished);
     }
+    let progress = Progress::begin(rt);
+    let given = print_outcomes(rt.alloc(), &progress, &files, options);
+    progress.end();
+    print_run(rt, given, &files, call)
 }
 
 fn wish_of(wished: Wished) -> Wish
@@ -438,7 +461,7 @@ fn wish_of(wished: Wished) -> Wish
     }
 }
 
-// What comes of a wish, with a status of its own where some order breaks it.
+// The result of a wish, with a status of its own if some order breaks it.
 fn tell_judged(rt: &HostRuntime, call: &Call, options: ListingOptions, wished: Wished) -> ExitCode {
     let paths = Paths {
         schema: call.schema,
@@ -449,7 +472,10 @@ fn tell_judged(rt: &HostRuntime, call: &Call, options: ListingOptions, wished: W
         reader: rt,
         paths: &paths,
     };
-    match judge_outcomes(rt.alloc(), &files, options, wish_of(wished)) {
+    let progress = Progress::begin(rt);
+    let judged = judge_outcomes(rt.alloc(), &progress, &files, options, wish_of(wished));
+    progress.end();
+    match judged {
         Ok(Judged::Kept(text)) => print_run(rt, Ok(text), &files, call),
         Ok(Judged::Broken(text)) => print_broken(rt, text, &files, call),
         Ok(Judged::NoStatement) => no_statement(rt, wished),
@@ -463,7 +489,9 @@ fn print_broken(
     files: &Files<HostRuntime>,
     call: &Call,
 ) -> ExitCode {
-    tell_refusals(rt, files, call);
+    if let Err(fault) = tell_refusals(rt, files, call) {
+        return told(rt, &fault);
+    }
     let mut out = io::writer(rt);
     match out.write_all(text.as_slice()) {
         Ok(()) => ExitCode::from(WISH_BROKEN),
@@ -555,7 +583,7 @@ fn print_topic(rt: &HostRuntime, topic: &Topic) -> ExitCode {
     }
 }
 
-// Arguments that are no text, or want of memory.
+// Arguments that are not text, or a refusal of memory.
 fn without_words(rt: &HostRuntime, error: &io::Error) -> ExitCode {
     if error.kind() == io::ErrorKind::OutOfMemory {
         return told(rt, &Fault::Memory);

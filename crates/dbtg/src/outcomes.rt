@@ -1,24 +1,26 @@
-//! All that can come out when scripts run at the same time, as text: each result whole, or as what differs from the first.
+//! All that can come out when scripts run at the same time, as text: each result whole, or in brief.
 ghost use Rattle.std.specs.Prelude.{◌≡◌, ℕ, ◌++◌, ◌⊎◌, codes, nat_lt, IfErr, IfOk, List, None, OnOk, Some, true, drop, option_map};
 ghost use Rattle.std.specs.List.{flat_map, list_all};
 ghost use Rattle.dbtg_schema.specs.Sound.{IsSound};
 ghost use Rattle.dbtg_unit.specs.declared.moves.Move.{Move};
 ghost use Rattle.dbtg_outcomes.specs.Outcomes.{IsMeeting};
-ghost use Rattle.dbtg_outcomes.specs.Results.{told_text};
+ghost use Rattle.dbtg_outcomes.specs.Brief.{none_before};
 ghost use Rattle.dbtg_script.specs.Printing.WordTexts.{moves_words_text, turns_text};
-ghost use Rattle.dbtg.specs.Listing.{AreComparedWith, AreTold, IsListing, IsLong, IsOver, IsResultText, OutcomesHeld, TellsResult, ToldOfOutcomes, count_text, difference_text, differing_text, orders_text, result_line, shown_text, spaced_status, summary_text, worded};
-ghost use Rattle.dbtg.specs.Inside.Listing.{AreListed, IsFront, IsUntold, are_short};
+ghost use Rattle.dbtg.specs.Listing.{AreTold, IsListing, IsLong, IsOver, OutcomesHeld, ToldOfOutcomes, and_told, count_text, differing_text, orders_text, result_line, shown_text, spaced_status, summary_text, worded};
+ghost use Rattle.dbtg.specs.Inside.Listing.{IsFront, IsShown, IsUntold, are_short};
 ghost use Rattle.dbtg_command.specs.Refusals.{is_count};
 ghost use Rattle.dbtg_command.specs.Sources.{ReadSchema};
 ghost use Rattle.dbtg_command.specs.declared.fault.Fault.TheVariants.{Memory, MovesOver};
 ghost use Rattle.dbtg_command.specs.declared.order.OrderKind.TheVariants.{Serial};
 
-use crate::brief::push_difference;
 use dbtg_command::{Fault, Source, copy_scripts};
-use dbtg_outcomes::{Answered, Meeting, OneResult, Outcomes, Stop, all_outcomes};
+use dbtg_outcomes::{
+    Answered, Meeting, OneResult, Outcomes, Stop, Told, Watch, all_outcomes, none_before,
+    push_shown,
+};
 use dbtg_replay::replay::{AnswerForm, Shown, push_given, schema_for_run};
 use dbtg_replay::{behind, first_turns, moves_behind_first, read_scripts};
-use dbtg_schema::Schema;
+use dbtg_schema::{Row, Schema};
 use dbtg_script::{MOST_MOVES, moves_words_text, push_number, push_status, turns_text};
 use dbtg_step::{Run, Turned, run_turns};
 use dbtg_unit::Move;
@@ -32,24 +34,24 @@ pub struct ListingOptions {
     pub first: bool,
     /// Results are also told apart by the answers that units get.
     pub answers: bool,
-    /// Of each result but the first only what differs from the first is shown.
+    /// Results are shown in brief.
     pub brief: bool,
-    /// How many states may come.
+    /// How many states are allowed.
     pub limit: u64,
 }
 
-/// How many turns and moves make the script that is made first. They stand in front, and are not printed.
+/// How many turns and moves make the script that is made first. They come at the beginning, and are not printed.
 #[derive(Clone, Copy)]
 pub struct Front {
     pub turns: usize,
     pub moves: usize,
 }
 
-/// How results are shown: what is left out in front, and the text with which each but the first is compared, where they are.
-#[derive(Clone, Copy)]
-pub struct Showing<'a> {
+/// How results are shown: what is left out at the beginning, and in brief the results before.
+#[derive(Drop)]
+pub struct Showing {
     pub front: Front,
-    pub first: Option<&'a [u8]>,
+    pub before: Option<Row<Told>>,
 }
 
 // A number of orders; it may be above what a `u64` can count.
@@ -155,60 +157,44 @@ fn push_turned(
     Ok(())
 }
 
-// How a run differs from the first.
-fn push_apart(
+// What is shown of the run of a result. In brief it then stands behind those before.
+fn push_run_shown(
     alloc: Global,
     out: &mut Vec<u8>,
     meeting: &Meeting,
-    first: &[u8],
+    before: &mut Option<Row<Told>>,
     run: &mut Run,
 ) -> Result<(), AllocError>
     requires { IsMeeting meeting.now }
-    ensures { OnOk result (out.new.items ≡ out.old.items ++ difference_text first.now (told_text meeting.now run.old)) }
-{
-    let text = meeting.told_text(alloc, run)?;
-    push_difference(out, first, text.as_slice())
-}
-
-// What is printed of the run of a result.
-fn push_shown(
-    alloc: Global,
-    out: &mut Vec<u8>,
-    meeting: &Meeting,
-    first: Option<&[u8]>,
-    number: u64,
-    run: &mut Run,
-) -> Result<(), AllocError>
-    requires { IsMeeting meeting.now }
-    ensures { OnOk result (out.new.items ≡ out.old.items ++ shown_text meeting.now (option_map (λ text. text.now) first.entry) number run.old) }
+    ensures text { OnOk result (out.new.items ≡ out.old.items ++ shown_text meeting.now before.old run.old) }
+    ensures behind { OnOk result (before.new ≡ and_told meeting.now before.old run.old) }
 {
     let answers = Shown {
         form: AnswerForm::Plain,
         texts: &[],
     };
-    let Some(first) = first else {
-        return push_given(alloc, out, meeting.schema, answers, run);
+    let mut whole = Vec::new(alloc);
+    push_given(alloc, &mut whole, meeting.schema, answers, run)?;
+    let Some(before) = before else {
+        return out.extend_from_slice(whole.as_slice());
     };
-    if number > 1 {
-        push_apart(alloc, out, meeting, first, run)
-    } else {
-        push_given(alloc, out, meeting.schema, answers, run)
-    }
+    let told = meeting.told(alloc, run)?;
+    push_shown(out, before, told, whole.as_slice())
 }
 
 // The number of a result, how many orders lead to it, the first of them as turns and as moves, and what is shown of what these moves
-// printed. The turns and moves in front are left out.
+// printed. The turns and moves at the beginning are left out.
 fn push_made(
     alloc: Global,
     out: &mut Vec<u8>,
     meeting: &Meeting,
-    showing: Showing,
+    showing: &mut Showing,
     number: u64,
     one: &OneResult,
     turned: &mut Turned,
 ) -> Result<(), Fault>
     requires { IsMeeting meeting.now }
-    ensures done { OnOk result ((moves : List Move) × (turned.old.moves ≡ Some moves) × (out.new.items ≡ out.old.items ++ result_line number one.now ++ worded (codes "turns") (turns_text (drop showing.entry.front.turns one.now.turns)) ++ worded (codes "moves") (moves_words_text (drop showing.entry.front.moves moves)) ++ shown_text meeting.now (option_map (λ text. text.now) showing.entry.first) number turned.old.run)) }
+    ensures done { OnOk result ((moves : List Move) × (turned.old.moves ≡ Some moves) × (out.new.items ≡ out.old.items ++ result_line number one.now ++ worded (codes "turns") (turns_text (drop showing.old.front.turns one.now.turns)) ++ worded (codes "moves") (moves_words_text (drop showing.old.front.moves moves)) ++ shown_text meeting.now showing.old.before turned.old.run) × (showing.new ≡ record { front = showing.old.front; before = and_told meeting.now showing.old.before turned.old.run })) }
     ensures refused { IfErr result (λ fault. (fault ≡ Memory) ⊎ ((fault ≡ MovesOver) × (turned.old.moves ≡ None))) }
 {
     let Some(moves) = &turned.moves else {
@@ -221,7 +207,7 @@ fn push_made(
         behind(one.turns.as_slice(), showing.front.turns),
         behind(moves.as_slice(), showing.front.moves),
     )?;
-    push_shown(alloc, out, meeting, showing.first, number, &mut turned.run)?;
+    push_run_shown(alloc, out, meeting, &mut showing.before, &mut turned.run)?;
     Ok(())
 }
 
@@ -230,13 +216,13 @@ fn push_result(
     alloc: Global,
     out: &mut Vec<u8>,
     meeting: &Meeting,
-    showing: Showing,
+    showing: &mut Showing,
     number: u64,
     one: &OneResult,
 ) -> Result<(), Fault>
     requires meeting { IsMeeting meeting.now }
-    requires front { IsFront meeting.now showing.front }
-    ensures done { OnOk result ((text : List ℕ) × (out.new.items ≡ out.old.items ++ text) × IsResultText meeting.now (option_map (λ text. text.now) showing.entry.first) number one.now text) }
+    requires front { IsFront meeting.now showing.old.front }
+    ensures done { OnOk result (IsShown meeting.now number one.now out.old.items out.new.items showing.old showing.new) }
     ensures refused { IfErr result (λ fault. (fault ≡ Memory) ⊎ ((fault ≡ MovesOver) × IsLong meeting.now one.now)) }
 {
     let copies = copy_scripts(alloc, meeting.scripts)?;
@@ -273,64 +259,17 @@ fn front_of(alloc: Global, meeting: &Meeting) -> Result<Front, AllocError>
     })
 }
 
-// The text of a result with which others can be compared.
-fn compared_text(alloc: Global, meeting: &Meeting, one: &OneResult) -> Result<Vec<u8>, AllocError>
-    requires { IsMeeting meeting.now }
-    ensures { IfOk result (λ text. TellsResult meeting.now one.now text.items) }
-{
-    let copies = copy_scripts(alloc, meeting.scripts)?;
-    let mut turned = run_turns(
-        alloc,
-        meeting.schema,
-        meeting.capacity,
-        copies,
-        one.turns.as_slice(),
-        MOST_MOVES,
-    )?;
-    let text = meeting.told_text(alloc, &mut turned.run);
-    turned.discard();
-    text
-}
-
-// The text with which results are compared: that of the first of them, where they are shown briefly.
-fn first_text(
-    alloc: Global,
-    meeting: &Meeting,
-    brief: bool,
-    results: &[OneResult],
-) -> Result<Option<Vec<u8>>, AllocError>
-    requires { IsMeeting meeting.now }
-    ensures { IfOk result (λ first. AreComparedWith meeting.now brief results.now (option_map (λ text. text.items) first)) }
-{
-    if !brief {
-        return Ok(None);
-    }
-    match results.first() {
-        Some(one) => Ok(Some(compared_text(alloc, meeting, one)?)),
-        None => Ok(None),
-    }
-}
-
-fn bytes_of(text: &Option<Vec<u8>>) -> Option<&[u8]>
-    ensures { option_map (λ bytes. bytes.now) result ≡ option_map (λ bytes. bytes.items) text.now }
-{
-    match text {
-        Some(text) => Some(text.as_slice()),
-        None => None,
-    }
-}
-
 // The summary, and then result by result.
 fn outcomes_text(
     alloc: Global,
     meeting: &Meeting,
-    showing: Showing,
+    showing: &mut Showing,
     all: &Outcomes,
 ) -> Result<Vec<u8>, Fault>
     requires meeting { IsMeeting meeting.now }
-    requires front { IsFront meeting.now showing.front }
+    requires front { IsFront meeting.now showing.old.front }
     requires short { list_all are_short all.now.answered.items ≡ true }
-    ensures done { IfOk result (λ out. AreTold meeting.now (option_map (λ text. text.now) showing.entry.first) all.now out.items) }
+    ensures done { IfOk result (λ out. AreTold meeting.now showing.old.before all.now out.items) }
     ensures refused { IfErr result (λ fault. IsUntold meeting.now all.now fault) }
 {
     let mut out = Vec::new(alloc);
@@ -343,7 +282,7 @@ fn outcomes_text(
     Ok(out)
 }
 
-// All results, each whole or, where they are shown briefly, as what differs from the first.
+// All results, each whole or in brief.
 fn listing_text(
     alloc: Global,
     meeting: &Meeting,
@@ -352,18 +291,19 @@ fn listing_text(
 ) -> Result<Vec<u8>, Fault>
     requires meeting { IsMeeting meeting.now }
     requires short { list_all are_short all.now.answered.items ≡ true }
-    ensures done { IfOk result (λ out. AreListed meeting.now brief all.now out.items) }
+    ensures done { IfOk result (λ out. AreTold meeting.now (none_before brief) all.now out.items) }
     ensures refused { IfErr result (λ fault. IsUntold meeting.now all.now fault) }
 {
     let front = front_of(alloc, meeting)?;
-    let text = first_text(alloc, meeting, brief, all.results.as_slice())?;
-    let first = bytes_of(&text);
-    outcomes_text(alloc, meeting, Showing { front, first }, all)
+    let before = none_before(alloc, brief);
+    let mut showing = Showing { front, before };
+    outcomes_text(alloc, meeting, &mut showing, all)
 }
 
 // What `outcomes` prints of a meeting.
-fn print_meeting(
+fn print_meeting<W: Watch>(
     alloc: Global,
+    watch: &W,
     meeting: &Meeting,
     brief: bool,
     limit: u64,
@@ -372,7 +312,7 @@ fn print_meeting(
     ensures done { IfOk result (λ out. IsListing meeting.now brief limit out.items) }
     ensures refused { IfErr result (λ fault. IsOver meeting.now limit fault) }
 {
-    match all_outcomes(alloc, meeting, limit as usize) {
+    match all_outcomes(alloc, watch, meeting, limit as usize) {
         Ok(all) => listing_text(alloc, meeting, brief, &all),
         Err(Stop::Memory) => Err(Fault::Memory),
         Err(Stop::States) => Err(Fault::StatesOver { limit }),
@@ -380,8 +320,9 @@ fn print_meeting(
 }
 
 // What `outcomes` prints of a schema that was read, and the scripts.
-fn outcomes_known<S: Source>(
+fn outcomes_known<S: Source, W: Watch>(
     alloc: Global,
+    watch: &W,
     source: &S,
     known: &Schema,
     options: ListingOptions,
@@ -401,13 +342,14 @@ fn outcomes_known<S: Source>(
         first: options.first,
         tells_answers: options.answers,
     };
-    print_meeting(alloc, &meeting, options.brief, options.limit)
+    print_meeting(alloc, watch, &meeting, options.brief, options.limit)
 }
 
 /// What `outcomes` prints of the schema and the scripts that a source gives, or the first fault. Above the limit of states it gives
 /// up.
-pub fn print_outcomes<S: Source>(
+pub fn print_outcomes<S: Source, W: Watch>(
     alloc: Global,
+    watch: &W,
     source: &S,
     options: ListingOptions,
 ) -> Result<Vec<u8>, Fault>
@@ -416,7 +358,7 @@ pub fn print_outcomes<S: Source>(
     ensures refused { IfErr result (λ fault. ToldOfOutcomes (S.holds source.now) (S.fails source.now) fault (S.count source.now) options) }
 {
     let known = schema_for_run(alloc, source)?;
-    let said = outcomes_known(alloc, source, &known, options);
+    let said = outcomes_known(alloc, watch, source, &known, options);
     known.discard();
     said
 }

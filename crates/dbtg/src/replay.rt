@@ -1,4 +1,4 @@
-//! Replaying texts at hand. The program does not call it; whoever has the texts does.
+//! Replaying texts in memory. The program does not call it; it is for users who have the texts.
 ghost use Rattle.std.specs.Prelude.{◌≡◌, IfErr, IfOk};
 ghost use Rattle.dbtg_command.specs.Refusals.{RefusesReplay};
 ghost use Rattle.dbtg_command.specs.Sources.{order_map};
@@ -9,7 +9,7 @@ use dbtg_replay::replay::{AnswerForm, replay};
 use dbtg_schema::Row;
 use std::alloc::Global;
 
-/// What `replay` prints of a schema, scripts and moves or turns at hand, or their first fault.
+/// What `replay` prints of a schema, scripts and moves or turns in memory, or their first fault.
 pub fn replay_bytes<'a>(
     alloc: Global,
     schema: &'a [u8],

@@ -1,12 +1,13 @@
-//! Running scripts on threads, and the text of what comes of it.
+//! Running scripts on threads, and the text of the result.
 ghost use Rattle.std.specs.Prelude.{◌≡◌, ◌<◌, ◌++◌, ℕ, All, List, IfErr, IfOk, IfSome, false, length, map, true};
 ghost use Rattle.dbtg_schema.specs.Sound.{IsSound};
 ghost use Rattle.dbtg_unit.specs.Database.Statements.Fits.{fits};
-ghost use Rattle.dbtg_script.specs.Printing.Texts.{run_text};
 ghost use Rattle.dbtg_script.specs.Printing.WordTexts.{turns_text};
 ghost use Rattle.dbtg_step.specs.Laws.{scripts_fit};
 ghost use Rattle.dbtg_run.specs.UnitView.{BelongsTo};
 ghost use Rattle.dbtg_replay.specs.Ordering.{first_turns};
+ghost use Rattle.dbtg_replay.specs.Replaying.{shown_text};
+ghost use Rattle.dbtg_replay.specs.declared.replay.AnswerForm.TheVariants.{Plain};
 ghost use Rattle.dbtg_command.specs.Refusals.{RefusesReplay, is_count};
 ghost use Rattle.dbtg.specs.Threading.{IsHistoryOfAll, IsPrintedOnThreads, IsThreads, ThreadsHeld, audit_line};
 ghost use Rattle.dbtg.specs.Inside.Threading.{HasMadeFirst};
@@ -15,11 +16,12 @@ ghost use Rattle.dbtg_command.specs.declared.order.Order.TheVariants as by;
 ghost use Rattle.dbtg_command.specs.declared.order.OrderKind.TheVariants.{Serial};
 
 use dbtg_command::{AtHand, Fault, Order, Source, copy_scripts};
-use dbtg_replay::replay::schema_for_run;
-use dbtg_replay::{first_turns, read_scripts, units_in_turn};
+use dbtg_replay::replay::{AnswerForm, Shown, push_given, schema_for_run};
+use dbtg_replay::{Scripts, first_turns, read_scripts_with_texts, units_in_turn};
 use dbtg_run::{Database, NoGate, RunUnit, Settled, Unsettled, run_script, run_units};
 use dbtg_schema::{Row, Schema};
-use dbtg_script::{push_run, turns_text};
+use dbtg_script::turns_text;
+use dbtg_step::Run;
 use dbtg_unit::Statement;
 use std::alloc::{AllocError, Global};
 use std::sync::Wait;
@@ -32,34 +34,59 @@ pub struct OnThreads {
     pub turns: Vec<u8>,
 }
 
-// Answers, image and units of a settled database, and the line of the audit. The audit is equal by proof: no other line is printed.
-fn settled_text(alloc: Global, settled: &Settled) -> Result<Vec<u8>, AllocError>
-    ensures { IfOk result (λ out. out.items ≡ run_text settled.now.schema settled.now.history settled.now.image.records settled.now.image.lists settled.now.image.next settled.now.image.usage settled.now.units ++ audit_line) }
+// What a database came to, as what a run gives; nothing is said of moves.
+fn given_of(alloc: Global, settled: Settled) -> Run
+    ensures history { result.history ≡ settled.history }
+    ensures image { result.image ≡ settled.image }
+    ensures units { result.units ≡ settled.units }
+{
+    let Settled {
+        schema,
+        image,
+        history,
+        units,
+    } = settled;
+    schema.discard();
+    Run {
+        results: Row::of(Vec::new(alloc)),
+        image,
+        history,
+        units,
+    }
+}
+
+// What is shown of a run, and the line of the audit. The audit is equal by proof: no other line is printed.
+fn audited_text(
+    alloc: Global,
+    schema: &Schema,
+    shown: Shown,
+    given: &Run,
+) -> Result<Vec<u8>, AllocError>
+    ensures { IfOk result (λ out. out.items ≡ shown_text schema.now shown.entry.form shown.entry.texts.now given.now ++ audit_line) }
 {
     let mut out = Vec::new(alloc);
-    push_run(
-        alloc,
-        &mut out,
-        &settled.schema,
-        settled.history.as_slice(),
-        &settled.image,
-        settled.units.as_slice(),
-    )?;
+    push_given(alloc, &mut out, schema, shown, given)?;
     out.extend_from_slice(b"AUDIT EQUAL\n")?;
     Ok(out)
 }
 
-// What a settled database has to say, where the first tickets were drawn in these turns.
-fn said_of(alloc: Global, settled: &Settled, first: &[u8]) -> Result<Option<OnThreads>, AllocError>
-    ensures printed { IfOk result (λ found. IfSome found (λ said. said.printed.items ≡ run_text settled.now.schema settled.now.history settled.now.image.records settled.now.image.lists settled.now.image.next settled.now.image.usage settled.now.units ++ audit_line)) }
-    ensures turns { IfOk result (λ found. IfSome found (λ said. (behind : List ℕ) × (map (λ e. e.unit) settled.now.history ≡ first.now ++ behind) × (said.turns.items ≡ turns_text behind))) }
+// What a run has to say, if the first tickets were drawn in these turns.
+fn said_of(
+    alloc: Global,
+    schema: &Schema,
+    shown: Shown,
+    given: &Run,
+    first: &[u8],
+) -> Result<Option<OnThreads>, AllocError>
+    ensures printed { IfOk result (λ found. IfSome found (λ said. said.printed.items ≡ shown_text schema.now shown.entry.form shown.entry.texts.now given.now ++ audit_line)) }
+    ensures turns { IfOk result (λ found. IfSome found (λ said. (behind : List ℕ) × (map (λ e. e.unit) given.now.history ≡ first.now ++ behind) × (said.turns.items ≡ turns_text behind))) }
 {
-    let units = units_in_turn(alloc, settled.history.as_slice())?;
+    let units = units_in_turn(alloc, given.history.as_slice())?;
     let Some(behind) = units.as_slice().strip_prefix(first) else {
         return Ok(None);
     };
     Ok(Some(OnThreads {
-        printed: settled_text(alloc, settled)?,
+        printed: audited_text(alloc, schema, shown, given)?,
         turns: turns_text(alloc, behind)?,
     }))
 }
@@ -89,7 +116,7 @@ fn run_of<R: Threads + Wait + Sync>(
     }
 }
 
-// The last unit makes its script, alone. What is left are the scripts of the others, and an empty one for it.
+// The last unit makes its script alone. What is left are the scripts of the others, and an empty one for it.
 fn make_first<R: Wait>(
     rt: &R,
     alloc: Global,
@@ -149,7 +176,7 @@ fn run_behind_first<R: Threads + Wait + Sync>(
     }
 }
 
-// Runs scripts on threads, the last of them before the others where it is made first.
+// Runs scripts on threads, the last of them before the others if it is made first.
 fn run_scripts<R: Threads + Wait + Sync>(
     rt: &R,
     alloc: Global,
@@ -157,41 +184,42 @@ fn run_scripts<R: Threads + Wait + Sync>(
     capacity: u16,
     scripts: &[Row<Statement>],
     first: bool,
-) -> Result<Settled, AllocError>
+) -> Result<Run, AllocError>
     requires sound { IsSound schema.now }
     requires count { is_count (length scripts.now) ≡ true }
     requires fit { scripts_fit schema.now scripts.now ≡ true }
-    ensures history { IfOk result (λ settled. IsHistoryOfAll schema.now capacity scripts.now settled.history settled.image settled.units) }
-    ensures schema { IfOk result (λ settled. settled.schema ≡ schema.now) }
+    ensures { IfOk result (λ given. IsHistoryOfAll schema.now capacity scripts.now given.history given.image given.units) }
 {
     let own = schema.copy(alloc)?;
-    if first {
-        run_behind_first(rt, alloc, own, capacity, scripts)
+    let settled = if first {
+        run_behind_first(rt, alloc, own, capacity, scripts)?
     } else {
-        run_of(rt, alloc, own, capacity, scripts)
-    }
+        run_of(rt, alloc, own, capacity, scripts)?
+    };
+    Ok(given_of(alloc, settled))
 }
 
-// Runs scripts on threads, and says what came of it. A script that is made first draws the first tickets, since no thread is started
-// before its end. No contract of units says so: a run in which it did otherwise would be made again.
+// Runs scripts on threads, and gives the result. A script that is made first draws the first tickets, since no thread is started
+// before its end. No contract of units says so: a run in which it did otherwise would be repeated.
 fn threads_text<R: Threads + Wait + Sync>(
     rt: &R,
     alloc: Global,
     schema: &Schema,
     capacity: u16,
     scripts: &[Row<Statement>],
+    shown: Shown,
     first: bool,
 ) -> Result<OnThreads, AllocError>
     requires sound { IsSound schema.now }
     requires count { is_count (length scripts.now) ≡ true }
     requires fit { scripts_fit schema.now scripts.now ≡ true }
-    ensures { IfOk result (λ said. IsPrintedOnThreads first schema.now capacity scripts.now said.printed.items said.turns.items) }
+    ensures { IfOk result (λ said. IsPrintedOnThreads first shown.entry.form schema.now capacity scripts.now shown.entry.texts.now said.printed.items said.turns.items) }
 {
     let turns = first_turns(alloc, first, scripts)?;
     'again: for _ in rt.forever() {
-        let settled = run_scripts(rt, alloc, schema, capacity, scripts, first)?;
-        let found = said_of(alloc, &settled, turns.as_slice());
-        settled.discard();
+        let given = run_scripts(rt, alloc, schema, capacity, scripts, first)?;
+        let found = said_of(alloc, schema, shown, &given, turns.as_slice());
+        given.discard();
         if let Some(said) = found? {
             return Ok(said);
         }
@@ -206,37 +234,44 @@ fn threads_known<R: Threads + Wait + Sync, S: Source>(
     source: &S,
     known: &Schema,
     capacity: u16,
+    form: AnswerForm,
     first: bool,
 ) -> Result<OnThreads, Fault>
     requires counted { is_count (S.count source.now) ≡ true }
     requires read { ReadSchema (S.holds source.now) known.now }
     requires sound { IsSound known.now }
-    ensures done { IfOk result (λ said. ThreadsHeld (S.holds source.now) (S.count source.now) first capacity said.printed.items said.turns.items) }
+    ensures done { IfOk result (λ said. ThreadsHeld (S.holds source.now) (S.count source.now) first form capacity said.printed.items said.turns.items) }
     ensures refused { IfErr result (λ fault. ToldOfRun (S.holds source.now) (S.fails source.now) fault (S.count source.now) Serial) }
 {
-    let scripts = read_scripts(alloc, source, known)?;
-    Ok(threads_text(rt, alloc, known, capacity, scripts.as_slice(), first)?)
+    let Scripts { statements, texts } = read_scripts_with_texts(alloc, source, known)?;
+    let shown = Shown {
+        form,
+        texts: texts.as_slice(),
+    };
+    let scripts = statements.as_slice();
+    Ok(threads_text(rt, alloc, known, capacity, scripts, shown, first)?)
 }
 
 /// What `threads` prints of the schema and the scripts that a source gives, with the turns by which `replay` prints the same, or
-/// the first fault. The last script is made before all others, where it is made first.
+/// the first fault. The last script is made before all others, if it is made first.
 pub fn run_on_threads<R: Threads + Wait + Sync, S: Source>(
     rt: &R,
     alloc: Global,
     source: &S,
     capacity: u16,
+    form: AnswerForm,
     first: bool,
 ) -> Result<OnThreads, Fault>
-    ensures done { IfOk result (λ said. ThreadsHeld (S.holds source.now) (S.count source.now) first capacity said.printed.items said.turns.items) }
+    ensures done { IfOk result (λ said. ThreadsHeld (S.holds source.now) (S.count source.now) first form capacity said.printed.items said.turns.items) }
     ensures refused { IfErr result (λ fault. ToldOfRun (S.holds source.now) (S.fails source.now) fault (S.count source.now) Serial) }
 {
     let known = schema_for_run(alloc, source)?;
-    let said = threads_known(rt, alloc, source, &known, capacity, first);
+    let said = threads_known(rt, alloc, source, &known, capacity, form, first);
     known.discard();
     said
 }
 
-/// What `threads` prints of a schema and scripts at hand, and that the audit of the history is equal, or their first fault.
+/// What `threads` prints of a schema and scripts in memory, and that the audit of the history is equal, or their first fault.
 pub fn threads_bytes<'a, R: Threads + Wait + Sync>(
     rt: &R,
     alloc: Global,
@@ -244,7 +279,7 @@ pub fn threads_bytes<'a, R: Threads + Wait + Sync>(
     scripts: &'a [Row<u8>],
     capacity: u16,
 ) -> Result<(Vec<u8>, bool), Fault>
-    ensures done { IfOk result (λ said. (turns : List ℕ) × IsThreads false schema.now scripts.now capacity said.0.items turns) }
+    ensures done { IfOk result (λ said. (turns : List ℕ) × IsThreads false Plain schema.now scripts.now capacity said.0.items turns) }
     ensures equal { IfOk result (λ said. said.1 ≡ true) }
     ensures refused { IfErr result (λ fault. RefusesReplay fault schema.now scripts.now by.Serial) }
 {
@@ -253,7 +288,7 @@ pub fn threads_bytes<'a, R: Threads + Wait + Sync>(
         scripts,
         order: Order::Serial,
     };
-    match run_on_threads(rt, alloc, &texts, capacity, false) {
+    match run_on_threads(rt, alloc, &texts, capacity, AnswerForm::Plain, false) {
         Ok(said) => Ok((said.printed, true)),
         Err(fault) => Err(fault),
     }

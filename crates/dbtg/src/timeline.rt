@@ -4,7 +4,7 @@ ghost use Rattle.dbtg_schema.specs.Sound.{IsSound};
 ghost use Rattle.dbtg_script.specs.Lines.{statement_lines};
 ghost use Rattle.dbtg_step.specs.Laws.{scripts_fit};
 ghost use Rattle.dbtg_replay.specs.Ordering.{StandFor};
-ghost use Rattle.dbtg.specs.Picturing.{IsPictured, TimelineHeld, picture};
+ghost use Rattle.dbtg.specs.Picturing.{IsPictured, TimelineHeld, events_shown, picture};
 ghost use Rattle.dbtg_command.specs.Refusals.{is_count};
 ghost use Rattle.dbtg_command.specs.Sources.{ReadSchema, ToldOfRun};
 
@@ -13,20 +13,20 @@ use dbtg_command::{Fault, OrderKind, Source, copy_scripts, read_moves, read_turn
 use dbtg_page::{Told, page_text};
 use dbtg_replay::replay::schema_for_run;
 use dbtg_replay::{
-    Scripts, moves_behind_first, moves_of_turns, read_scripts_with_texts, serial_turns,
-    turns_behind_first,
+    Scripts, moves_behind_first, moves_of_turns, read_scripts_with_texts, said_of_run,
+    serial_turns, turns_behind_first,
 };
 use dbtg_schema::{Row, Schema};
 use dbtg_script::statement_lines;
-use dbtg_timeline::{timeline_svg, timeline_text, watch};
+use dbtg_timeline::{Event, noted_events, timeline_svg, timeline_text, watch};
 use dbtg_unit::{Move, Statement};
 use std::alloc::{AllocError, Global};
 
-/// In what form a run is shown.
+/// The form in which a run is shown. A picture can say below each refusal what is in its way.
 #[derive(Clone, Copy)]
 pub enum Form {
-    Text,
-    Svg,
+    Text { explained: bool },
+    Svg { explained: bool },
     Page,
 }
 
@@ -58,6 +58,28 @@ fn copies_of(alloc: Global, lines: &[&[u8]]) -> Result<Row<Row<u8>>, AllocError>
     Ok(Row::of(copies))
 }
 
+// The events of the run of these moves.
+fn events_shown(
+    alloc: Global,
+    schema: &Schema,
+    capacity: u16,
+    statements: Row<Row<Statement>>,
+    explained: bool,
+    moves: &[Move],
+) -> Result<Vec<Event>, AllocError>
+    requires sound { IsSound schema.now }
+    requires units { length statements ≤ 255 }
+    requires fit { scripts_fit schema.now statements ≡ true }
+    ensures { IfOk result (λ events. events.items ≡ events_shown explained schema.now capacity statements moves.now) }
+{
+    if !explained {
+        return watch(alloc, schema, capacity, statements, moves);
+    }
+    let said = said_of_run(alloc, schema, capacity, statements.as_slice(), moves)?;
+    let events = watch(alloc, schema, capacity, statements, moves)?;
+    noted_events(alloc, events.as_slice(), said.as_slice())
+}
+
 // The run of these moves.
 fn picture_of_moves(
     alloc: Global,
@@ -76,12 +98,12 @@ fn picture_of_moves(
     let lines = texts_of_statements(alloc, texts.as_slice())?;
     let scripts = lines.as_slice();
     match form {
-        Form::Text => {
-            let events = watch(alloc, schema, capacity, statements, moves)?;
+        Form::Text { explained } => {
+            let events = events_shown(alloc, schema, capacity, statements, explained, moves)?;
             timeline_text(alloc, scripts, events.as_slice())
         }
-        Form::Svg => {
-            let events = watch(alloc, schema, capacity, statements, moves)?;
+        Form::Svg { explained } => {
+            let events = events_shown(alloc, schema, capacity, statements, explained, moves)?;
             timeline_svg(alloc, scripts, events.as_slice())
         }
         Form::Page => {
@@ -147,7 +169,7 @@ fn timeline_known<S: Source>(
 }
 
 /// What `timeline` or `page` prints of the schema, the scripts and the moves or turns that a source gives, or the first fault. Without
-/// moves and turns one script is made after the other. Before all others the last script is made, if it is to be made first.
+/// moves and turns one script is made after the other. The last script is made before all others, if it is made first.
 pub fn timeline<S: Source>(
     alloc: Global,
     source: &S,

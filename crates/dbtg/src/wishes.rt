@@ -10,14 +10,14 @@ ghost use Rattle.dbtg_command.specs.declared.order.OrderKind.TheVariants.{Serial
 
 use crate::outcomes::{ListingOptions, push_line};
 use dbtg_command::{Fault, Source};
-use dbtg_outcomes::{Meeting, Stop, Wish, broken_turns, is_there};
+use dbtg_outcomes::{Meeting, Stop, Watch, Wish, broken_turns, is_there};
 use dbtg_replay::replay::schema_for_run;
 use dbtg_replay::{behind, first_turns, read_scripts};
 use dbtg_schema::Schema;
 use dbtg_script::{push_number, push_status, turns_text};
 use std::alloc::{AllocError, Global};
 
-/// What comes of a wish: it holds, or some order breaks it, each with its text; or there is no such statement.
+/// The result of a wish: it holds, or some order breaks it, each with its text; or there is no such statement.
 #[derive(Drop)]
 pub enum Judged {
     Kept(Vec<u8>),
@@ -53,7 +53,7 @@ fn kept(alloc: Global, wish: Wish) -> Result<Vec<u8>, AllocError>
     Ok(out)
 }
 
-// The text of a wish that these turns break, those of the script that is made first among them.
+// The text of a wish that these turns break, including those of the script that is made first.
 fn broken(alloc: Global, meeting: &Meeting, wish: Wish, turns: &[u8]) -> Result<Vec<u8>, AllocError>
     requires meeting { IsMeeting meeting.now }
     requires short { wish.status < 10000 }
@@ -68,15 +68,21 @@ fn broken(alloc: Global, meeting: &Meeting, wish: Wish, turns: &[u8]) -> Result<
     Ok(out)
 }
 
-// What comes of the wish for a statement that is there.
-fn judge_wish(alloc: Global, meeting: &Meeting, wish: Wish, limit: u64) -> Result<Judged, Fault>
+// The result of the wish for a statement that exists.
+fn judge_wish<W: Watch>(
+    alloc: Global,
+    watch: &W,
+    meeting: &Meeting,
+    wish: Wish,
+    limit: u64,
+) -> Result<Judged, Fault>
     requires meeting { IsMeeting meeting.now }
     requires short { wish.status < 10000 }
     requires there { is_there meeting.now wish ≡ true }
     ensures done { IfOk result (IsJudgedAs meeting.now wish) }
     ensures refused { IfErr result (IsUnjudged meeting.now limit) }
 {
-    match broken_turns(alloc, meeting, wish, limit as usize) {
+    match broken_turns(alloc, watch, meeting, wish, limit as usize) {
         Ok(Some(turns)) => Ok(Judged::Broken(broken(alloc, meeting, wish, turns.as_slice())?)),
         Ok(None) => Ok(Judged::Kept(kept(alloc, wish)?)),
         Err(Stop::Memory) => Err(Fault::Memory),
@@ -84,23 +90,30 @@ fn judge_wish(alloc: Global, meeting: &Meeting, wish: Wish, limit: u64) -> Resul
     }
 }
 
-// What comes of a wish.
-fn judge_meeting(alloc: Global, meeting: &Meeting, wish: Wish, limit: u64) -> Result<Judged, Fault>
+// The result of a wish.
+fn judge_meeting<W: Watch>(
+    alloc: Global,
+    watch: &W,
+    meeting: &Meeting,
+    wish: Wish,
+    limit: u64,
+) -> Result<Judged, Fault>
     requires meeting { IsMeeting meeting.now }
     requires short { wish.status < 10000 }
     ensures done { IfOk result (IsJudgedAs meeting.now wish) }
     ensures refused { IfErr result (IsUnjudged meeting.now limit) }
 {
     if is_there(meeting, wish) {
-        judge_wish(alloc, meeting, wish, limit)
+        judge_wish(alloc, watch, meeting, wish, limit)
     } else {
         Ok(Judged::NoStatement)
     }
 }
 
-// What comes of a wish for scripts of a schema that was read.
-fn judge_known<S: Source>(
+// The result of a wish for scripts of a schema that was read.
+fn judge_known<S: Source, W: Watch>(
     alloc: Global,
+    watch: &W,
     source: &S,
     known: &Schema,
     options: ListingOptions,
@@ -122,12 +135,13 @@ fn judge_known<S: Source>(
         first: options.first,
         tells_answers: options.answers,
     };
-    judge_meeting(alloc, &meeting, wish, options.limit)
+    judge_meeting(alloc, watch, &meeting, wish, options.limit)
 }
 
-/// What comes of a wish over all orders of the scripts that a source gives, or the first fault. Above the limit of states it gives up.
-pub fn judge_outcomes<S: Source>(
+/// The result of a wish over all orders of the scripts that a source gives, or the first fault. Above the limit of states it gives up.
+pub fn judge_outcomes<S: Source, W: Watch>(
     alloc: Global,
+    watch: &W,
     source: &S,
     options: ListingOptions,
     wish: Wish,
@@ -138,7 +152,7 @@ pub fn judge_outcomes<S: Source>(
     ensures refused { IfErr result (λ fault. ToldOfJudging (S.holds source.now) (S.fails source.now) fault (S.count source.now) options) }
 {
     let known = schema_for_run(alloc, source)?;
-    let said = judge_known(alloc, source, &known, options, wish);
+    let said = judge_known(alloc, watch, source, &known, options, wish);
     known.discard();
     said
 }

@@ -1,4 +1,4 @@
--- The program tells want of memory of a text only where the reader may.
+-- The program reports a refusal of memory for a text only where the reader may.
 use Rattle.std.proofs.Common.{◌≡◌, ℕ, ◌<◌, List, length, Option, Some, None, inr, refl, arith}
 use Rattle.dbtg_schema.specs.Lists.{Lists}
 use Rattle.dbtg_schema.specs.Lookups.{first}

@@ -1,4 +1,4 @@
--- Scripts that are read one after another: what is true of those before and of those behind is true of all.
+-- Scripts that are read one after another: what is true of those before and of those after is true of all.
 use Rattle.std.proofs.Common.{◌≡◌, ℕ, suc, ◌+◌, List, [], ◌∷◌, ◌++◌, length, inl, inr, refl, sym, ap, ◌∙◌, subst, arith}
 use Rattle.std.proofs.lemmas.List.{append_assoc}
 use Rattle.dbtg_schema.specs.Lists.{Lists}
@@ -33,7 +33,7 @@ lines_behind lists n (text ∷ front) rest =
     ∙ sym (append_assoc line front_lines (script_lines lists (n + 1 + length front) rest))
     ∙ ap (λ (k : ℕ). line ++ front_lines ++ script_lines lists k rest) same
 
--- want of memory is a fault of any scripts
+-- a refusal of memory is a fault of any scripts
 pub memory_refuses : (lists : Lists) (n : ℕ) (texts : List (List ℕ)) → RefusesScripts Memory lists n texts
 memory_refuses lists n [] = refl
 memory_refuses lists n (text ∷ texts) = inl tt

@@ -16,7 +16,7 @@ pub use Rattle.dbtg_command.proofs.BytesAtHand.{same_kind}
 
 -- what was read is accepted, as the schema's text says it
 pub use Rattle.dbtg_command.proofs.TextsRead.{all_accepted}
--- a text that is held behind others
+-- a text that is held after others
 pub use Rattle.dbtg_command.proofs.TextsRead.{held_behind}
 -- the texts that were read, in this order
 pub use Rattle.dbtg_command.proofs.TextsRead.{read_texts}

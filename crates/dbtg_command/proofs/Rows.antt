@@ -1,4 +1,4 @@
--- The rows of a table are its lines: the first stands in front of the first line feed, the others behind it.
+-- The rows of a table are its lines: the first stands before the first line feed, the others after it.
 use Rattle.std.proofs.Common.{◌≡◌, ◌<◌, ◌≤◌, ℕ, Bool, true, false, eqb, List, [], ◌∷◌, length, refl, arith}
 use Rattle.dbtg_script.specs.Lines.{lines}
 use Rattle.dbtg_script.specs.Printing.Spelling.{in_front, behind}

@@ -16,7 +16,7 @@ use Rattle.dbtg_command.specs.Refusals.{AcceptsTexts, AllAccepted, RefusesScript
 use Rattle.dbtg_command.specs.Sources.{HoldsOrder, HoldsScripts, ReadSchema, ReadScripts, Texts, ToldIn, ToldOfScripts, kind_of}
 use Rattle.dbtg_command.proofs.InTurn.{accepted_behind, lines_behind}
 
--- a text that is held behind others
+-- a text that is held after others
 pub held_behind : (holds : TextPlace → List ℕ → Type 0) (n : ℕ) (front : List (List ℕ)) (text : List ℕ) → HoldsScripts holds n front → holds (Script (n + length front)) text → HoldsScripts holds n (front ++ text ∷ [])
 held_behind holds n [] text held one =
     let same : n + 0 ≡ n = omega arith in
@@ -64,7 +64,7 @@ texts_behind holds lists n text before after texts more so_far held e taken kept
   kept ∙ ap (λ (xs : List (List ℕ)). xs ++ text ∷ []) so_far.2,
 )
 
--- a fault of the script behind those that were read
+-- a fault of the script after those that were read
 pub told_here : (holds : TextPlace → List ℕ → Type 0) (fails : TextPlace → Fault → Type 0) (fault : Fault) (lists : Lists) (i count : ℕ) → ReadScripts holds lists i → i < count
     → ToldIn holds fails fault (Script (i + 1)) (RefusesScriptText fault (i + 1) lists) → ToldOfScripts holds fails fault lists count
 told_here holds fails fault lists i count read within told = record { before = i; read = read; within = within; told = told }

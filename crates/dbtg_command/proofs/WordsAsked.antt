@@ -7,7 +7,7 @@ use Rattle.clap.specs.Walk.{Row, all_of, one_of}
 use Rattle.dbtg_command.specs.Commands.{program}
 use Rattle.dbtg_command.specs.Wishing.{wish_in}
 
--- the command that words name, behind the program's
+-- the command that words name, after the program's
 abbrev asked : List (List ℕ) → Option (List ℕ)
 asked words = option_map (λ met. met.0) (subcommand_of program (codes "dbtg" ∷ words))
 
@@ -26,7 +26,7 @@ replay_is_asked : asked meeting ≡ Some (codes "replay")
 unfolding clap_on_literals
 replay_is_asked = refl
 
--- the first word that is no option is the schema, and those behind it are scripts
+-- the first word that is no option is the schema, and those after it are scripts
 schema_is_first : given meeting (codes "schema") ≡ Some (codes "a.schema" ∷ [])
 unfolding clap_on_literals
 schema_is_first = refl
@@ -60,7 +60,7 @@ capacity_is_7 : given (codes "shell" ∷ codes "--capacity=7" ∷ codes "a.schem
 unfolding clap_on_literals
 capacity_is_7 = refl
 
--- the trace stands behind the schema, and statuses alone are compared where that is asked
+-- the trace follows the schema, and statuses alone are compared where that is asked
 trace_follows : given (codes "audit" ∷ codes "--status" ∷ codes "a.schema" ∷ codes "t" ∷ []) (codes "traced") ≡ Some (codes "t" ∷ [])
 unfolding clap_on_literals
 trace_follows = refl
@@ -69,17 +69,26 @@ statuses_are_asked : is_given (codes "audit" ∷ codes "--status" ∷ codes "a.s
 unfolding clap_on_literals
 statuses_are_asked = refl
 
+-- threads and run can print a trace
+threads_are_traced : is_given (codes "threads" ∷ codes "--trace" ∷ codes "a.schema" ∷ codes "b" ∷ []) (codes "trace") ≡ Some (codes "true")
+unfolding clap_on_literals
+threads_are_traced = refl
+
+run_is_not_traced : is_given (codes "run" ∷ codes "a.schema" ∷ codes "b" ∷ []) (codes "trace") ≡ Some (codes "false")
+unfolding clap_on_literals
+run_is_not_traced = refl
+
 -- where no number of units is given there are 2
 units_are_2 : given (codes "audit" ∷ codes "a.schema" ∷ codes "t" ∷ []) (codes "units") ≡ Some (codes "2" ∷ [])
 unfolding clap_on_literals
 units_are_2 = refl
 
--- the turns of the command turns stand in front of the schema
+-- the turns of the command turns stand before the schema
 turns_are_first : given (codes "turns" ∷ codes "t" ∷ codes "a.schema" ∷ codes "b" ∷ []) (codes "turns") ≡ Some (codes "t" ∷ [])
 unfolding clap_on_literals
 turns_are_first = refl
 
--- the two words behind a wish are its own, and the schema comes behind them
+-- the two words after a wish are its own, and the schema comes after them
 never_has_two : given (codes "outcomes" ∷ codes "--never" ∷ codes "2.5" ∷ codes "0803" ∷ codes "a.schema" ∷ []) (codes "never") ≡ Some (codes "2.5" ∷ codes "0803" ∷ [])
 unfolding clap_on_literals
 never_has_two = refl

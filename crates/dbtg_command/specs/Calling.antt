@@ -1,4 +1,4 @@
--- What the words of the command ask for, of what `clap` finds in them.
+-- What the words of the command ask for, from what `clap` finds in them.
 use Rattle.std.specs.Prelude.{ℕ, ◌≡◌, ◌++◌, Bool, true, false, List, [], Option, Some, None, codes, is_some, map, option_map, option_to_list, unwrap_or}
 use Rattle.clap.specs.Matches.{first_value, matched_of, one_text, raw_values}
 use Rattle.clap.specs.Simple.{subcommand_of}
@@ -6,6 +6,7 @@ use Rattle.clap.specs.Walk.{rows_of}
 use Rattle.clap.specs.declared.parser.matches.Found.{Found}
 use Rattle.dbtg_command.specs.declared.call.Call.{Call}
 use Rattle.dbtg_command.specs.declared.command.Named.{Named}
+use Rattle.dbtg_command.specs.declared.limits.TheConstants.{MOST_UNITS}
 use Rattle.dbtg_command.specs.declared.order.Order.{Order}
 use Rattle.dbtg_command.specs.declared.order.Order.TheVariants as by
 use Rattle.dbtg_command.specs.Capacity.{count_in}
@@ -24,23 +25,23 @@ pub record IsFlag (found : Found) (id : List ℕ) (flag : Bool) : Type 0 where
 abbrev pub words_in : Found → List ℕ → List (List ℕ)
 words_in found id = unwrap_or (option_map raw_values (matched_of found id)) []
 
--- the scripts, or the trace that is given in their place, and behind them the one that is made first and the one that is made last,
--- if there are such
+-- the scripts, or the trace that is given in their place, followed by the one that is made first and the one that is made last,
+-- if there are any
 abbrev pub scripts_in : Found → List (List ℕ)
 scripts_in found =
     ((words_in found (codes "scripts") ++ option_to_list (first_value found (codes "traced"))) ++ option_to_list (first_value found (codes "first"))) ++ option_to_list (first_value found (codes "then"))
 
--- the number that a word says, up to a greatest one, and 0 without a word
+-- the number that a word says, up to a greatest one; 0 without a word
 abbrev pub count_for : ℕ → Option (List ℕ) → Option ℕ
 count_for most None = Some 0
 count_for most (Some word) = count_in most word
 
--- the moves, where there are no turns
+-- the moves, if there are no turns
 abbrev pub moves_or_serial : Option (List ℕ) → Order (List ℕ)
 moves_or_serial None = by.Serial
 moves_or_serial (Some path) = by.Moves path
 
--- what says the order
+-- the text that gives the order
 abbrev pub order_for : Option (List ℕ) → Option (List ℕ) → Order (List ℕ)
 order_for (Some path) moves = by.Turns path
 order_for None moves = moves_or_serial moves
@@ -65,7 +66,7 @@ pub record IsCall (asked : Named) (found : Found) (call : Call) : Type 0 where
   pub last : call.last ≡ is_some (first_value found (codes "then"))
   pub capacity : count_for 1000 (first_value found (codes "capacity")) ≡ Some call.capacity
   pub limit : count_for 1000000000 (first_value found (codes "limit")) ≡ Some call.limit
-  pub units : count_for 8 (first_value found (codes "units")) ≡ Some call.units
+  pub units : count_for MOST_UNITS (first_value found (codes "units")) ≡ Some call.units
   pub order : order_map (λ path. path.now) call.order ≡ order_in found
   pub wish : wish_of_either (words_in found (codes "never")) (words_in found (codes "always")) ≡ Some call.wish
   pub saved : option_map (λ path. path.now) call.saved ≡ first_value found (codes "save-turns")

@@ -1,4 +1,4 @@
--- What `check` prints, and which faults it tells where it is to tell those of each text.
+-- What `check` prints, and which faults it reports if it is to report those of each text.
 use Rattle.std.specs.Prelude.{ℕ, zero, suc, ◌≡◌, ◌+◌, Bool, true, false, List, [], ◌∷◌, ◌++◌, None, ◌⊎◌, length}
 use Rattle.dbtg_schema.specs.Lists.{Lists}
 use Rattle.dbtg_program.specs.Faults.{refusal as program_refusal}
@@ -41,19 +41,19 @@ abbrev pub Refuses : Bool → Fault → ℕ → Lists → List ℕ → Type 0
 Refuses false fault n lists text = RefusesScriptText fault n lists text
 Refuses true fault n lists text = RefusesProgram fault n (program_refusal lists text)
 
--- what is told of script n, or of program n: nothing of a text that is held and accepted, else its fault, which is no want of memory
+-- what is said of script n, or of program n: nothing if its text is held and accepted, otherwise its fault, unless memory was refused
 abbrev pub TellsOfScript : (TextPlace → List ℕ → Type 0) → (TextPlace → Fault → Type 0) → Bool → Lists → ℕ → List Fault → Type 0
 TellsOfScript holds fails programs lists n [] = (text : List ℕ) × holds (Script n) text × IsAccepted programs lists text
 TellsOfScript holds fails programs lists n (fault ∷ []) = ToldIn holds fails fault (Script n) (Refuses programs fault n lists) × (fault ≡ Memory → ⊥)
 TellsOfScript holds fails programs lists n (fault ∷ other ∷ more) = ⊥
 
--- what is told of the first of them, so many, of one after another
+-- what is said of the first of them, this many, one after another
 abbrev pub TellsOfScripts : (TextPlace → List ℕ → Type 0) → (TextPlace → Fault → Type 0) → Bool → Lists → ℕ → List Fault → Type 0
 TellsOfScripts holds fails programs lists zero faults = faults ≡ []
 TellsOfScripts holds fails programs lists (suc n) faults =
     (before : List Fault) × (here : List Fault) × TellsOfScripts holds fails programs lists n before × TellsOfScript holds fails programs lists (n + 1) here × (faults ≡ before ++ here)
 
--- what is told of each text: of the schema alone where it is not accepted, else of each script, or of each program
+-- what is said of each text: only of the schema if it is not accepted, otherwise of each script, or of each program
 abbrev pub TellsEach : (TextPlace → List ℕ → Type 0) → (TextPlace → Fault → Type 0) → Bool → ℕ → List Fault → Type 0
 TellsEach holds fails programs count faults =
     ((fault : Fault) × ToldOfSchema holds fails fault × (fault ≡ Memory → ⊥) × (faults ≡ fault ∷ []))

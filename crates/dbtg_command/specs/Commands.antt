@@ -1,4 +1,4 @@
--- What the program can be asked: each command, with its options and its other words, as `clap` is told of them.
+-- What the program can be asked: each command, with its options and its other words, as `clap` is given them.
 use Rattle.std.specs.Prelude.{ℕ, true, false, List, [], ◌∷◌, Some, codes, map}
 use Rattle.clap.specs.Lexer.{usize_max}
 use Rattle.clap.specs.Simple.{App, Shape, new_rule, new_shape}
@@ -7,7 +7,7 @@ use Rattle.clap.specs.declared.builder.action.ArgAction.TheVariants.{Set, Append
 use Rattle.dbtg_command.specs.declared.command.Named.{Named}
 use Rattle.dbtg_command.specs.declared.command.Named.TheVariants as named
 
--- an option that has no value
+-- an option without a value
 abbrev pub flag : List ℕ → Rule
 flag name = record (new_rule name) { long = Some name; action = Some SetTrue }
 
@@ -15,11 +15,11 @@ flag name = record (new_rule name) { long = Some name; action = Some SetTrue }
 abbrev pub file_option : List ℕ → Rule
 file_option name = record (new_rule name) { long = Some name; action = Some Set; value_names = 1 }
 
--- an option that is a number, and this one where it is not given
+-- an option that is a number, with its default
 abbrev pub number_option : List ℕ → List ℕ → Rule
 number_option name usual = record (file_option name) { defaults = usual ∷ [] }
 
--- a file that has to be named
+-- a file that must be named
 abbrev pub file_word : List ℕ → Rule
 file_word name = record (new_rule name) { action = Some Set; value_names = 1; required = true }
 
@@ -34,7 +34,7 @@ all = flag (codes "all")
 abbrev pub wish_option : List ℕ → Rule
 wish_option name = record (new_rule name) { long = Some name; action = Some Set; value_names = 2; range = Some (record { start_inclusive = 2; end_inclusive = 2 }) }
 
--- it is not free: it excludes the wish that a status never comes
+-- it excludes the wish that a status never comes
 abbrev pub always : Rule
 always = record (wish_option (codes "always")) { is_free = false }
 
@@ -56,14 +56,14 @@ explain = flag (codes "explain")
 abbrev pub first : Rule
 first = file_option (codes "first")
 
--- a program that is made where all others have ended
+-- a program that runs after all others have ended
 abbrev pub last : Rule
 last = file_option (codes "then")
 
 abbrev pub limit : Rule
 limit = number_option (codes "limit") (codes "1000000")
 
--- the usual number where programs meet
+-- the default number of programs that meet
 abbrev pub limit_of_programs : Rule
 limit_of_programs = number_option (codes "limit") (codes "100000")
 
@@ -76,7 +76,7 @@ never = wish_option (codes "never")
 abbrev pub no_explain : Rule
 no_explain = flag (codes "no-explain")
 
--- what is read are programs
+-- the texts are programs
 abbrev pub programs : Rule
 programs = flag (codes "programs")
 
@@ -89,7 +89,7 @@ schema = file_word (codes "schema")
 abbrev pub scripts : Rule
 scripts = words (codes "scripts")
 
--- statuses alone are compared
+-- only statuses are compared
 abbrev pub status : Rule
 status = flag (codes "status")
 
@@ -102,19 +102,23 @@ topic = words (codes "topic")
 abbrev pub trace : Rule
 trace = file_word (codes "traced")
 
--- a trace in place of the answers, which excludes an echo: it is not free
+-- a trace in place of the answers, of a command that has no echo
+abbrev pub trace_alone : Rule
+trace_alone = flag (codes "trace")
+
+-- the same of one that has, which it excludes: it is not free
 abbrev pub trace_option : Rule
-trace_option = record (flag (codes "trace")) { is_free = false }
+trace_option = record trace_alone { is_free = false }
 
 -- turns as an option of a command that takes no moves
 abbrev pub turns_alone : Rule
 turns_alone = file_option (codes "turns")
 
--- turns as an option, which is not free: it excludes moves
+-- turns as an option, which excludes moves
 abbrev pub turns_option : Rule
 turns_option = record (file_option (codes "turns")) { is_free = false }
 
--- turns that have to be named
+-- turns that must be named
 abbrev pub turns_file : Rule
 turns_file = file_word (codes "turns")
 
@@ -145,19 +149,19 @@ rules_for named.Turns = capacity ∷ explain ∷ no_explain ∷ turns_file ∷ s
 rules_for named.Timeline = capacity ∷ first ∷ moves ∷ turns_option ∷ svg ∷ explain ∷ no_explain ∷ schema ∷ scripts ∷ []
 rules_for named.Page = capacity ∷ first ∷ moves ∷ turns_option ∷ explain ∷ no_explain ∷ schema ∷ scripts ∷ []
 rules_for named.Outcomes = capacity ∷ first ∷ limit ∷ answers ∷ brief ∷ never ∷ always ∷ explain ∷ no_explain ∷ schema ∷ scripts ∷ []
-rules_for named.Threads = capacity ∷ first ∷ save_turns ∷ explain ∷ no_explain ∷ schema ∷ scripts ∷ []
+rules_for named.Threads = capacity ∷ first ∷ save_turns ∷ trace_alone ∷ explain ∷ no_explain ∷ schema ∷ scripts ∷ []
 rules_for named.Audit = capacity ∷ first ∷ units ∷ status ∷ all ∷ explain ∷ no_explain ∷ schema ∷ trace ∷ []
 rules_for named.Draw = explain ∷ no_explain ∷ schema ∷ []
-rules_for named.Run = capacity ∷ first ∷ turns_alone ∷ last ∷ echo ∷ explain ∷ no_explain ∷ schema ∷ scripts ∷ []
-rules_for named.Explore = capacity ∷ first ∷ turns_alone ∷ last ∷ limit_of_programs ∷ explain ∷ no_explain ∷ schema ∷ scripts ∷ []
+rules_for named.Run = capacity ∷ first ∷ turns_alone ∷ last ∷ echo ∷ trace_option ∷ explain ∷ no_explain ∷ schema ∷ scripts ∷ []
+rules_for named.Explore = capacity ∷ first ∷ turns_alone ∷ last ∷ limit_of_programs ∷ brief ∷ explain ∷ no_explain ∷ schema ∷ scripts ∷ []
 rules_for named.Explain = topic ∷ []
 rules_for named.Shell = capacity ∷ units ∷ schema ∷ []
 
--- a command of this name that can be given this
+-- a command with this name that can be given this
 abbrev pub shape_with : List ℕ → List Rule → Shape
 shape_with name rules = record (new_shape name) { rules = rules }
 
--- all that can be asked: one of the commands has to be named
+-- everything that can be asked: one of the commands must be named
 abbrev pub program : App
 program = record {
   top = record (new_shape (codes "dbtg")) { is_leaf = false; has_version = true; propagate_version = true; subcommand_required = true; arg_required_else_help = true };

@@ -1,4 +1,4 @@
--- What `explain` says: the rows of the tables, laid into forms. A table has a row on each line, a row has fields between bars, and the
+-- What `explain` says: the rows of the tables, put into forms. A table has a row on each line, a row has fields separated by bars, and the
 -- first field is the row's code.
 use Rattle.std.specs.Prelude.{ℕ, ◌≡◌, ◌==◌, ◌&&◌, nat_le, ◌%◌, ◌-◌, List, [], ◌∷◌, ◌++◌, Option, Some, None, find, length, option_and_then, option_map, slice_get, unwrap_or, codes, if◌then◌else◌}
 use Rattle.std.specs.List.{flat_map}
@@ -20,7 +20,7 @@ use Rattle.dbtg_command.specs.FaultyWord.{behind_all}
 abbrev pub code_in : List ℕ → ℕ
 code_in row = number (in_front 124 row)
 
--- the field of this number, from 0
+-- the field with this number, from 0
 abbrev pub field : ℕ → List ℕ → List ℕ
 field n row = in_front 124 (behind_all 124 n row)
 
@@ -32,7 +32,7 @@ row_of code table = find (λ row. code_in row == code) (lines table)
 abbrev pub part_for : List (List ℕ) → ℕ → Option (List ℕ)
 part_for parts b = if is_digit b then slice_get parts (b - 48) else None
 
--- the form, in which each digit stands for the part of that number
+-- the form, with each digit replaced by the part with that number
 abbrev pub filled : List (List ℕ) → List ℕ → List ℕ
 filled parts form = flat_map (λ b. unwrap_or (part_for parts b) (b ∷ [])) form
 
@@ -45,7 +45,7 @@ faults_of kind.Moves = MOVES_FAULTS.now
 faults_of kind.Turns = TURNS_FAULTS.now
 faults_of kind.Trace = TRACE_FAULTS.now
 
--- what a kind of text is called, and the page that lists its faults
+-- the name of a kind of text, and the page that lists its faults
 abbrev pub kind_row : Kind → List ℕ
 kind_row kind.Schema = codes "schema|schema-language.md, Faults"
 kind_row kind.Script = codes "script|scripts.md, Faults"
@@ -54,7 +54,7 @@ kind_row kind.Moves = codes "moves|events.md, Moves"
 kind_row kind.Turns = codes "turns|events.md, Turns"
 kind_row kind.Trace = codes "trace|traces.md, Faults"
 
--- the field of this number of a fault's row, and nothing where there is no such fault
+-- the field with this number of a fault's row; nothing if there is no such fault
 abbrev pub fault_field : Kind → ℕ → ℕ → List ℕ
 fault_field which fault n = unwrap_or (option_map (field n) (row_of fault (faults_of which))) []
 
@@ -62,7 +62,7 @@ fault_field which fault n = unwrap_or (option_map (field n) (row_of fault (fault
 abbrev pub status_rows : ℕ → Option (List ℕ × List ℕ)
 status_rows code = option_and_then (λ row. option_map (λ cause. (row, cause)) (row_of (code % 100) CAUSES.now)) (row_of code STATUSES.now)
 
--- the topic has the rows of this status; 0 is of no statement
+-- the topic has the rows of this status; 0 belongs to no statement
 abbrev pub IsStatus : ℕ → Option Topic → Type 0
 IsStatus code None = (status_rows code ≡ None) × (code ≡ 0 → ⊥)
 IsStatus code (Some All) = ⊥
@@ -110,15 +110,15 @@ IsAsked (code ∷ []) topic = WithNumber IsStatus (if length code == 4 then numb
 IsAsked (which ∷ number ∷ []) topic = IsFaultOf (kind_in which) (number_in 99 number) topic
 IsAsked (a ∷ b ∷ c ∷ rest) topic = topic ≡ None
 
--- what is said of a status, of its row and that of its cause
+-- what is said of a status, from its row and that of its cause
 abbrev pub status_text : List ℕ → List ℕ → List ℕ
 status_text status cause = filled (field 0 status ∷ field 1 status ∷ field 1 cause ∷ field 2 cause ∷ field 2 status ∷ field 3 cause ∷ field 0 cause ∷ []) STATUS.now
 
--- what is said of a fault, of its kind's row and its own
+-- what is said of a fault, from its kind's row and its own
 abbrev pub fault_text : List ℕ → List ℕ → List ℕ
 fault_text about fault = filled (field 0 about ∷ field 0 fault ∷ field 1 fault ∷ field 2 fault ∷ field 3 fault ∷ field 1 about ∷ []) FAULT.now
 
--- a line of the list of all: what it is of, its code, and what it means
+-- a line of the list of all: its kind, its code, and its meaning
 abbrev pub line_text : List ℕ → List ℕ → List ℕ → List ℕ
 line_text name code meaning = filled (name ∷ code ∷ meaning ∷ []) (codes "0 1: 2\n")
 
@@ -126,7 +126,7 @@ line_text name code meaning = filled (name ∷ code ∷ meaning ∷ []) (codes "
 abbrev pub cause_of : List ℕ → Option (List ℕ)
 cause_of status = option_and_then (λ code. row_of (code % 100) CAUSES.now) (number_in 9999 (field 0 status))
 
--- the line of a status, where its cause has a row
+-- the line of a status, if its cause has a row
 abbrev pub status_line : List ℕ → List ℕ
 status_line status = unwrap_or (option_map (λ cause. line_text (field 0 status) (field 1 status) (field 1 cause)) (cause_of status)) []
 

@@ -13,30 +13,30 @@ use Rattle.dbtg_script.specs.Printing.Spelling.{behind, in_front}
 abbrev pub apart : ℕ → List ℕ
 apart b = if b == 46 then 10 ∷ 46 ∷ 10 ∷ [] else (if is_gap b then 10 ∷ [] else b ∷ [])
 
--- no word stands on the last line
+-- the last line has no word
 abbrev pub laid_out : List ℕ → List ℕ
 laid_out text = flat_map apart text ++ 10 ∷ 10 ∷ []
 
--- what is left behind so many c
+-- what follows this many c
 abbrev pub behind_all : ℕ → ℕ → List ℕ → List ℕ
 behind_all c zero text = text
 behind_all c (suc n) text = behind c (behind_all c n text)
 
--- the line of a refusal with this number, and 0 for another one
+-- the line of a refusal with this number; 0 for another refusal
 abbrev pub line_in : ℕ → Option Fault → ℕ
 line_in number None = 0
 line_in number (Some fault) = if cause_number fault.cause == number then fault.line else 0
 
--- the line of this number, from 1
+-- the line with this number, from 1
 abbrev pub line_at : ℕ → List ℕ → List ℕ
 line_at zero text = []
 line_at (suc n) text = in_front 10 (behind_all 10 n text)
 
--- the faults of a whole entry, which are told at its first word
+-- the faults of a whole entry, which are reported at its first word
 abbrev pub is_of_entry : ℕ → Bool
 is_of_entry n = nat_le 12 n && nat_le n 15 || n == 17
 
--- a word that stands in front of an entry's name
+-- a word that stands before an entry's name
 abbrev pub is_label : List ℕ → Bool
 is_label word = length word == 0 || bytes_eq word (codes "MEMBER") || bytes_eq word (codes "RECORD") || bytes_eq word (codes "NAME") || bytes_eq word (codes "IS") || bytes_eq word (codes "ARE")
 
@@ -44,7 +44,7 @@ is_label word = length word == 0 || bytes_eq word (codes "MEMBER") || bytes_eq w
 abbrev pub entry_name : List (List ℕ) → Option (List ℕ)
 entry_name words = find (λ word. not (is_label word)) words
 
--- the word that a fault on this line is about: of a whole entry its name, where it has one
+-- the word that a fault on this line is about: for a whole entry its name, if it has one
 abbrev pub faulty_word : ℕ → ℕ → List ℕ → List ℕ
 faulty_word number line text =
     if line == 0 || not (is_of_entry number) then line_at line text

@@ -1,4 +1,4 @@
--- The names that are offered in place of a word at fault: those that there are.
+-- The names that are offered instead of a word at fault: those that exist.
 use Rattle.std.specs.Prelude.{ℕ, ◌-◌, ◌==◌, ◌&&◌, not, Bool, List, [], ◌∷◌, ◌++◌, Option, Some, None, codes, drop, filter, flat_map, length, map, nat_lt, option_map, option_to_list, slice_get, take, take_while, unwrap_or, if◌then◌else◌}
 use Rattle.std.specs.Str.{bytes_eq}
 use Rattle.dbtg_schema.specs.Lists.{Lists}
@@ -10,17 +10,17 @@ abbrev pub separated : List (List ℕ) → List ℕ
 separated [] = []
 separated (name ∷ names) = name ++ flat_map (λ more. codes ", " ++ more) names
 
--- eight names at the most, and two periods for those behind them
+-- at most eight names, and two periods for the rest
 abbrev pub listed : List (List ℕ) → List ℕ
 listed names = separated (take 8 names) ++ (if nat_lt 8 (length names) then codes ", .." else [])
 
--- OF A SCHEMA THAT WAS READ
+-- FOR A SCHEMA THAT WAS READ
 
 -- the names of the items of the record type with this name
 abbrev pub items_named : Lists → List ℕ → List (List ℕ)
 items_named schema rtype = map (λ item. item.name) (unwrap_or (option_map (item_list schema) (place_of rtype (map (λ one. one.name) schema.types))) [])
 
--- the names that there are in the place of a word with a fault of this number: areas, record types, sets, or the items of a record type
+-- the names that exist in place of a word with the fault of this number: areas, record types, sets, or the items of a record type
 abbrev pub names_for : Lists → ℕ → List ℕ → List (List ℕ)
 names_for schema number rtype =
     if number == 4 then map (λ area. area.name) schema.areas
@@ -28,7 +28,7 @@ names_for schema number rtype =
     else (if number == 6 then map (λ set. set.name) schema.sets
     else (if number == 7 then items_named schema rtype else [])))
 
--- OF A SCHEMA'S TEXT, FROM ITS WORDS
+-- FOR A SCHEMA'S TEXT, FROM ITS WORDS
 
 -- a word that the grammar sees
 abbrev pub is_seen : List ℕ → Bool
@@ -38,13 +38,13 @@ is_seen word = not (length word == 0) && not (bytes_eq word (codes "IS")) && not
 abbrev pub seen_words : List (List ℕ) → List (List ℕ)
 seen_words words = filter is_seen words
 
--- the name of an entry that begins with this word, and then has these
+-- the name of an entry that begins with this word, followed by these
 abbrev pub name_behind : List (List ℕ) → Option (List ℕ)
 name_behind [] = None
 name_behind (label ∷ []) = None
 name_behind (label ∷ name ∷ more) = if bytes_eq label (codes "NAME") then Some name else None
 
--- the name of an entry that begins with this word, where it is `first`
+-- the name of an entry that begins with this word, if it is `first`
 abbrev pub entry_name : List ℕ → List ℕ → List (List ℕ) → List (List ℕ)
 entry_name first word more = if bytes_eq word first then option_to_list (name_behind more) else []
 
@@ -53,34 +53,34 @@ abbrev pub entry_names : List ℕ → List (List ℕ) → List (List ℕ)
 entry_names first [] = []
 entry_names first (word ∷ more) = entry_name first word more ++ entry_names first more
 
--- the entry of a record type begins with this word, and then has these
+-- the entry of a record type begins with this word, followed by these
 abbrev pub begins_type : List ℕ → List ℕ → List (List ℕ) → Bool
 begins_type rtype word more = bytes_eq word (codes "RECORD") && some_and (bytes_eq rtype) (name_behind more)
 
--- the words of the entry of a record type, behind its label and up to the next
+-- the words of the entry of a record type, after its label and up to the next
 abbrev pub type_entry : List ℕ → List (List ℕ) → List (List ℕ)
 type_entry rtype [] = []
 type_entry rtype (word ∷ more) = if begins_type rtype word more then take_while (λ other. not (bytes_eq other (codes "NAME"))) (drop 1 more) else type_entry rtype more
 
--- the word behind this one, where this is `first`
+-- the word after this one, if this is `first`
 abbrev pub word_behind : List ℕ → List ℕ → List (List ℕ) → List (List ℕ)
 word_behind first word more = if bytes_eq word first then take 1 more else []
 
--- the words that stand directly behind `first`
+-- the words directly after `first`
 abbrev pub words_behind : List ℕ → List (List ℕ) → List (List ℕ)
 words_behind first [] = []
 words_behind first (word ∷ more) = word_behind first word more ++ words_behind first more
 
--- the last word, and nothing where there is none
+-- the last word, and nothing if there is none
 abbrev pub last_of : List (List ℕ) → List ℕ
 last_of words = unwrap_or (slice_get words (length words - 1)) []
 
--- the record type of which an item is wanted behind these words: behind KEY that of the last member, else the last that is declared
+-- the record type of which an item is wanted after these words: after KEY that of the last member, otherwise the last one declared
 abbrev pub type_wanted : List (List ℕ) → List ℕ
 type_wanted front = last_of (if bytes_eq (last_of front) (codes "KEY") then words_behind (codes "MEMBER") front else entry_names (codes "RECORD") front)
 
--- the names that a fault of this number asks for: of the areas or record types in front of the word; of the items of a record type, each
--- behind its level; or of all sets
+-- the names that a fault with this number asks for: of the areas or record types before the word; of the items of a record type, each
+-- after its level; or of all sets
 abbrev pub names_in : ℕ → List ℕ → List (List ℕ) → List (List ℕ) → List (List ℕ)
 names_in number rtype words front =
     if number == 7 then entry_names (codes "AREA") front

@@ -1,4 +1,4 @@
--- The second line of a fault: its place, and what is said of it. `has` says that reading so many bytes of a path gave a text, `lacks`
+-- The second line of a fault: its place, and what is said of it. `has` says that reading this many bytes of a path gave a text, `lacks`
 -- that it gave none, as the reader of files says it; for this line files are read again, and standard input is not.
 use Rattle.std.specs.Prelude.{ℕ, ◌≡◌, ◌==◌, ◌||◌, not, Bool, false, List, [], ◌++◌, ◌⊎◌, Some, None, codes, decimal, drop, is_some, length, slice_get, string_bytes, take_while, unwrap_or, ◌-◌, if◌then◌else◌, Option, nat_lt}
 use Rattle.std.specs.Char.{is_ascii_alphabetic, is_ascii_whitespace}
@@ -34,15 +34,15 @@ use Rattle.dbtg_command.specs.Misfits.{said_of_schema_word, said_of_word}
 abbrev pub place_of : List ℕ → List ℕ → ℕ → List ℕ
 place_of path mark number = ((path ++ mark) ++ decimal number) ++ codes ": "
 
--- the place, and what is said of the word there; what the fault means, where nothing is said of a word, or something of the whole text
+-- the place, and what is said of the word there; the meaning of the fault, if nothing is said of a word, or something of the whole text
 abbrev pub told_at : List ℕ → List ℕ → List ℕ → List ℕ → List ℕ
 told_at place word meaning other = (place ++ (if length word == 0 || not (length other == 0) then meaning else word)) ++ other
 
--- a file with this path is not read again: it is standard input, or else the reader gave nothing
+-- a file with this path is not read again: it is standard input, or the reader gave nothing
 abbrev pub IsNotRead : (List ℕ → ℕ → Type 0) → List ℕ → Type 0
 IsNotRead lacks path = bytes_eq path (codes "-") ≡ false → lacks path 1048577
 
--- nor is a script where the schema is standard input
+-- nor is a script if the schema is standard input
 abbrev pub IsScriptNotRead : (List ℕ → ℕ → Type 0) → List ℕ → List ℕ → Type 0
 IsScriptNotRead lacks schema path = bytes_eq schema (codes "-") ≡ false → IsNotRead lacks path
 
@@ -59,7 +59,7 @@ SaysOfSchema has lacks path number said =
 abbrev pub has_script_fault : Lists → ℕ → List ℕ → Bool
 has_script_fault schema number line = some_and (λ cause. script_cause_number cause == number) (first (line_faults schema 0 (trimmed line)))
 
--- what is said of the word of a line of a text of this kind: of a program's line nothing, unless as a line of a script it has the fault too
+-- what is said of the word of a line of a text of this kind: for a program's line nothing, unless it has the fault as a line of a script too
 abbrev pub said_in_text : Kind → Lists → ℕ → List ℕ → List ℕ
 said_in_text kind.Program schema number line = if has_script_fault schema number line then said_of_word schema number line else []
 said_in_text kind.Schema schema number line = said_of_word schema number line
@@ -79,7 +79,7 @@ SaysOfScript has lacks which schema path line number said =
     (IsScriptNotRead lacks schema path × (said ≡ []))
     ⊎ ((text : List ℕ) × has path 1048577 text × SaysOfLine has lacks which schema number (line_at line text) said)
 
--- the first word of a text, as far as it is letters
+-- the letters with which a text begins
 abbrev pub first_letters : List ℕ → List ℕ
 first_letters text = take_while is_ascii_alphabetic (drop (prefix_len is_ascii_whitespace text) text)
 
@@ -87,7 +87,7 @@ first_letters text = take_while is_ascii_alphabetic (drop (prefix_len is_ascii_w
 abbrev pub begins_statement : List ℕ → Bool
 begins_statement word = is_some (start_with fits (plain word) (starts statement))
 
--- what is said of a whole text of another kind than is wanted: it begins as a script in a schema's place, or as a schema in a script's
+-- what is said of a whole text of another kind than is wanted: it begins like a script in a schema's place, or like a schema in a script's
 abbrev pub other_kind : Kind → List ℕ → List ℕ
 other_kind kind.Schema text = if begins_statement (first_letters text) then codes "; this is a script, and a schema is wanted" else []
 other_kind kind.Script text = if bytes_eq (first_letters text) (codes "SCHEMA") then codes "; this is a schema, and a script is wanted" else []
@@ -101,29 +101,29 @@ abbrev pub SaysOfFile : (List ℕ → ℕ → List ℕ → Type 0) → (List ℕ
 SaysOfFile has lacks which path other =
     (IsNotRead lacks path × (other ≡ [])) ⊎ ((text : List ℕ) × has path 1048577 text × (other ≡ other_kind which text))
 
--- this is told of a fault in a line of a file of this kind, by what `Says` allows of a word and `Other` of the whole text
+-- this is said of a fault in a line of a file of this kind, given what `Says` allows for a word and `Other` for the whole text
 abbrev pub IsToldIn : Kind → (List ℕ → Type 0) → (List ℕ → Type 0) → List ℕ → ℕ → ℕ → List ℕ → Type 0
 IsToldIn which Says Other path line number out =
     (said : List ℕ) × (other : List ℕ) × Says said × Other other × (out ≡ told_at (place_of path (codes ":") line) said (fault_field which number 1) other)
 
--- this is told of a fault at a word of moves or turns
+-- this is said of a fault at a word of moves or turns
 abbrev pub IsToldOfOrder : Kind → List ℕ → ℕ → ℕ → List ℕ → Type 0
 IsToldOfOrder which path word number out = out ≡ told_at (place_of path (codes ": word ") word) [] (fault_field which number 1) []
 
--- the kind of text that has a fault of this number: programs and traces have those of scripts too
+-- the kind of text that has a fault with this number: programs and traces have those of scripts too
 abbrev pub kind_with : ℕ → Kind
 kind_with number = if nat_lt number 21 then kind.Script else (if nat_lt number 31 then kind.Program else kind.Trace)
 
--- this is told of a fault in a line of a program, by what `Says` allows of a word
+-- this is said of a fault in a line of a program, given what `Says` allows for a word
 abbrev pub IsToldOfProgram : (List ℕ → Type 0) → List ℕ → ℕ → ℕ → List ℕ → Type 0
 IsToldOfProgram Says path line number out =
     (said : List ℕ) × Says said × (out ≡ told_at (place_of path (codes ":") line) said (fault_field (kind_with number) number 1) [])
 
--- this is told of a fault in a line of a trace
+-- this is said of a fault in a line of a trace
 abbrev pub IsToldOfTrace : List ℕ → ℕ → ℕ → List ℕ → Type 0
 IsToldOfTrace path line number out = out ≡ told_at (place_of path (codes ":") line) [] (fault_field (kind_with number) number 1) []
 
--- a file that could not be read is told with its path, and why
+-- a file that could not be read is named with its path, and the reason
 abbrev pub IsUnreadLine : List ℕ → List ℕ → Type 0
 IsUnreadLine path out = (why : List ℕ) × (out ≡ (path ++ codes ": ") ++ why)
 
@@ -133,11 +133,11 @@ order_path by.Serial = []
 order_path (by.Moves path) = path
 order_path (by.Turns path) = path
 
--- the path of the script of this number, from 1
+-- the path of the script with this number, from 1
 abbrev pub script_path : List (List ℕ) → ℕ → List ℕ
 script_path paths number = if number == 0 then [] else unwrap_or (slice_get paths (number - 1)) []
 
--- this is told of a fault, with these paths
+-- this is said of a fault, with these paths
 abbrev pub IsReason : (List ℕ → ℕ → List ℕ → Type 0) → (List ℕ → ℕ → Type 0) → List ℕ → List (List ℕ) → Order (List ℕ) → Fault → List ℕ → Type 0
 IsReason has lacks schema scripts order (Schema line cause) out =
     let number = schema_cause_number cause in
@@ -173,6 +173,6 @@ HasNoReason (StatesOver limit) = Unit {0}
 HasNoReason ScriptCount = Unit {0}
 HasNoReason Memory = Unit {0}
 
--- the line has this, but for bytes that are no text
+-- the line has this, except for bytes that are not text
 abbrev pub IsReasonLine : (List ℕ → ℕ → List ℕ → Type 0) → (List ℕ → ℕ → Type 0) → List ℕ → List (List ℕ) → Order (List ℕ) → Fault → List ℕ → Type 0
 IsReasonLine has lacks schema scripts order fault line = (out : List ℕ) × IsReason has lacks schema scripts order fault out × (line ≡ utf8_lossy out)

@@ -106,7 +106,7 @@ RefusesTurns (StatesOver limit) refusal = ⊥
 RefusesTurns (Unreadable path) refusal = ⊥
 RefusesTurns ScriptCount refusal = ⊥
 
--- the text of a schema is accepted; or it is not too long, and its first word is at no fault
+-- the text of a schema is accepted; or it is not too long, and its first word is not at fault
 abbrev pub SchemaMayTakeMemory : List ℕ → Type 0
 SchemaMayTakeMemory text = (schema_refusal text ≡ None) ⊎ ((length text ≤ 65536) × SchemaRefusedAtOnce text ⊥)
 
@@ -114,27 +114,27 @@ SchemaMayTakeMemory text = (schema_refusal text ≡ None) ⊎ ((length text ≤ 
 abbrev pub ScriptMayTakeMemory : Lists → List ℕ → Type 0
 ScriptMayTakeMemory lists text = (script_refusal lists text ≡ None) ⊎ (first (script_faults_at_once lists text) ≡ None)
 
--- moves are accepted, or the first word is of no other shape
+-- moves are accepted, or the first word has no other shape
 abbrev pub MovesMayTakeMemory : List ℕ → Type 0
 MovesMayTakeMemory text = (moves_refusal text ≡ None) ⊎ RefusedAtOnce spelled_move text ⊥
 
--- the same of turns
+-- the same for turns
 abbrev pub TurnsMayTakeMemory : List ℕ → Type 0
 TurnsMayTakeMemory text = (turns_refusal text ≡ None) ⊎ RefusedAtOnce spelled_turn text ⊥
 
--- the fault is the refusal of this schema; memory ran out only where the text may take any
+-- the fault is the refusal of this schema; memory ran out only if the text may take any
 abbrev pub RefusesSchemaText : Fault → List ℕ → Type 0
 RefusesSchemaText fault text = RefusesSchema fault (schema_refusal text) × (fault ≡ Memory → SchemaMayTakeMemory text)
 
--- the same of this text of script n
+-- the same for this text of script n
 abbrev pub RefusesScriptText : Fault → ℕ → Lists → List ℕ → Type 0
 RefusesScriptText fault n lists text = RefusesScript fault n (script_refusal lists text) × (fault ≡ Memory → ScriptMayTakeMemory lists text)
 
--- of these moves
+-- for these moves
 abbrev pub RefusesMovesText : Fault → List ℕ → Type 0
 RefusesMovesText fault text = RefusesMoves fault (moves_refusal text) × (fault ≡ Memory → MovesMayTakeMemory text)
 
--- of these turns
+-- for these turns
 abbrev pub RefusesTurnsText : Fault → List ℕ → Type 0
 RefusesTurnsText fault text = RefusesTurns fault (turns_refusal text) × (fault ≡ Memory → TurnsMayTakeMemory text)
 
@@ -170,13 +170,13 @@ AcceptsTexts text scripts = (schema_refusal text ≡ None) × AllAccepted (schem
 abbrev pub RefusesTexts : Fault → List ℕ → List (List ℕ) → Type 0
 RefusesTexts fault text scripts = RefusesSchema fault (schema_refusal text) ⊎ ((schema_refusal text ≡ None) × RefusesScripts fault (schema_in text) 1 scripts)
 
--- the moves or turns, where there are any, are accepted
+-- the moves or turns, if there are any, are accepted
 abbrev pub AcceptsOrder : Order (List ℕ) → Type 0
 AcceptsOrder by.Serial = Unit {0}
 AcceptsOrder (by.Moves text) = moves_refusal text ≡ None
 AcceptsOrder (by.Turns text) = turns_refusal text ≡ None
 
--- the fault is the first of the moves or turns, where there are any, unless memory ran out
+-- the fault is the first of the moves or turns, if there are any, unless memory ran out
 abbrev pub RefusesOrder : Fault → Order (List ℕ) → Type 0
 RefusesOrder fault by.Serial = fault ≡ Memory
 RefusesOrder fault (by.Moves text) = RefusesMoves fault (moves_refusal text)
@@ -192,7 +192,7 @@ RefusesReplay fault text scripts order =
     ((is_count (length scripts) ≡ false) × (fault ≡ ScriptCount))
     ⊎ ((is_count (length scripts) ≡ true) × (RefusesTexts fault text scripts ⊎ (AcceptsTexts text scripts × RefusesOrder fault order)))
 
--- the exit status: for what is given to read and too many moves, for a wrong number of scripts, for want of memory
+-- the exit status: for what is read and too many moves, for a wrong number of scripts, for a refusal of memory
 abbrev pub status_of : Fault → ℕ
 status_of ScriptCount = 2
 status_of Memory = 3

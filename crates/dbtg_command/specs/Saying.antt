@@ -1,4 +1,4 @@
--- What is said of the word that a fault is about.
+-- The explanation of the word that a fault is about.
 use Rattle.std.specs.Prelude.{ℕ, ◌-◌, ◌==◌, ◌||◌, Bool, false, List, [], ◌∷◌, ◌++◌, Option, codes, length, nat_le, nat_lt, option_map, slice_get, take, unwrap_or, if◌then◌else◌}
 use Rattle.std.specs.Str.{bytes_eq}
 use Rattle.dbtg_schema.specs.Lists.{Lists}
@@ -15,11 +15,11 @@ use Rattle.dbtg_command.specs.Explaining.{fault_field, field, filled, row_of}
 use Rattle.dbtg_command.specs.FaultyWord.{faulty_word, laid_out, line_in}
 use Rattle.dbtg_command.specs.Offered.{listed, names_for, names_in, seen_words, type_wanted}
 
--- the form for a fault of this number, of which part 0 is the word and part 3 what the fault means
+-- the form for a fault with this number, of which part 0 is the word and part 3 what the fault means
 abbrev pub form_for : ℕ → List ℕ → List ℕ
 form_for number forms = unwrap_or (option_map (field 1) (row_of number forms)) (codes "0: 3")
 
--- the form with these parts; of no word nothing is said
+-- the form with these parts; if there is no word nothing is said
 abbrev pub said_by : List ℕ → List ℕ → List (List ℕ) → List ℕ
 said_by form word parts = if length word == 0 then [] else filled parts form
 
@@ -37,7 +37,7 @@ faulty_text schema line = unwrap_or (option_map written (faulty_token schema (tr
 abbrev pub told_part : ℕ → List ℕ → List ℕ
 told_part number text = if number == 1 || number == 14 then [] else (if number == 5 then in_front 58 text else text)
 
--- the word of a line that is told of a fault of this number
+-- the word of a line that is shown for a fault with this number
 abbrev pub told_word : Lists → ℕ → List ℕ → List ℕ
 told_word schema number line = told_part number (faulty_text schema line)
 
@@ -47,7 +47,7 @@ is_find (plain text) = bytes_eq text (codes "FIND")
 is_find equals = false
 is_find (literal text) = false
 
--- the record type whose items a line names: its second word, and the third behind FIND CALC
+-- the record type whose items a line names: its second word, and the third after FIND CALC
 abbrev pub type_token : List Token → Option Token
 type_token words = slice_get words (if some_and is_find (first words) then 2 else 1)
 
@@ -55,24 +55,24 @@ type_token words = slice_get words (if some_and is_find (first words) then 2 els
 abbrev pub type_text : List ℕ → List ℕ
 type_text line = unwrap_or (option_map written (type_token (tokens false line))) []
 
--- what is said of the name, the value or the key of a script's line that is at fault
+-- the explanation of the name, the value or the key of a script's line that is at fault
 abbrev pub said_of_name : Lists → ℕ → List ℕ → List ℕ
 said_of_name schema number line =
     let word = told_word schema number line in
     let rtype = type_text line in
     said_by (form_for number SCRIPT_FORMS.now) word (word ∷ rtype ∷ listed (names_for schema number rtype) ∷ fault_field kind.Script number 1 ∷ [])
 
--- no word is told of a byte that is not allowed and of a text that is too long, nor one of more than 480 bytes
+-- no word is shown for a byte that is not allowed and for a text that is too long, nor one of more than 480 bytes
 abbrev pub told_schema_part : ℕ → List ℕ → List ℕ
 told_schema_part number word = if nat_le number 2 || nat_lt 480 (length word) then [] else word
 
--- the word of a schema's text that is told of a fault of this number
+-- the word of a schema's text that is shown for a fault with this number
 abbrev pub told_schema_word : ℕ → List ℕ → List ℕ
 told_schema_word number text =
     let laid = laid_out text in
     told_schema_part number (faulty_word number (line_in number (refusal laid)) laid)
 
--- what is said of the name, the picture or the entry of a schema's text that is at fault
+-- the explanation of the name, the picture or the entry of a schema's text that is at fault
 abbrev pub said_of_schema_name : ℕ → List ℕ → List ℕ
 said_of_schema_name number text =
     let laid = laid_out text in

@@ -1,12 +1,12 @@
-//! What a command can be given: options, files and other words, as `clap` is told of each.
+//! The arguments of commands: options, files and other words, as `clap` is given them.
 ghost use Rattle.std.specs.Prelude.{IfOk};
-ghost use Rattle.dbtg_command.specs.Commands.{all, answers, capacity, echo, explain, file_option, file_word, first, flag, last, limit, limit_of_programs, moves, no_explain, number_option, programs, save_turns, topic, turns_file, turns_option, units, words, status, trace, trace_option, always, brief, never, wish_option, turns_alone};
+ghost use Rattle.dbtg_command.specs.Commands.{all, answers, capacity, echo, explain, file_option, file_word, first, flag, last, limit, limit_of_programs, moves, no_explain, number_option, programs, save_turns, topic, turns_file, turns_option, units, words, status, trace, trace_alone, trace_option, always, brief, never, wish_option, turns_alone};
 ghost use Rattle.dbtg_command.specs.Inside.Commands.{IsArg, rule_for};
 
 use clap::{Arg, ArgAction};
 use std::alloc::{AllocError, Global};
 
-/// A word that a command can be given: an option, or what stands for files. Those with a text have what help says of them.
+/// A word that a command can be given: an option, or a placeholder for files. Those with a text have what help says of them.
 #[derive(Clone, Copy)]
 pub enum Word<'a> {
     All(&'a str),
@@ -16,6 +16,7 @@ pub enum Word<'a> {
     Capacity,
     Echo,
     Explain,
+    ExplainMore(&'a str),
     First(&'a str),
     Last,
     Limit,
@@ -32,6 +33,7 @@ pub enum Word<'a> {
     Svg(&'a str),
     Topic,
     Trace,
+    TraceAlone,
     TraceOption,
     TurnsAlone,
     TurnsBefore,
@@ -40,28 +42,36 @@ pub enum Word<'a> {
     Units,
 }
 
-// What stands for the two words of a wish.
+// The placeholders for the two words of a wish.
 const WISH_WORDS: [&str; 2] = ["U.I", "STATUS"];
+
+/// Help for the wish for more, where an echo can be explained too.
+pub const EXPLAIN_ECHO: &str =
+    "Also says where a fault is and what is wrong [default: on a terminal]; with --echo also what is in the way of a refused statement";
+
+/// The same of a picture.
+pub const EXPLAIN_PICTURE: &str =
+    "Tells also where a fault is and what is wrong [default: on a terminal], and what is in the way of a refusal";
 
 /// What is said of a schema.
 pub const SCHEMA: &str = "The file of the schema; - for standard input";
 
-/// What is said of a script that is made first.
+/// Help for a script that is made first.
 pub const FIRST: &str = "A script made whole before the others, by the last unit [default: none]";
 
-/// What is said of a program that is made first.
+/// Help for a program that is made first.
 pub const FIRST_PROGRAM: &str =
-    "A program made to its end before the others, by the unit behind theirs [default: none]";
+    "A program that runs to its end before the others, by the unit after theirs [default: none]";
 
-/// What is said of the programs of units.
+/// Help for the programs of units.
 pub const PROGRAMS: &str =
     "Files of the programs of units 1, 2, ..: 1 to 8 in all; - for standard input, once";
 
-/// What is said of the scripts of units.
+/// Help for the scripts of units.
 pub const SCRIPTS: &str =
     "Files of the scripts of units 1, 2, ..: 1 to 8 of them; - for standard input, once";
 
-// An option that has no value.
+// An option without a value.
 fn flag<'a>(alloc: Global, name: &'a str, help: &'a str) -> Arg<'a>
     ensures { IsArg (flag name.entry.now) result }
 {
@@ -104,7 +114,7 @@ fn wish_option<'a>(alloc: Global, name: &'a str, help: &'a str) -> Arg<'a>
         .help(help)
 }
 
-// A file that has to be named.
+// A file that must be named.
 fn file_word<'a>(alloc: Global, name: &'a str, shown: &'a str, help: &'a str) -> Arg<'a>
     ensures { IsArg (file_word name.entry.now) result }
 {
@@ -132,7 +142,7 @@ fn always_option<'a>(alloc: Global) -> Result<Arg<'a>, AllocError>
     wish_option(
         alloc,
         "always",
-        "Tells whether statement I of unit U always has this status; not with --never",
+        "Says whether statement I of unit U always has this status; not with --never",
     )
     .conflicts_with("never")
 }
@@ -153,7 +163,7 @@ fn brief_option<'a>(alloc: Global) -> Arg<'a>
     flag(
         alloc,
         "brief",
-        "Shows of each further result the lines that differ from the first [default: all of it]",
+        "Shows what differs from the first of each further result, or which one it is like but for numbers [default: all of it]",
     )
 }
 
@@ -167,7 +177,7 @@ fn capacity_option<'a>(alloc: Global) -> Arg<'a>
 fn echo_option<'a>(alloc: Global) -> Arg<'a>
     ensures { IsArg echo result }
 {
-    let help = "Prints each answer with its statement in front [default: the answers alone]";
+    let help = "Prints each answer after its statement [default: the answers alone]";
     flag(alloc, "echo", help)
 }
 
@@ -177,7 +187,7 @@ fn explain_option<'a>(alloc: Global) -> Arg<'a>
     flag(
         alloc,
         "explain",
-        "Tells also where a fault is and what is wrong [default: on a terminal]",
+        "Also says where a fault is and what is wrong [default: on a terminal]",
     )
 }
 
@@ -187,7 +197,7 @@ fn last_option<'a>(alloc: Global) -> Arg<'a>
     file_option(
         alloc,
         "then",
-        "A program made to its end where all others have ended, by the last unit [default: none]",
+        "A program that runs to its end after all others have ended, by the last unit [default: none]",
     )
 }
 
@@ -221,21 +231,21 @@ fn never_option<'a>(alloc: Global) -> Arg<'a>
     wish_option(
         alloc,
         "never",
-        "Tells whether statement I of unit U never has this status; status 4 where it has, in some order",
+        "Says whether statement I of unit U never has this status; status 4 if it has, in some order",
     )
 }
 
 fn no_explain_option<'a>(alloc: Global) -> Arg<'a>
     ensures { IsArg no_explain result }
 {
-    let help = "Tells a fault by its number alone, on a terminal too";
+    let help = "Reports a fault by its number alone, on a terminal too";
     flag(alloc, "no-explain", help)
 }
 
 fn programs_option<'a>(alloc: Global) -> Arg<'a>
     ensures { IsArg programs result }
 {
-    let help = "Reads programs in the place of scripts [default: scripts]";
+    let help = "Reads programs instead of scripts [default: scripts]";
     flag(alloc, "programs", help)
 }
 
@@ -252,7 +262,7 @@ fn save_turns_option<'a>(alloc: Global) -> Arg<'a>
 fn status_option<'a>(alloc: Global) -> Arg<'a>
     ensures { IsArg status result }
 {
-    let help = "Compares statuses alone [default: keys and items too, where they are said]";
+    let help = "Compares only statuses [default: keys and items too, if the trace has them]";
     flag(alloc, "status", help)
 }
 
@@ -274,13 +284,21 @@ fn trace_word<'a>(alloc: Global) -> Arg<'a>
     file_word(alloc, "traced", "TRACE", help)
 }
 
+// A trace for a command that has no echo.
+fn trace_alone<'a>(alloc: Global) -> Arg<'a>
+    ensures { IsArg trace_alone result }
+{
+    let help = "Prints a trace in place of the answers, as 'audit' reads it";
+    flag(alloc, "trace", help)
+}
+
 fn trace_option<'a>(alloc: Global) -> Result<Arg<'a>, AllocError>
     ensures { IfOk result (IsArg trace_option) }
 {
     flag(
         alloc,
         "trace",
-        "Prints a trace in place of the answers, as 'audit' reads it; not with --echo",
+        "Prints a trace instead of the answers, as 'audit' reads it; not with --echo",
     )
     .conflicts_with("echo")
 }
@@ -327,7 +345,7 @@ fn units_option<'a>(alloc: Global) -> Arg<'a>
     number_option(alloc, "units", "2", "How many units there are, 1 to 8")
 }
 
-/// What `clap` is told of a word.
+/// A word as `clap` is given it.
 pub fn arg_of<'a>(alloc: Global, word: Word<'a>) -> Result<Arg<'a>, AllocError>
     ensures { IfOk result (IsArg (rule_for word.entry)) }
 {
@@ -339,6 +357,7 @@ pub fn arg_of<'a>(alloc: Global, word: Word<'a>) -> Result<Arg<'a>, AllocError>
         Word::Capacity => Ok(capacity_option(alloc)),
         Word::Echo => Ok(echo_option(alloc)),
         Word::Explain => Ok(explain_option(alloc)),
+        Word::ExplainMore(help) => Ok(flag(alloc, "explain", help)),
         Word::First(help) => Ok(file_option(alloc, "first", help)),
         Word::Last => Ok(last_option(alloc)),
         Word::Limit => Ok(limit_option(alloc)),
@@ -355,6 +374,7 @@ pub fn arg_of<'a>(alloc: Global, word: Word<'a>) -> Result<Arg<'a>, AllocError>
         Word::Svg(help) => Ok(flag(alloc, "svg", help)),
         Word::Topic => Ok(topic_words(alloc)),
         Word::Trace => Ok(trace_word(alloc)),
+        Word::TraceAlone => Ok(trace_alone(alloc)),
         Word::TraceOption => trace_option(alloc),
         Word::TurnsAlone => Ok(turns_alone(alloc)),
         Word::TurnsBefore => Ok(turns_before_option(alloc)),

@@ -1,4 +1,4 @@
-//! Texts whose bytes are at hand.
+//! Texts whose bytes are in memory.
 ghost use Rattle.std.specs.Prelude.{◌≡◌, [], length, slice_get, unwrap_or};
 ghost use Rattle.dbtg_command.specs.Sources.{HasPlace, kind_of, order_map};
 ghost use Rattle.dbtg_command.specs.Inside.Sources.{StandsIn};
@@ -11,7 +11,7 @@ use crate::source::Source;
 use dbtg_schema::Row;
 use std::alloc::Global;
 
-/// A schema, scripts, and moves or turns where there are any. A trace is given as the first of the scripts.
+/// A schema, scripts, and moves or turns if there are any. A trace is given as the first of the scripts.
 #[derive(Drop)]
 pub struct AtHand<'a> {
     pub schema: &'a [u8],

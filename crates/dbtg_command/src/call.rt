@@ -1,4 +1,4 @@
-//! What the words of the command ask for, of what `clap` finds in them.
+//! What the words of the command ask for, from what `clap` finds in them.
 ghost use Rattle.std.specs.Prelude.{◌≡◌, ◌++◌, ◌≤◌, IfOk, IfSome, OnOk, codes, map, option_map, option_to_list, string_bytes, Some};
 ghost use Rattle.clap.specs.Matches.{first_value, found_of};
 ghost use Rattle.dbtg_command.specs.Calling.{IsCall, IsCallOf, count_for, order_in, scripts_in, words_in};
@@ -13,6 +13,7 @@ use crate::capacity::count_of;
 use crate::command::{ALL, Named, command, name_of, refused};
 use crate::explain::{Topic, topic_of};
 use crate::files::STANDARD_INPUT;
+use crate::limits::MOST_UNITS;
 use crate::order::Order;
 use crate::wished::{Wished, wish_of};
 use clap::error::ErrorKind;
@@ -40,20 +41,20 @@ pub struct Call<'a> {
     pub answers: bool,
     /// Results are shown as what differs from the first.
     pub brief: bool,
-    /// Statuses alone are compared.
+    /// Only statuses are compared.
     pub statuses: bool,
-    /// What is read are programs.
+    /// The texts are programs.
     pub programs: bool,
-    /// The last script, or the one before it where there is one that is made last, is made before all others.
+    /// The last script, or the one before it if there is one that is made last, is made before all others.
     pub first: bool,
-    /// The last script is made where all others have ended.
+    /// The last script is made after all others have ended.
     pub last: bool,
     pub capacity: u16,
-    /// How many states may come.
+    /// How many states are allowed.
     pub limit: u64,
     pub units: u16,
     pub order: Order<&'a str>,
-    /// What is wished of a statement over all orders.
+    /// The wish for a statement's status over all orders.
     pub wish: Option<Wished>,
     /// Where the turns of the run go.
     pub saved: Option<&'a str>,
@@ -71,7 +72,7 @@ fn words_of<'a>(alloc: Global, given: &ArgMatches<'a>, id: &str) -> Result<Vec<&
     }
 }
 
-// Puts a path behind others, if there is one.
+// Appends a path to others, if there is one.
 fn push_path<'a>(paths: &mut Vec<&'a str>, path: Option<&'a str>) -> Result<(), AllocError>
     ensures { OnOk result (map (λ path. path.now) paths.new.items ≡ map (λ path. path.now) paths.old.items ++ option_to_list (option_map (λ path. path.now) path.entry)) }
 {
@@ -81,7 +82,7 @@ fn push_path<'a>(paths: &mut Vec<&'a str>, path: Option<&'a str>) -> Result<(), 
     }
 }
 
-// The scripts or the trace, and behind them the one that is made first and the one that is made last.
+// The scripts or the trace, and after them the one that is made first and the one that is made last.
 fn scripts_wanted<'a>(alloc: Global, given: &ArgMatches<'a>) -> Result<Vec<&'a str>, AllocError>
     ensures { IfOk result (λ scripts. map (λ path. path.now) scripts.items ≡ scripts_in (found_of given.now)) }
 {
@@ -92,7 +93,7 @@ fn scripts_wanted<'a>(alloc: Global, given: &ArgMatches<'a>) -> Result<Vec<&'a s
     Ok(scripts)
 }
 
-// The number that an option has, at most so large, and 0 where the command has no such option.
+// The number given to an option, at most this large; 0 if the command has no such option.
 fn count_wanted(
     alloc: Global,
     named: Named,
@@ -130,7 +131,7 @@ fn count_said(
     Err(refused(alloc, named, ErrorKind::ValueValidation, told.as_str())?)
 }
 
-// What says the order; the reader of the words takes one of the two options.
+// The text that gives the order; the reader of the words takes one of the two options.
 fn order_wanted<'a>(given: &ArgMatches<'a>) -> Order<&'a str>
     ensures { order_map (λ path. path.now) result ≡ order_in (found_of given.now) }
 {
@@ -169,7 +170,7 @@ fn wish_said(
     )?)
 }
 
-// What is wished of a statement; the reader of the words takes one of the two options.
+// The wish for a statement; the reader of the words takes one of the two options.
 fn wish_wanted(alloc: Global, named: Named, given: &ArgMatches) -> Result<Option<Wished>, Error>
     ensures { IfOk result (λ wish. wish_of_either (words_in (found_of given.now) (codes "never")) (words_in (found_of given.now) (codes "always")) ≡ Some wish) }
 {
@@ -201,7 +202,7 @@ fn given_call<'a>(alloc: Global, named: Named, given: &ArgMatches<'a>) -> Result
 {
     let capacity = count_wanted(alloc, named, given, "capacity", 1000)?;
     let limit = count_wanted(alloc, named, given, "limit", 1_000_000_000)?;
-    let units = count_wanted(alloc, named, given, "units", 8)?;
+    let units = count_wanted(alloc, named, given, "units", MOST_UNITS as u64)?;
     let topic = topic_wanted(alloc, given)?;
     let wish = wish_wanted(alloc, named, given)?;
     let scripts = scripts_wanted(alloc, given)?;
@@ -256,7 +257,7 @@ fn reads_again(call: &Call) -> bool {
         && (is_input(call.schema) || call.scripts.iter().any(|path| is_input(*path)))
 }
 
-// What is wrong with the paths, where something is.
+// What is wrong with the paths, if anything is.
 fn misused_input(call: &Call) -> Option<&'static str> {
     if reads_twice(call) {
         Some("the argument '-' cannot be used twice: standard input is one file")
@@ -273,7 +274,7 @@ fn misused_input(call: &Call) -> Option<&'static str> {
     }
 }
 
-// The call that the words for a command make, unless standard input is not to be had as they want it.
+// The call that the words for a command make, unless they ask for standard input in a way that is impossible.
 fn call_named<'a>(alloc: Global, named: Named, given: &ArgMatches<'a>) -> Result<Call<'a>, Error>
     ensures { IfOk result (IsCall named (found_of given.now)) }
 {
@@ -284,7 +285,7 @@ fn call_named<'a>(alloc: Global, named: Named, given: &ArgMatches<'a>) -> Result
     }
 }
 
-// The command of this name.
+// The command with this name.
 fn named_of(word: &str) -> Option<Named>
     ensures { IfSome result (λ named. name_of named ≡ word.now) }
 {
@@ -296,7 +297,7 @@ fn named_of(word: &str) -> Option<Named>
     None
 }
 
-// The reader of the words takes no others than those of the commands.
+// The reader of the words accepts only those of the commands.
 fn call_in<'a>(alloc: Global, matches: &ArgMatches<'a>) -> Result<Call<'a>, Error>
     ensures { IfOk result (IsCallIn matches.now) }
 {
@@ -308,7 +309,7 @@ fn call_in<'a>(alloc: Global, matches: &ArgMatches<'a>) -> Result<Call<'a>, Erro
     Err(Error::from(AllocError))
 }
 
-/// What the words ask for. `Err` has the text that answers other words, and help.
+/// What the words ask for. `Err` has the text that answers help, and words that are not accepted.
 pub fn call_of<'a>(alloc: Global, words: &'a [String]) -> Result<Call<'a>, Error>
     ensures { IfOk result (IsCallOf (map string_bytes words.now)) }
 {

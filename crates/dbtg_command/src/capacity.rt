@@ -13,7 +13,7 @@ pub fn count_of(word: &str, most: u64) -> Option<u64>
     count_in_digits(word.as_bytes(), most)
 }
 
-/// The same of a word that is given as bytes.
+/// The same for a word that is given as bytes.
 pub fn count_in_digits(digits: &[u8], most: u64) -> Option<u64>
     requires { most ≤ 1000000000 }
     ensures count { result ≡ count_in most digits.now }

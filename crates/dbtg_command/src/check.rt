@@ -18,7 +18,7 @@ use dbtg_schema::{Row, Schema};
 use dbtg_script::{push_schema_line, push_script_line};
 use std::alloc::Global;
 
-/// The line of a script, behind a text.
+/// Appends the line of a script.
 fn push_script(
     alloc: Global,
     out: &mut Vec<u8>,
@@ -35,7 +35,7 @@ fn push_script(
     Ok(())
 }
 
-/// The lines of the scripts, behind a text.
+/// Appends the lines of the scripts.
 fn push_scripts<S: Source>(
     alloc: Global,
     out: &mut Vec<u8>,
@@ -75,7 +75,7 @@ pub fn check<S: Source>(alloc: Global, source: &S) -> Result<Vec<u8>, Fault>
     said
 }
 
-/// What `check` prints of a schema and scripts at hand, or their first fault.
+/// What `check` prints of a schema and scripts in memory, or their first fault.
 pub fn check_bytes<'a>(
     alloc: Global,
     schema: &'a [u8],

@@ -1,16 +1,18 @@
-//! The words of the command, as `clap` is told of them.
+//! The words of the command, as `clap` is given them.
 ghost use Rattle.std.specs.Prelude.{◌≡◌, IfOk, map};
 ghost use Rattle.clap.specs.Simple.{app_of, with_rule};
 ghost use Rattle.clap.specs.declared.builder.command.Command.TheViews.{out-Command as fields_of};
 ghost use Rattle.dbtg_command.specs.Commands.{name_of, program, rules_for};
 ghost use Rattle.dbtg_command.specs.Inside.Commands.{IsApp, alone, rule_for, with_command};
 
-use crate::arguments::{FIRST, FIRST_PROGRAM, PROGRAMS, SCHEMA, SCRIPTS, Word, arg_of};
+use crate::arguments::{
+    EXPLAIN_ECHO, EXPLAIN_PICTURE, FIRST, FIRST_PROGRAM, PROGRAMS, SCHEMA, SCRIPTS, Word, arg_of,
+};
 use clap::error::ErrorKind;
 use clap::{Command, Error};
 use std::alloc::{AllocError, Global};
 
-// The command, which can be given this word too.
+// The command, with this word added to those that it can be given.
 fn taking<'a>(
     alloc: Global,
     command: Command<'a>,
@@ -28,7 +30,7 @@ fn taking<'a>(
     }
 }
 
-// What a command does, an example, and what it can be given, in the order of its help; its usage shows it by this name.
+// What a command does, an example, and its arguments, in the order of its help; its usage shows it by this name.
 fn described<'a>(
     alloc: Global,
     name: &'a str,
@@ -53,10 +55,10 @@ fn check_command<'a>(alloc: Global, name: &'a str) -> Result<Command<'a>, AllocE
     described(
         alloc,
         name,
-        "Reads a schema and scripts, and tells how large they are",
+        "Reads a schema and scripts, and says how large they are",
         "Example: dbtg check shop.schema unit1.script unit2.script",
         &[
-            Word::All("Tells the first fault of each file [default: the first of all]"),
+            Word::All("Reports the first fault of each file [default: only the first of all]"),
             Word::First(FIRST),
             Word::Programs,
             Word::Explain,
@@ -87,7 +89,7 @@ fn explain_command<'a>(alloc: Global, name: &'a str) -> Result<Command<'a>, Allo
     Ok(described(
         alloc,
         name,
-        "Tells what a status or a fault means, when it comes and what to do next",
+        "Says what a status or a fault means, when it comes and what to do next",
         "Examples: dbtg explain 0505, dbtg explain schema 7\nFaults have numbers: schema 1 to 18, script 1 to 14, program 21 to 27, moves 1 to 2, turns 1 to 2, trace 31 to 33",
         &[Word::Topic],
     )?
@@ -112,7 +114,7 @@ fn replay_command<'a>(alloc: Global, name: &'a str) -> Result<Command<'a>, Alloc
             Word::TurnsOption,
             Word::Echo,
             Word::TraceOption,
-            Word::Explain,
+            Word::ExplainMore(EXPLAIN_ECHO),
             Word::NoExplain,
             Word::Schema(SCHEMA),
             Word::Scripts(SCRIPTS),
@@ -155,7 +157,7 @@ fn timeline_command<'a>(alloc: Global, name: &'a str) -> Result<Command<'a>, All
             Word::Moves,
             Word::TurnsOption,
             Word::Svg("Draws as SVG [default: plain text]"),
-            Word::Explain,
+            Word::ExplainMore(EXPLAIN_PICTURE),
             Word::NoExplain,
             Word::Schema(SCHEMA),
             Word::Scripts(SCRIPTS),
@@ -170,7 +172,7 @@ fn page_command<'a>(alloc: Global, name: &'a str) -> Result<Command<'a>, AllocEr
     described(
         alloc,
         name,
-        "Prints a page for a browser, in which one steps through a run: statements, records, sets and what is current",
+        "Prints a page for a browser to step through a run: statements, records, sets and what is current",
         "Example: dbtg page --moves shop.moves shop.schema unit1.script unit2.script > run.html",
         &[
             Word::Capacity,
@@ -225,6 +227,7 @@ fn threads_command<'a>(alloc: Global, name: &'a str) -> Result<Command<'a>, Allo
             Word::Capacity,
             Word::First(FIRST),
             Word::SaveTurns,
+            Word::TraceAlone,
             Word::Explain,
             Word::NoExplain,
             Word::Schema(SCHEMA),
@@ -240,14 +243,14 @@ fn audit_command<'a>(alloc: Global, name: &'a str) -> Result<Command<'a>, AllocE
     described(
         alloc,
         name,
-        "Tells whether the answers of a trace are those of this database, and what it leads to",
+        "Says whether the answers of a trace are those of this database, and what it leads to",
         "Example: dbtg audit --units 2 shop.schema shop.trace",
         &[
             Word::Capacity,
             Word::First(FIRST),
             Word::Units,
             Word::Status,
-            Word::All("Tells every line that differs [default: the first]"),
+            Word::All("Reports every line that differs [default: the first]"),
             Word::Explain,
             Word::NoExplain,
             Word::Schema(SCHEMA),
@@ -271,6 +274,7 @@ fn run_command<'a>(alloc: Global, name: &'a str) -> Result<Command<'a>, AllocErr
             Word::TurnsAlone,
             Word::Last,
             Word::Echo,
+            Word::TraceOption,
             Word::Explain,
             Word::NoExplain,
             Word::Schema(SCHEMA),
@@ -287,13 +291,14 @@ fn explore_command<'a>(alloc: Global, name: &'a str) -> Result<Command<'a>, Allo
         alloc,
         name,
         "Lists all that can come out when programs meet, how they fail, and whether they can go on for ever",
-        "Example: dbtg explore --first load.program shop.schema clerk1.program clerk2.program\nThe turns of a result are those for 'dbtg run' with the same --first and --then; status 4 where a program can fail",
+        "Example: dbtg explore --first load.program shop.schema clerk1.program clerk2.program\nThe turns of a result are those for 'dbtg run' with the same --first and --then; status 4 if a program can fail",
         &[
             Word::Capacity,
             Word::First(FIRST_PROGRAM),
             Word::TurnsBefore,
             Word::Last,
             Word::LimitOfPrograms,
+            Word::Brief,
             Word::Explain,
             Word::NoExplain,
             Word::Schema(SCHEMA),
@@ -311,7 +316,7 @@ fn shell_command<'a>(alloc: Global, name: &'a str) -> Result<Command<'a>, AllocE
         alloc,
         name,
         "Reads statements from standard input, and answers each at once",
-        "Example: dbtg shell shop.schema; .help shows what can be asked there",
+        "Example: dbtg shell shop.schema; .help shows what can be typed there",
         &[Word::Capacity, Word::Units, Word::Schema(schema)],
     )
 }
@@ -410,7 +415,7 @@ fn command_of<'a>(alloc: Global, named: Named, name: &'a str) -> Result<Command<
     }
 }
 
-// The command, which can be asked this too.
+// The command, with this one added to those that it can be asked for.
 fn asked_also<'a>(
     alloc: Global,
     command: Command<'a>,
@@ -427,7 +432,7 @@ fn asked_also<'a>(
     }
 }
 
-/// The command with all that it can be asked.
+/// The command with everything that it can be asked for.
 pub fn command<'a>(alloc: Global) -> Result<Command<'a>, AllocError>
     ensures { IfOk result (λ r. app_of r ≡ program) }
 {

@@ -15,7 +15,7 @@ fn copy_script(alloc: Global, script: &Row<Statement>) -> Result<Row<Statement>,
     Ok(Row::of(copy))
 }
 
-/// Scripts with the same statements.
+/// Copies of scripts, with the same statements.
 pub fn copy_scripts(
     alloc: Global,
     scripts: &[Row<Statement>],

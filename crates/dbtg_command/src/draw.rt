@@ -38,7 +38,7 @@ pub fn draw<S: Source>(alloc: Global, source: &S) -> Result<Vec<u8>, Fault>
     }
 }
 
-/// What `draw` prints of a schema at hand, or its fault.
+/// What `draw` prints of a schema in memory, or its fault.
 pub fn draw_bytes(alloc: Global, schema: &[u8]) -> Result<Vec<u8>, Fault>
     ensures done { IfOk result (λ out. IsDrawing schema.now out.items) }
     ensures refused { IfErr result (λ fault. RefusesSchema fault (schema_refusal schema.now)) }

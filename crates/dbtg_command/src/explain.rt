@@ -45,7 +45,7 @@ pub use row::{field, row_with};
 use statuses::STATUSES;
 use std::alloc::{AllocError, Global};
 
-/// What kind of text has a fault.
+/// The kind of text that has a fault.
 #[derive(Clone, Copy)]
 pub enum Kind {
     Schema,
@@ -140,7 +140,7 @@ fn kind_of(word: &str) -> Option<Kind>
     }
 }
 
-/// What the words behind `explain` ask for. `None` where nothing is said of it.
+/// What the words after `explain` ask for. `None` if there is nothing to explain.
 pub fn topic_of(words: &[&str]) -> Option<Topic>
     ensures { IsAsked (map (λ word. word.now) words.now) result }
 {
@@ -161,7 +161,7 @@ fn fault_field(kind: Kind, fault: u8, number: usize) -> &'static [u8]
     }
 }
 
-/// What a fault's number means.
+/// The meaning of a fault's number.
 pub fn meaning_of(kind: Kind, number: u8) -> &'static [u8]
     ensures { result.now ≡ fault_field kind number 1 }
 {
@@ -175,7 +175,7 @@ pub fn advice_for(kind: Kind, number: u8) -> &'static [u8]
     fault_field(kind, number, 3)
 }
 
-// What a kind of text is called, and the page that lists its faults.
+// The name of a kind of text, and the page that lists its faults.
 fn kind_row(kind: Kind) -> &'static [u8]
     ensures { result.now ≡ kind_row kind }
 {
@@ -246,14 +246,14 @@ fn fault_text(alloc: Global, about: &[u8], fault: &[u8]) -> Result<Vec<u8>, Allo
     Ok(out)
 }
 
-// Puts a line of the list of all: what it is of, its code, and what it means.
+// Appends a line of the list of all: its kind, its code, and its meaning.
 fn push_entry(out: &mut Vec<u8>, name: &[u8], code: &[u8], meaning: &[u8]) -> Result<(), AllocError>
     ensures { OnOk result (out.new.items ≡ out.old.items ++ line_text name.now code.now meaning.now) }
 {
     push_form(out, "0 1: 2\n".as_bytes(), &[name, code, meaning])
 }
 
-// The cause that has the last two digits of a status.
+// The cause with the last two digits of a status.
 fn cause_of(status: &[u8]) -> Option<&'static [u8]>
     ensures { option_map (λ cause. cause.now) result ≡ cause_of status.now }
 {
@@ -318,7 +318,7 @@ fn all_text(alloc: Global) -> Result<Vec<u8>, AllocError>
     Ok(out)
 }
 
-/// What is printed of a topic.
+/// The text that is printed for a topic.
 pub fn explained(alloc: Global, topic: &Topic) -> Result<Vec<u8>, AllocError>
     ensures { IfOk result (λ out. out.items ≡ topic_text topic.now) }
 {

@@ -14,48 +14,48 @@ use thiserror::Error;
 /// Why a command is not carried out. Its text is the line on standard error.
 #[derive(Debug, Drop, Error)]
 pub enum Fault {
-    /// The schema has a fault; this is its first.
+    /// The first fault of the schema.
     #[error("schema fault {} line {line}", .cause.number())]
     Schema {
         line: u64,
         cause: SchemaCause,
     },
-    /// The script of this number, from 1, has a fault; it is the first of the first script that has one.
+    /// The first fault of the script with this number, from 1; no earlier script has a fault.
     #[error("script {number} fault {} line {line}", .cause.number())]
     Script {
         number: usize,
         line: u64,
         cause: ScriptCause,
     },
-    /// The program of this number, from 1, has a fault; it is the first of the first program that has one.
+    /// The first fault of the program with this number, from 1; no earlier program has a fault.
     #[error("program {number} fault {} line {line}", .cause.number())]
     Program {
         number: usize,
         line: u64,
         cause: ProgramCause,
     },
-    /// The moves have a fault; this is their first.
+    /// The first fault of the moves.
     #[error("moves fault {} word {word}", .cause.number())]
     Moves {
         word: u64,
         cause: MovesCause,
     },
-    /// The turns have a fault; this is their first.
+    /// The first fault of the turns.
     #[error("turns fault {} word {word}", .cause.number())]
     Turns {
         word: u64,
         cause: MovesCause,
     },
-    /// The trace has a fault; this is its first.
+    /// The first fault of the trace.
     #[error("trace fault {} line {line}", .cause.number())]
     Trace {
         line: u64,
         cause: TraceCause,
     },
-    /// The moves that the turns stand for are more than a text of moves may have.
+    /// The turns stand for more moves than a text of moves may have.
     #[error("moves over 1000000")]
     MovesOver,
-    /// The orders of the scripts lead to more states than are wanted.
+    /// The orders of the scripts lead to more states than allowed.
     #[error("states over {limit}")]
     StatesOver {
         limit: u64,
@@ -100,7 +100,7 @@ impl Fault {
         }
     }
 
-    /// The fault of the script of this number.
+    /// The fault of the script with this number.
     pub fn of_script(number: usize, fault: ScriptFault) -> Fault
         ensures { result ≡ script_fault number fault }
     {
@@ -116,7 +116,7 @@ impl Fault {
         }
     }
 
-    /// The fault of the program of this number.
+    /// The fault of the program with this number.
     pub fn of_program(number: usize, fault: ProgramFault) -> Fault
         ensures { result ≡ program_fault number fault }
     {
@@ -163,7 +163,7 @@ impl Fault {
     }
 }
 
-/// The exit status: 1 for what is given to read, too many moves and too many states, 2 for a wrong number of scripts, 3 for want of memory.
+/// The exit status: 1 for what is read, too many moves and too many states, 2 for a wrong number of scripts, 3 if memory is refused.
 pub fn status_of(fault: &Fault) -> u8
     ensures { result ≡ status_of fault.now }
 {

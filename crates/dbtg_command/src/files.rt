@@ -1,4 +1,4 @@
-//! Files as the source of the texts. No contract can say what a file has: that is what the reader of files says, and all that is
+//! Files as the source of the texts. No contract can say what a file contains: the reader of files says so, and everything that is
 //! proved here holds for each reader.
 ghost use Rattle.std.specs.Prelude.{◌≡◌, ℕ, List, [], IfErr, IfOk, length, map, slice_get, unwrap_or};
 ghost use Rattle.dbtg_command.specs.Inside.Files.{FileFails, FileHolds, IsUnread, most_of};
@@ -13,7 +13,7 @@ use std::alloc::Global;
 use std::fs::File;
 use std::io::{self, Input, Read};
 
-// A text that has a byte more than its kind may have is refused, whatever follows: so much of a file is read and no more.
+// A text with more bytes than its kind may have is refused, whatever follows, so only one byte more than that is read of a file.
 const SCHEMA_BYTES: u64 = 65_537;
 
 pub const SCRIPT_BYTES: u64 = 1_048_577;
@@ -27,13 +27,13 @@ pub const STANDARD_INPUT: &str = "-";
 
 /// What reads files.
 pub trait FileReader {
-    /// So many bytes of the file with this path, or all where it has fewer, were this text.
+    /// The first bytes of the file with this path, at most this many, were this text.
     ghost has: { Self → List ℕ → ℕ → List ℕ → Type 0 };
 
-    /// So many bytes of the file with this path could not be read.
+    /// The file with this path could not be read, up to this many bytes.
     ghost lacks: { Self → List ℕ → ℕ → Type 0 };
 
-    /// The first bytes of a file, so many where it has them, or the system's reason why it cannot be read.
+    /// The first bytes of a file, at most this many, or the system's reason why it cannot be read.
     fn read(&self, path: &str, most: u64) -> io::Result<Vec<u8>>
         ensures read { IfOk result (λ text. has self.now path.now most text.items) }
         ensures unread { IfErr result (λ _. lacks self.now path.now most) };

@@ -14,7 +14,7 @@ use crate::texts::read_schema;
 use dbtg_schema::Schema;
 use std::alloc::Global;
 
-/// Judges the text of the script, or of the program, of this number.
+/// Judges the text of the script, or of the program, with this number.
 fn judge_text(
     alloc: Global,
     schema: &Schema,
@@ -33,7 +33,7 @@ fn judge_text(
     Ok(())
 }
 
-/// Reads the script, or the program, of this number, and keeps nothing of it.
+/// Reads the script, or the program, with this number, and keeps nothing of it.
 fn judge<S: Source>(
     alloc: Global,
     source: &S,
@@ -49,7 +49,7 @@ fn judge<S: Source>(
     judge_text(alloc, schema, programs, number, text.as_slice())
 }
 
-/// Puts the first fault of the script, or of the program, of this number, if it has one.
+/// Appends the first fault of the script, or of the program, with this number, if it has one.
 fn push_fault<S: Source>(
     alloc: Global,
     faults: &mut Vec<Fault>,
@@ -98,7 +98,7 @@ fn fault_alone(alloc: Global, fault: Fault) -> Result<Vec<Fault>, Fault>
     Ok(faults)
 }
 
-/// The first fault of each text that has one: of the schema alone where that is refused, since no script and no program can be judged
+/// The first fault of each text that has one: only of the schema if that is refused, since no script and no program can be judged
 /// without it.
 pub fn each_fault<S: Source>(alloc: Global, source: &S, programs: bool) -> Result<Vec<Fault>, Fault>
     ensures told { IfOk result (λ faults. TellsEach (S.holds source.now) (S.fails source.now) programs (S.count source.now) faults.items) }

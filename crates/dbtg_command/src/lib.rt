@@ -1,6 +1,6 @@
-//! What the command is given, and what it says of it: its words, the files that they name, the texts in these, faults, and what
-//! faults and statuses mean; with `check` and `draw`, which run nothing. It may read files and standard input, and writes nothing.
-//! Nothing in it knows of steps, runs and threads: it stands beside the crates that have them, not above.
+//! The words of a command and what they ask for: the files that they name, the texts in these files, faults, and the meaning of
+//! faults and statuses; with `check` and `draw`, which run nothing. It may read files and standard input, and writes nothing.
+//! Nothing in it knows of steps, runs and threads: those crates stand beside it, not below.
 #![tactic(auto)]
 
 mod arguments;
@@ -15,6 +15,7 @@ pub mod explain;
 mod fault;
 mod files;
 mod judging;
+mod limits;
 mod order;
 mod place;
 mod reading;
@@ -30,6 +31,7 @@ pub use copies::copy_scripts;
 pub use fault::{Fault, status_of};
 pub use files::{FileReader, Files, Paths};
 pub use judging::each_fault;
+pub use limits::MOST_UNITS;
 pub use order::{Order, OrderKind};
 pub use place::TextPlace;
 pub use reading::{program_of, take_script};

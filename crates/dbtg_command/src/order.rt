@@ -1,9 +1,9 @@
-//! What says in which order the units make their statements.
+//! The text that gives the order in which units make their statements.
 ghost use Rattle.std.specs.Prelude.{◌≡◌};
 ghost use Rattle.dbtg_command.specs.Sources.{kind_of};
 
-/// What says the order: moves say it event by event, turns statement by statement, each as a text or as the path of one; and
-/// nothing says it where one script is made after the other.
+/// The text that gives the order: moves give it event by event, turns statement by statement, each as a text or as the path of one;
+/// without either, one script is made after the other.
 #[derive(Clone, Copy, Drop)]
 pub enum Order<T> {
     Serial,
@@ -11,7 +11,7 @@ pub enum Order<T> {
     Turns(T),
 }
 
-/// An order without what says it.
+/// An order without its text.
 #[derive(Clone, Copy)]
 pub enum OrderKind {
     Serial,
@@ -20,7 +20,7 @@ pub enum OrderKind {
 }
 
 impl<T> Order<T> {
-    /// The order without what says it.
+    /// The order without its text.
     pub fn kind(&self) -> OrderKind
         ensures { result ≡ kind_of self.now }
     {

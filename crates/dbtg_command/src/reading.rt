@@ -36,7 +36,7 @@ pub fn schema_of(alloc: Global, text: &[u8]) -> Result<Schema, Fault>
     }
 }
 
-/// The statements of the script of this number.
+/// The statements of the script with this number.
 pub fn statements_of(
     alloc: Global,
     schema: &Schema,
@@ -54,7 +54,7 @@ pub fn statements_of(
     }
 }
 
-/// Puts the statements of the script of this number behind those of the scripts before it.
+/// Appends the statements of the script with this number to those of the earlier scripts.
 pub fn take_script(
     alloc: Global,
     scripts: &mut Row<Row<Statement>>,
@@ -72,7 +72,7 @@ pub fn take_script(
     Ok(())
 }
 
-/// The program of this number.
+/// The program with this number.
 pub fn program_of(
     alloc: Global,
     schema: &Schema,
@@ -113,7 +113,7 @@ pub fn turns_of(alloc: Global, text: &[u8]) -> Result<Row<u8>, Fault>
     }
 }
 
-/// What a trace says, with so many units.
+/// What a trace says, with this many units.
 pub fn traced_of(
     alloc: Global,
     schema: &Schema,

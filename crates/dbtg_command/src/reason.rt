@@ -24,7 +24,7 @@ fn count_letters(text: &[u8]) -> usize
     text.iter().take_while(|b| b.is_ascii_alphabetic()).count()
 }
 
-/// The first word of a text, as far as it is letters.
+/// The letters with which a text begins.
 fn first_letters(text: &[u8]) -> &[u8]
     ensures { result.now ≡ first_letters text.now }
 {
@@ -103,7 +103,7 @@ fn read_again<F: FileReader>(files: &Files<F>, path: &str) -> Option<Vec<u8>>
     }
 }
 
-/// The text of a script that is read again; it is of no use where the schema cannot be.
+/// The text of a script that is read again; it is of no use if the schema cannot be read.
 fn script_again<F: FileReader>(files: &Files<F>, path: &str) -> Option<Vec<u8>>
     ensures { MatchOption result (IsScriptNotRead (F.lacks files.now.reader.now) files.now.paths.now.schema.now path.now) (λ text. F.has files.now.reader.now path.now 1048577 text.items) }
 {
@@ -113,7 +113,7 @@ fn script_again<F: FileReader>(files: &Files<F>, path: &str) -> Option<Vec<u8>>
     read_again(files, path)
 }
 
-/// What is said of this file as a whole; nothing where it is not read again.
+/// What is said of this file as a whole; nothing if it is not read again.
 fn said_of_file<F: FileReader>(files: &Files<F>, kind: Kind, path: &str) -> &'static str
     ensures { SaysOfFile (F.has files.now.reader.now) (F.lacks files.now.reader.now) kind path.now result.now }
 {
@@ -134,7 +134,7 @@ fn place_of(alloc: Global, path: &str, mark: &str, number: u64) -> Result<Vec<u8
     Ok(out)
 }
 
-/// The place of a fault, and what is said of its word; what the fault means, where nothing is said of a word, or more of the text.
+/// The place of a fault, and what is said of its word; if nothing is said of a word, or something of the text, the fault's meaning.
 fn told_at(
     alloc: Global,
     place: &[u8],
@@ -152,7 +152,7 @@ fn told_at(
     Ok(out)
 }
 
-/// Nothing, where there is no schema; where memory ran out it is not known what is to be said.
+/// Nothing if there is no schema; if memory ran out it is unknown what to say.
 fn nothing_said(alloc: Global, fault: &Fault) -> Result<Vec<u8>, AllocError>
     ensures { IfOk result (λ said. (said.items ≡ []) × (fault.now ≡ Memory → ⊥)) }
 {
@@ -162,7 +162,7 @@ fn nothing_said(alloc: Global, fault: &Fault) -> Result<Vec<u8>, AllocError>
     }
 }
 
-/// Would the line have the fault of this number in a script?
+/// Would the line have the fault with this number in a script?
 fn has_script_fault(
     alloc: Global,
     schema: &Schema,
@@ -178,7 +178,7 @@ fn has_script_fault(
     }
 }
 
-/// The same of a line of a program: a script's reader knows no fields, and may find another fault in it.
+/// The same for a line of a program: a script's reader knows no fields, and may find another fault in it.
 fn said_in_program(
     alloc: Global,
     schema: &Schema,
@@ -231,7 +231,7 @@ fn said_in_line<F: FileReader>(
     }
 }
 
-/// What is said of the word of a script or a program that is at fault; nothing where no single word is, or a file is not read again.
+/// What is said of the word of a script or a program that is at fault; nothing if no single word is, or a file is not read again.
 fn said_in_script<F: FileReader>(
     alloc: Global,
     files: &Files<F>,
@@ -248,7 +248,7 @@ fn said_in_script<F: FileReader>(
     }
 }
 
-/// What there is to say of a fault of a script.
+/// The second line for a fault of a script.
 fn script_reason<F: FileReader>(
     alloc: Global,
     files: &Files<F>,
@@ -265,7 +265,7 @@ fn script_reason<F: FileReader>(
     told_at(alloc, place.as_slice(), said.as_slice(), meaning, other)
 }
 
-/// What is said of the word of the schema that is at fault; nothing where no single word is, or the file is not read again.
+/// What is said of the word of the schema that is at fault; nothing if no single word is, or the file is not read again.
 fn said_in_schema<F: FileReader>(
     alloc: Global,
     files: &Files<F>,
@@ -280,7 +280,7 @@ fn said_in_schema<F: FileReader>(
     }
 }
 
-/// What there is to say of the fault of the schema.
+/// The second line for the fault of the schema.
 fn schema_reason<F: FileReader>(
     alloc: Global,
     files: &Files<F>,
@@ -297,7 +297,7 @@ fn schema_reason<F: FileReader>(
     told_at(alloc, place.as_slice(), said.as_slice(), meaning, other)
 }
 
-/// What there is to say of a fault of the moves or turns.
+/// The second line for a fault of the moves or turns.
 fn order_reason(
     alloc: Global,
     path: &str,
@@ -311,7 +311,7 @@ fn order_reason(
     told_at(alloc, place.as_slice(), &[], meaning_of(kind, number), "")
 }
 
-/// The kind of text that has a fault of this number: programs and traces have those of scripts too.
+/// The kind of text with a fault with this number: programs and traces also have those of scripts.
 fn kind_with(number: u8) -> Kind
     ensures { result ≡ kind_with number }
 {
@@ -324,7 +324,7 @@ fn kind_with(number: u8) -> Kind
     }
 }
 
-/// What there is to say of a fault of a program.
+/// The second line for a fault of a program.
 fn program_reason<F: FileReader>(
     alloc: Global,
     files: &Files<F>,
@@ -340,7 +340,7 @@ fn program_reason<F: FileReader>(
     told_at(alloc, place.as_slice(), said.as_slice(), meaning, "")
 }
 
-/// What there is to say of a fault of a trace.
+/// The second line for a fault of a trace.
 fn trace_reason(alloc: Global, path: &str, line: u64, number: u8) -> Result<Vec<u8>, AllocError>
     ensures { IfOk result (λ out. IsToldOfTrace path.now line number out.items) }
 {
@@ -371,7 +371,7 @@ fn script_path<'a>(paths: &Paths<'a>, number: usize) -> &'a str
     }
 }
 
-/// What the second line of a fault says, where it has one.
+/// The second line of a fault, if it has one.
 fn told_of<F: FileReader>(
     alloc: Global,
     files: &Files<F>,
@@ -422,7 +422,7 @@ fn told_of<F: FileReader>(
     }
 }
 
-/// The second line of a fault, where there is one. To say it the files are read again.
+/// The second line of a fault, if there is one. The files are read again for it.
 pub fn reason<F: FileReader>(
     alloc: Global,
     files: &Files<F>,

@@ -1,4 +1,4 @@
-//! Where the texts come from that a command is given: bytes at hand, or files. A command reads through it alone.
+//! Where the texts given to a command come from: bytes in memory, or files. A command reads only through it.
 ghost use Rattle.std.specs.Prelude.{◌≡◌, ℕ, List, IfErr, IfOk};
 ghost use Rattle.dbtg_command.specs.Sources.{HasPlace};
 ghost use Rattle.dbtg_command.specs.declared.fault.Fault.{Fault};
@@ -15,24 +15,24 @@ pub trait Source {
     /// How many scripts there are.
     ghost count: { Self → ℕ };
 
-    /// What says the order.
+    /// The text that gives the order.
     ghost order: { Self → OrderKind };
 
     /// The source has this text in this place.
     ghost holds: { Self → TextPlace → List ℕ → Type 0 };
 
-    /// The source cannot give the text in this place, and tells this fault.
+    /// The source cannot give the text in this place, and reports this fault.
     ghost fails: { Self → TextPlace → Fault → Type 0 };
 
     /// How many scripts there are.
     fn count(&self) -> usize
         ensures { result ≡ count self.now };
 
-    /// What says the order.
+    /// The text that gives the order.
     fn order(&self) -> OrderKind
         ensures { result ≡ order self.now };
 
-    /// The text in a place, as far as its kind may be long.
+    /// The text in a place, up to the length that its kind may have.
     fn read(&self, alloc: Global, place: TextPlace) -> Result<Vec<u8>, Fault>
         requires { HasPlace (count self.now) (order self.now) place }
         ensures held { IfOk result (λ text. holds self.now place text.items) }

@@ -47,7 +47,7 @@ pub fn read_turns<S: Source>(alloc: Global, source: &S) -> Result<Row<u8>, Fault
     turns_of(alloc, text.as_slice())
 }
 
-/// The trace of the text in the trace's place, with so many units, or its fault.
+/// The trace of the text in the trace's place, with this many units, or its fault.
 pub fn read_trace<S: Source>(
     alloc: Global,
     source: &S,

@@ -1,19 +1,17 @@
-//! What is wished of the status of a statement, as the command's words say it.
+//! A wish for the status of a statement, as the command's words say it.
 ghost use Rattle.std.specs.Prelude.{◌≡◌, ◌≤◌, IfSome};
 ghost use Rattle.dbtg_command.specs.Wishing.{status_in, wish_in};
 
 use crate::capacity::count_in_digits;
 use crate::explain::number_in;
+use crate::limits::MOST_UNITS;
 use dbtg_script::{behind, in_front};
+use dbtg_unit::MOST_STATEMENTS;
 
-// How many units there are at most, how many statements a script has at most, and the greatest status.
-const MOST_UNITS: u64 = 8;
-
-const MOST_STATEMENTS: u64 = 65_535;
-
+// The greatest status.
 const GREATEST_STATUS: u16 = 9_999;
 
-/// What is wished of a statement, by its unit and its place in the unit's script, both from 1: that it never has this status, or
+/// A wish for a statement, named by its unit and its place in the unit's script, both from 1: that it never has this status, or
 /// always.
 #[derive(Clone, Copy)]
 pub struct Wished {
@@ -38,12 +36,12 @@ fn status_of_word(word: &str) -> Option<u16>
 /// The wish that two words say: unit and place with a period between them, and a status.
 pub fn wish_of(never: bool, place: &str, status: &str) -> Option<Wished>
     ensures wish { result ≡ wish_in never place.now status.now }
-    ensures within { IfSome result (λ wish. wish.unit ≤ 8) }
-    ensures few { IfSome result (λ wish. wish.place ≤ 65535) }
+    ensures within { IfSome result (λ wish. wish.unit ≤ MOST_UNITS) }
+    ensures few { IfSome result (λ wish. wish.place ≤ MOST_STATEMENTS) }
 {
     let word = place.as_bytes();
-    let unit = count_in_digits(in_front(word, b'.'), MOST_UNITS)?;
-    let place = count_in_digits(behind(word, b'.'), MOST_STATEMENTS)?;
+    let unit = count_in_digits(in_front(word, b'.'), MOST_UNITS as u64)?;
+    let place = count_in_digits(behind(word, b'.'), MOST_STATEMENTS as u64)?;
     let status = status_of_word(status)?;
     Some(Wished {
         never,

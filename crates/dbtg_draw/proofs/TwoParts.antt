@@ -1,4 +1,4 @@
--- Two texts, pushed one behind the other.
+-- Two texts, pushed one after the other.
 use Rattle.std.proofs.Common.{◌≡◌, ℕ, List, ◌++◌, ap, ◌∙◌}
 use Rattle.std.proofs.lemmas.List.{append_assoc}
 

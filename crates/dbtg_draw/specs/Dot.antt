@@ -77,7 +77,7 @@ legend_text schema = title_text schema.name (length schema.areas) ++ area_cells 
 unfoldable pub left_line : List ℕ → List ℕ
 left_line line = line ++ codes "\\l"
 
--- the location mode, nothing where it is not CALC
+-- the location mode, nothing if it is not CALC
 abbrev pub location_text : List Item → Option Calc → List ℕ
 location_text items None = []
 location_text items (Some c) = left_line (calc_text items c)

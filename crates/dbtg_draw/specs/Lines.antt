@@ -1,4 +1,4 @@
--- The words that a diagram shows: of a record type, and of the arrow to a member.
+-- The words that a diagram shows: for a record type, and for the arrow to a member.
 use Rattle.std.specs.Prelude.{ℕ, Bool, true, false, List, [], ◌∷◌, ◌++◌, Option, Some, None, option_map, unwrap_or, slice_get, decimal, codes}
 use Rattle.std.specs.List.{flat_map}
 use Rattle.dbtg_schema.specs.Lists.{Lists}
@@ -16,7 +16,7 @@ use Rattle.dbtg_schema.specs.declared.shape.Picture.{Picture}
 use Rattle.dbtg_schema.specs.declared.shape.Picture.TheVariants.{Number, Text}
 use Rattle.dbtg_schema.specs.declared.shape.SetType.{SetType}
 
--- ---- names by their numbers, empty where there is none
+-- ---- names by their numbers, empty if there is none
 
 -- the name of area a
 abbrev pub area_name : Lists → ℕ → List ℕ
@@ -41,7 +41,7 @@ picture_text (Text n) = codes "X(" ++ decimal n ++ codes ")"
 abbrev pub item_text : Item → List ℕ
 item_text i = i.name ++ 32 ∷ picture_text i.picture
 
--- the name of an item behind another
+-- the name of an item, after another item
 abbrev pub further_item : List Item → ℕ → List ℕ
 further_item items i = codes ", " ++ item_name items i
 

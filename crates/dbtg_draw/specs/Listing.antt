@@ -10,7 +10,7 @@ use Rattle.dbtg_schema.specs.declared.shape.RecordType.{RecordType}
 use Rattle.dbtg_schema.specs.declared.shape.SetType.{SetType}
 use Rattle.dbtg_draw.specs.Lines.{area_name, calc_text, class_text, item_text, order_text, type_name}
 
--- a name behind a word
+-- a name after a word
 abbrev pub named_line : List ℕ → List ℕ → List ℕ
 named_line word name = word ++ name ++ 10 ∷ []
 
@@ -18,7 +18,7 @@ named_line word name = word ++ name ++ 10 ∷ []
 abbrev pub area_line : Area → List ℕ
 area_line a = named_line (codes "AREA ") a.name
 
--- what stands behind another
+-- what follows another
 abbrev pub behind_comma : List ℕ → List ℕ
 behind_comma text = codes ", " ++ text
 

@@ -1,4 +1,4 @@
-//! The words that a diagram shows: of a record type, and of the arrow to a member.
+//! The words that a diagram shows: for a record type, and for the arrow to a member.
 
 ghost use Rattle.dbtg_draw.specs.Lines.{allowed_text, area_name, calc_text, class_text, direction_text, duplicates_text, further_item, item_name, item_names, item_text, key_name, key_text, member_text, order_text, picture_text, type_name};
 ghost use Rattle.std.specs.List.{flat_map};

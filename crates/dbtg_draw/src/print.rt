@@ -1,4 +1,4 @@
-//! Texts and numbers, pushed behind a text.
+//! Texts and numbers, appended to a text.
 
 ghost use Rattle.std.specs.Prelude.{◌≡◌, ◌++◌, OnOk, decimal};
 

@@ -1,7 +1,7 @@
 -- Worked rows: the hint for a line that the shell cannot read.
 use Rattle.std.proofs.Common.{◌≡◌, [], refl}
 use Rattle.std.specs.Prelude.{codes}
-use Rattle.dbtg_shell.specs.Sessions.{hint_for}
+use Rattle.dbtg_shell.specs.Replies.{hint_for}
 
 to_quit : hint_for (codes "exit") ≡ codes "; .quit ends the shell"
 to_quit = refl

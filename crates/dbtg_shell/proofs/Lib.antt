@@ -1,4 +1,5 @@
 mod Hints
+mod Rows
 mod SessionSteps
 mod SessionTurns
 mod ShellReplies

@@ -27,7 +27,7 @@ use Rattle.dbtg_shell.specs.declared.session.Script.{Script}
 pub few_units : (n : ℕ) → is_count n ≡ true → n ≤ 8
 few_units n h = leb-true n 8 (and_parts (nat_le 1 n) (nat_le n 8) h).1
 
--- what stands in front of a line is left when the line is dropped
+-- what stands before a line is left when the line is dropped
 pub front_again : (text line : List ℕ) → take (length text) (text ++ line ++ 10 ∷ []) ≡ text
 front_again [] line = refl
 front_again (b ∷ bs) line = ap (λ (text : List ℕ). b ∷ text) (front_again bs line)

@@ -1,19 +1,22 @@
 -- What is told of a line.
-use Rattle.std.proofs.Common.{◌≡◌, ℕ, true, ◌+◌, ◌-◌, List, [], ◌∷◌, ◌++◌, length, Some, slice_get, inl, inr, ap, sym, ◌∙◌, subst, arith, length-append, IfOk, Result, Ok, Err, None}
-use Rattle.std.specs.Prelude.{OnErr, codes, if◌then◌else◌}
+use Rattle.std.proofs.Common.{◌≡◌, ℕ, true, false, Option, ◌+◌, ◌-◌, List, [], ◌∷◌, ◌++◌, length, Some, slice_get, inl, inr, ap, sym, ◌∙◌, subst, arith, length-append, IfOk, Result, Ok, Err, None}
+use Rattle.std.specs.Prelude.{◌==◌, ◌&&◌, OnErr, codes, if◌then◌else◌}
 use Rattle.std.specs.Str.{bytes_eq}
 use Rattle.std.proofs.lemmas.Bool.{and_parts}
 use Rattle.std.proofs.lemmas.Slice.Eq.{bytes_eq-Decides}
 use Rattle.dbtg_schema.specs.Lists.{Lists}
 use Rattle.std.proofs.lemmas.Option.{none-some}
 use Rattle.dbtg_cells.proofs.Public.{get_behind}
-use Rattle.dbtg_step.specs.Core.Whole.{state_now}
+use Rattle.dbtg_step.specs.Core.Whole.{Making, state_now}
+use Rattle.dbtg_draw.specs.Listing.{schema_lines}
 use Rattle.dbtg_refusal.specs.Said.{said_in}
 use Rattle.dbtg_unit.specs.declared.unit.Entry.{Entry}
 use Rattle.dbtg_script.specs.Printing.Spelling.{behind, in_front}
+use Rattle.dbtg_script.specs.Printing.Texts.{units_text}
 use Rattle.dbtg_script.specs.declared.fault.Cause.{Cause}
-use Rattle.dbtg_shell.specs.Asking.{asked_of, asks_undo, behind_spaces, turn_after, turn_behind, turn_given}
-use Rattle.dbtg_shell.specs.Sessions.{Answers, IsFaultText, IsLastAnswer, IsLastSaid, IsNoUnit, IsText, IsUnmade, RefusesLine, TakesAsked, TakesLine, Typed, answer_reply, no_unit_text}
+use Rattle.dbtg_shell.specs.Asking.{asked_of, asks_undo, behind_spaces, is_unit, turn_after, turn_behind, turn_given}
+use Rattle.dbtg_shell.specs.Replies.{IsFaultText, answer_reply, database_text, no_unit_text, shown_by, unit_shown}
+use Rattle.dbtg_shell.specs.Sessions.{Answers, IsLastAnswer, IsLastSaid, IsText, IsUnmade, Prints, RefusesLine, TakesAsked, TakesLine, Typed}
 use Rattle.dbtg_shell.specs.declared.asked.Asked.{Asked}
 use Rattle.dbtg_shell.specs.declared.commands.Reply.{Reply}
 use Rattle.dbtg_shell.specs.declared.commands.Reply.TheVariants as reply
@@ -70,7 +73,18 @@ undo_keeps_turn units turn command asks =
     let word : in_front 32 command ≡ codes "undo" = (bytes_eq-Decides (in_front 32 command) (codes "undo")).0 (and_parts _ _ asks).0 in
     ap (λ (w : List ℕ). if bytes_eq w (codes "unit") then turn_given units turn (behind_spaces (behind 32 command)) else turn) word
 
--- a line comes to nothing where there is no such unit, and where it has a fault
+-- and shows nothing
+pub undo_shows : {E : Type 0} (m : Making) (turn : ℕ) (command : List ℕ) (told : Result Reply E) → asks_undo command ≡ true → IfOk told (Prints (shown_by m turn command))
+undo_shows m turn command told asks =
+    let word : in_front 32 command ≡ codes "undo" = (bytes_eq-Decides (in_front 32 command) (codes "undo")).0 (and_parts _ _ asks).0 in
+    let rest : List ℕ = behind_spaces (behind 32 command) in
+    let none : shown_by m turn command ≡ None = ap (λ (w : List ℕ). if bytes_eq w (codes "unit") then unit_shown m turn rest
+    else (if bytes_eq w (codes "units") && (length rest == 0) then Some (units_text m.schema (state_now m).units)
+    else (if bytes_eq w (codes "schema") && (length rest == 0) then Some (schema_lines m.schema)
+    else (if bytes_eq w (codes "database") && (length rest == 0) then Some (database_text m) else None)))) word in
+    subst (λ (text : Option (List ℕ)). IfOk told (Prints text)) (sym none) (if_ok told (Unit {0}) tt)
+
+-- a line comes to nothing if there is no such unit, and where it has a fault
 module _ {E : Type 0} (u : ℕ) (old new : Typed) (line : List ℕ) (result : Result Reply E) (same : new ≡ old) where
   unmade : (A : List ℕ → Type 0) → ((out : List ℕ) → A out → IsUnmade old u line out) → IfOk result (IsText A) → TakesLine u old line result new
   unmade A f told = taken result told
@@ -79,7 +93,7 @@ module _ {E : Type 0} (u : ℕ) (old new : Typed) (line : List ℕ) (result : Re
       taken (Ok it) h = inr (same, is_text A (IsUnmade old u line) it f h)
       taken (Err e) h = same
 
-  pub without_unit : IsNoUnit old.making.units u → IfOk result (IsText (λ out. out ≡ no_unit_text old.making.units)) → TakesLine u old line result new
+  pub without_unit : is_unit old.making.units u ≡ false → IfOk result (IsText (λ out. out ≡ no_unit_text old.making.units)) → TakesLine u old line result new
   without_unit none told = unmade (λ out. out ≡ no_unit_text old.making.units) (λ out h. inl (none, h)) told
 
   pub with_fault : (cause : Cause) → RefusesLine (Fault cause) old u line → IfOk result (IsText (IsFaultText old.making.schema line cause)) → TakesLine u old line result new

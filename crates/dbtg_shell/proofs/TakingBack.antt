@@ -1,27 +1,26 @@
 -- The last statement of a session taken back.
-use Rattle.std.proofs.Common.{◌≡◌, ℕ, zero, suc, ◌+◌, ◌-◌, ◌<◌, ◌≤◌, true, List, [], ◌∷◌, ◌++◌, drop, length, map, reverse, take, None, Some, Option, slice_get, slice_set, inl, inr, refl, sym, ap, ◌∙◌, subst, arith, length-append, append-nil, ◌&&◌}
+use Rattle.std.proofs.Common.{◌≡◌, ℕ, zero, suc, ◌+◌, ◌-◌, ◌<◌, ◌≤◌, true, List, [], ◌∷◌, ◌++◌, drop, length, reverse, take, None, Some, Option, slice_get, slice_set, inl, inr, refl, sym, ap, ◌∙◌, subst, arith, length-append}
 use Rattle.std.specs.Prelude.{option_map, unwrap_or}
-use Rattle.std.specs.List.{list_all, range_with_len}
+use Rattle.std.specs.List.{list_all}
 use Rattle.std.proofs.lemmas.Bool.{and_parts}
 use Rattle.std.proofs.lemmas.List.Folds.{list_all-append}
-use Rattle.std.proofs.lemmas.List.{append_assoc, length-map, length-reverse, length-set, reverse-append, reverse-reverse}
+use Rattle.std.proofs.lemmas.List.{append_assoc, length-reverse, length-set, reverse-append, reverse-reverse}
 use Rattle.std.proofs.lemmas.Option.{slice_get-map}
 use Rattle.dbtg_schema.specs.Lists.{Lists}
 use Rattle.dbtg_cells.proofs.Public.{get_behind}
-use Rattle.dbtg_unit.specs.Database.Laws.Replay.{AnswersHold, IsHistoryOf, State, TicketsInOrder, after_entry, after_outcome, answer_to, entries_of, opening_state, outcome_of, replay}
+use Rattle.dbtg_unit.specs.Database.Laws.Replay.{AnswersHold, IsHistoryOf, State, after_entry, after_outcome, answer_to, entries_of, opening_state, outcome_of, replay}
 use Rattle.dbtg_unit.specs.Database.Statements.Effect.{Outcome, effect}
 use Rattle.dbtg_unit.specs.Database.Statements.Fits.{fits}
 use Rattle.dbtg_unit.specs.declared.unit.Answer.{Answer}
 use Rattle.dbtg_unit.specs.declared.unit.Entry.{Entry}
 use Rattle.dbtg_unit.specs.declared.unit.Unit.{Unit}
-use Rattle.dbtg_unit.specs.declared.statement.Statement.{Statement}
 use Rattle.dbtg_unit.proofs.Public.{answers_behind, entries_mine, entries_other, opening_length, replays_one_more, slice_get_range}
 use Rattle.dbtg_step.specs.Core.Whole.{HasMade, Making, state_now}
 use Rattle.dbtg_step.proofs.Public.{found_of}
 use Rattle.dbtg_script.specs.Lines.{trimmed}
 use Rattle.dbtg_script.specs.Statements.{line_statement}
-use Rattle.dbtg_shell.specs.Inside.Sessions.{BeginsHistory, HasGrown, IsLastLine, IsOwnScript, IsScriptOf, IsSession}
-use Rattle.dbtg_shell.specs.Sessions.{HasTyped, Typed, text_of}
+use Rattle.dbtg_shell.specs.Inside.Sessions.{BeginsHistory, HasGrown, IsOwnScript, IsScriptOf, IsSession}
+use Rattle.dbtg_shell.specs.Sessions.{HasTyped, text_of}
 use Rattle.dbtg_shell.specs.declared.session.Script.{Script}
 use Rattle.dbtg_shell.proofs.SessionSteps.{texts_in, texts_set, typed}
 
@@ -56,7 +55,7 @@ unit_there schema capacity state entry e = by entry.unit e
 same_number : (a b : ℕ) → Some a ≡ Some b → a ≡ b
 same_number a b e = cc (e)
 
--- what an entry of a history is, behind these
+-- what an entry of a history is, after these
 pub record Stands (schema : Lists) (capacity units : ℕ) (past : List Entry) (entry : Entry) : Type 0 where
   pub ticket : entry.ticket ≡ length past
   pub low : 0 < entry.unit

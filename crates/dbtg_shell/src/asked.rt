@@ -1,11 +1,10 @@
 //! What a line of the shell asks for.
 ghost use Rattle.std.specs.Prelude.{◌≡◌};
-ghost use Rattle.dbtg_shell.specs.Asking.{asked_of, asks_undo, behind_spaces};
-ghost use Rattle.dbtg_shell.specs.Inside.Asking.{names_unit};
+ghost use Rattle.dbtg_shell.specs.Asking.{asked_of, asks, asks_undo, behind_spaces, names_unit};
 
 use dbtg_script::{behind, in_front, is_number, number};
 
-/// A command, a statement of the unit whose turn it is, or one of the unit that the line names.
+/// A command, a statement of the unit that has the turn, or a statement of the unit that the line names.
 #[derive(Clone, Copy)]
 pub enum Asked<'a> {
     Command(&'a [u8]),
@@ -13,7 +12,7 @@ pub enum Asked<'a> {
     StatementOf { unit: u64, line: &'a [u8] },
 }
 
-/// What stands behind the spaces in front.
+/// The line without leading spaces.
 pub fn behind_spaces(line: &[u8]) -> &[u8]
     ensures { result.now ≡ behind_spaces line.now }
 {
@@ -32,11 +31,18 @@ fn names_unit(line: &[u8]) -> bool
     is_number(front) && front.len() < line.len()
 }
 
-/// Is this, behind its period, the command that takes a statement back?
+/// Is the command this name, followed by nothing but spaces?
+pub fn asks(name: &[u8], command: &[u8]) -> bool
+    ensures { result ≡ asks name.now command.now }
+{
+    in_front(command, b' ') == name && behind_spaces(behind(command, b' ')).is_empty()
+}
+
+/// Does the command take the last statement back?
 pub fn asks_undo(command: &[u8]) -> bool
     ensures { result ≡ asks_undo command.now }
 {
-    in_front(command, b' ') == b"undo".as_slice() && behind_spaces(behind(command, b' ')).is_empty()
+    asks(b"undo", command)
 }
 
 /// What a line asks for.

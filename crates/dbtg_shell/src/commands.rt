@@ -1,10 +1,11 @@
-//! The commands of the shell, and what each line comes to.
-ghost use Rattle.std.specs.Prelude.{◌≡◌, ◌≤◌, ◌<◌, [], IfNone, IfOk, IfSome, OnErr};
+//! The commands of the shell, and what each line does.
+ghost use Rattle.std.specs.Prelude.{◌≡◌, ◌≤◌, ◌<◌, [], IfNone, IfOk, IfSome, OnErr, is_some};
 ghost use Rattle.dbtg_script.specs.declared.fault.Cause.TheVariants.{LineNotAllowed};
-ghost use Rattle.dbtg_shell.specs.Asking.{asks_undo, bare_command, turn_behind, turn_given};
-ghost use Rattle.dbtg_shell.specs.Sessions.{Answers, IsFaultText, IsLastAnswer, IsNoUnit, IsText, MayBeText, TakesBack, TakesCommand, TakesLine, no_unit_text};
+ghost use Rattle.dbtg_shell.specs.Asking.{asks_undo, bare_command, is_unit, means_unit, turn_behind, turn_given};
+ghost use Rattle.dbtg_shell.specs.Replies.{IsFaultText, listed_by, no_unit_text, shown_by, unit_shown};
+ghost use Rattle.dbtg_shell.specs.Sessions.{Answers, IsLastAnswer, IsText, MayBeText, Prints, TakesBack, TakesCommand, TakesLine};
 
-use crate::asked::{Asked, asks_undo, behind_spaces, read_asked};
+use crate::asked::{Asked, asks, asks_undo, behind_spaces, read_asked};
 use crate::replies::{
     database_reply, fault_reply, no_unit_reply, push_answer_reply, schema_reply, undone_reply,
     unit_reply, units_reply, with_here,
@@ -18,7 +19,7 @@ use std::alloc::{AllocError, Global};
 #[derive(Drop)]
 pub enum Reply<'a> {
     Text(Vec<u8>),
-    /// A statement is made, and its answer is longer than the room that was found for it.
+    /// A statement is made, but its answer is longer than the room that was found for it.
     Untold,
     Save(&'a str),
     Load(&'a str),
@@ -83,7 +84,7 @@ fn words_of<'a>(alloc: Global, text: &'a str) -> Result<Vec<&'a str>, AllocError
     Ok(words)
 }
 
-// The first word of a command, and what stands behind it without the spaces around.
+// The first word of a command, and what follows it, without the spaces around it.
 fn command_of(text: &str) -> (&str, &str) {
     let text = text.trim();
     match text.split_once(' ') {
@@ -129,7 +130,7 @@ impl<'a> Shell<'a> {
         Ok(Reply::Text(Vec::from_slice(self.alloc, text.as_bytes())?))
     }
 
-    /// Answers a line, and says whose turn it is then. Without memory the session and the turn stay as they were.
+    /// Carries out a line. Without memory the session and the turn stay as they were.
     pub fn take_line<'b>(&mut self, line: &'b [u8]) -> Result<Reply<'b>, AllocError>
         ensures { Answers line.now self.old.turn self.old.session result self.new.turn self.new.session }
     {
@@ -140,7 +141,7 @@ impl<'a> Shell<'a> {
         }
     }
 
-    /// What a line comes to that is longer than any line may be.
+    /// The reply to a line that is longer than any line may be.
     pub fn take_long_line<'b>(&mut self) -> Result<Reply<'b>, AllocError>
         ensures unchanged { self.new.session ≡ self.old.session }
         ensures turn { self.new.turn ≡ self.old.turn }
@@ -149,12 +150,12 @@ impl<'a> Shell<'a> {
         self.tell_fault(b"", Cause::LineNotAllowed)
     }
 
-    // The unit of this number, if there is one.
+    // The unit with this number, if there is one.
     fn unit_of(&self, number: u64) -> Option<u8>
         ensures named { IfSome result (λ unit. unit ≡ number) }
         ensures low { IfSome result (λ unit. 0 < unit) }
         ensures high { IfSome result (λ unit. unit ≤ self.now.session.making.units) }
-        ensures missing { IfNone result (IsNoUnit self.now.session.making.units number) }
+        ensures found { is_some result ≡ is_unit self.now.session.making.units number }
     {
         let count = self.session.units().len() as u64;
         if number == 0 || count < number {
@@ -206,7 +207,7 @@ impl<'a> Shell<'a> {
         }
     }
 
-    // The answer of the statement that was made last, in the room for it.
+    // The answer of the last statement, in the room for it.
     fn tell_last<'b>(&mut self, room: Vec<u8>) -> Reply<'b>
         requires { room.items ≡ [] }
         ensures unchanged { self.new.session ≡ self.old.session }
@@ -236,10 +237,11 @@ impl<'a> Shell<'a> {
         Ok(Reply::Text(told))
     }
 
-    // A command: `.unit` changes the turn, `.undo` what was made, and no other anything.
-    #[tactic(auto, using(crate::proofs::ShellReplies::undo_keeps_turn))]
+    // A command: `.unit` changes the turn, `.undo` the session, and no other anything.
+    #[tactic(auto, using(crate::proofs::ShellReplies::undo_keeps_turn, crate::proofs::ShellReplies::undo_shows))]
     fn carry_out<'b>(&mut self, command: &'b [u8]) -> Result<Reply<'b>, AllocError>
         ensures done { TakesCommand (asks_undo (bare_command command.now)) self.old.session result self.new.session }
+        ensures shown { IfOk result (Prints (shown_by self.old.session.making self.old.turn (bare_command command.now))) }
         ensures turn { IfOk result (λ _. self.new.turn ≡ turn_behind self.old.session.making.units self.old.turn (bare_command command.now)) }
         ensures kept { OnErr result (self.new.turn ≡ self.old.turn) }
     {
@@ -250,24 +252,32 @@ impl<'a> Shell<'a> {
         if in_front(command, b' ') == b"unit".as_slice() {
             return self.give_turn(behind_spaces(behind(command, b' ')));
         }
+        self.show(command)
+    }
+
+    // A command that changes neither the session nor the turn.
+    fn show<'b>(&self, command: &'b [u8]) -> Result<Reply<'b>, AllocError>
+        ensures { IfOk result (Prints (listed_by self.now.session.making command.now)) }
+    {
+        if asks(b"units", command) {
+            return Ok(Reply::Text(units_reply(self.alloc, &self.session)?));
+        }
+        if asks(b"schema", command) {
+            return Ok(Reply::Text(schema_reply(self.alloc, &self.session)?));
+        }
+        if asks(b"database", command) {
+            return Ok(Reply::Text(database_reply(self.alloc, &self.session)?));
+        }
         match str::from_utf8(command) {
-            Ok(command) => self.show(command),
+            Ok(command) => self.reply_to(command),
             Err(_) => self.text(NO_COMMAND),
         }
     }
 
-    fn show<'b>(&self, command: &'b str) -> Result<Reply<'b>, AllocError> {
+    // A command that shows nothing of the session, or only what was told last.
+    fn reply_to<'b>(&self, command: &'b str) -> Result<Reply<'b>, AllocError> {
         let (name, rest) = command_of(command);
         match name.as_bytes() {
-            b"database" if rest.is_empty() => {
-                Ok(Reply::Text(database_reply(self.alloc, &self.session)?))
-            }
-            b"units" if rest.is_empty() => {
-                Ok(Reply::Text(units_reply(self.alloc, &self.session)?))
-            }
-            b"schema" if rest.is_empty() => {
-                Ok(Reply::Text(schema_reply(self.alloc, &self.session)?))
-            }
             b"explain" => self.explain(rest),
             b"load" if rest.is_empty() => self.text(NO_FILE),
             b"load" => Ok(Reply::Load(rest)),
@@ -285,6 +295,7 @@ impl<'a> Shell<'a> {
         ensures high { IfSome result (λ unit. unit ≤ self.now.session.making.units) }
         ensures named { IfSome result (λ unit. unit ≡ turn_given self.now.session.making.units self.now.turn rest.now) }
         ensures missing { IfNone result (turn_given self.now.session.making.units self.now.turn rest.now ≡ self.now.turn) }
+        ensures found { is_some result ≡ means_unit self.now.session.making.units self.now.turn rest.now }
     {
         let digits = in_front(rest, b' ');
         if rest.is_empty() {
@@ -299,6 +310,7 @@ impl<'a> Shell<'a> {
     // Gives the turn to the unit that is named, if there is one.
     fn give_turn<'b>(&mut self, rest: &[u8]) -> Result<Reply<'b>, AllocError>
         ensures unchanged { self.new.session ≡ self.old.session }
+        ensures shown { IfOk result (Prints (unit_shown self.old.session.making self.old.turn rest.now)) }
         ensures turn { IfOk result (λ _. self.new.turn ≡ turn_given self.old.session.making.units self.old.turn rest.now) }
         ensures kept { OnErr result (self.new.turn ≡ self.old.turn) }
     {

@@ -1,4 +1,4 @@
-//! The dialogue of the shell: lines come from standard input, and what each comes to goes to standard output at once.
+//! The dialogue of the shell: lines come from standard input, and the reply to each goes to standard output at once.
 
 use crate::commands::{Reply, Shell};
 use crate::saved::{first_there, save};
@@ -73,7 +73,7 @@ fn write_prompt(rt: &HostRuntime, prompts: bool, turn: u8) -> Result<(), Broken>
     write(rt, &[b'0' + turn % 10, b'>', b' '])
 }
 
-// Ends the line of the prompt behind which nothing was typed.
+// Ends the line of the prompt after which nothing was typed.
 fn write_end(rt: &HostRuntime, prompts: bool) -> Result<(), Broken> {
     if !prompts {
         return Ok(());
@@ -126,7 +126,7 @@ fn write_reply(
     }
 }
 
-// What a line comes to.
+// What a line does.
 fn reply_to<'b>(
     shell: &mut Shell<'_>,
     kept: Kept,
@@ -258,7 +258,7 @@ fn answer_input(rt: &HostRuntime, shell: &mut Shell<'_>, call: &Call<'_>) -> Res
 }
 
 /// Answers the lines of standard input, one after another, up to its end or `.quit`. A terminal is shown whose turn it is. The session
-/// is lent to what has several ways out, since each of them would have to drop it.
+/// is borrowed where there are several ways out, since each of them would have to drop it.
 pub fn converse(rt: &HostRuntime, session: Session<'_>, call: &Call<'_>) -> Result<(), Broken> {
     let mut shell = Shell::new(rt.alloc(), session);
     let ended = answer_input(rt, &mut shell, call);

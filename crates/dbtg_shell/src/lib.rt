@@ -1,5 +1,5 @@
-//! The shell: statements are read a line at a time, each is made whole and answered at once. It stands on what runs scripts in order, since
-//! it saves the scripts and the turns by which they are made again.
+//! The shell: statements are read a line at a time, and each is made whole and answered at once. It uses the crate that runs scripts in a
+//! given order, since it saves the scripts and the turns by which they are made again.
 #![tactic(auto)]
 
 mod asked;

@@ -1,14 +1,14 @@
-//! What the shell replies to a line: texts of answers, faults and currents.
+//! What the shell replies to a line: answers, faults and currents, as texts.
 ghost use Rattle.std.specs.List.{list_any};
 ghost use Rattle.std.specs.Prelude.{◌≡◌, ◌-◌, ◌%◌, ◌≤◌, ◌<◌, [], ◌∷◌, ◌++◌, codes, decimal, IfOk, length, OnOk, Some, option_map, slice_get};
 ghost use Rattle.std.specs.Str.{bytes_eq};
 ghost use Rattle.dbtg_draw.specs.Listing.{schema_lines};
-ghost use Rattle.dbtg_script.specs.Printing.Texts.{image_text, units_text};
+ghost use Rattle.dbtg_script.specs.Printing.Texts.{units_text};
 ghost use Rattle.dbtg_step.specs.Core.Whole.{state_now};
-ghost use Rattle.dbtg_unit.specs.Database.State.Image.{image_of};
-ghost use Rattle.dbtg_shell.specs.Sessions.{IsFaultText, answer_reply, cause_name, help_words, hint_for, no_unit_text, quit_words, said_or, undone_text};
+ghost use Rattle.dbtg_shell.specs.Replies.{IsFaultText, answer_reply, cause_name, database_text, help_words, hint_for, no_unit_text, quit_words, said_or, undone_text};
+ghost use Rattle.dbtg_shell.specs.Sessions.{last_made};
 ghost use Rattle.dbtg_shell.specs.Inside.Sessions.{with_here};
-ghost use Rattle.dbtg_shell.specs.Inside.UnitWords.{unit_said};
+ghost use Rattle.dbtg_shell.specs.UnitWords.{unit_said};
 
 use crate::session::Session;
 use crate::words::unit_words;
@@ -21,7 +21,7 @@ use dbtg_script::{
 use dbtg_unit::Entry;
 use std::alloc::{AllocError, Global};
 
-/// What the cause of a refusal is called, as the command explain names it.
+/// The name of the cause of a refusal, as the command explain names it.
 fn cause_name(status: u16) -> Option<&'static [u8]>
     ensures { option_map (λ name. name.now) result ≡ cause_name (status % 100) }
 {
@@ -78,7 +78,7 @@ fn hint_for(line: &[u8]) -> &'static [u8]
     }
 }
 
-// The line of a fault: its number; what is said of the word, or else the meaning; a hint.
+// The line of a fault: its number; what is said of the word, otherwise the meaning; a hint.
 fn fault_line(
     alloc: Global,
     number: u8,
@@ -97,7 +97,7 @@ fn fault_line(
     Ok(out)
 }
 
-/// The fault of a line: its number, and what is said of the word that is at fault, or what the fault means.
+/// The fault of a line: its number, and what is said of the word that is at fault, or the meaning of the fault.
 pub fn fault_reply(
     alloc: Global,
     schema: &Schema,
@@ -140,9 +140,9 @@ pub fn no_unit_reply(alloc: Global, units: usize) -> Result<Vec<u8>, AllocError>
     Ok(out)
 }
 
-/// What is said where the statement that was made last is taken back.
+/// What is printed when the last statement is taken back.
 pub fn undone_reply(alloc: Global, session: &Session<'_>) -> Result<Vec<u8>, AllocError>
-    ensures { IfOk result (λ out. out.items ≡ undone_text session.now.making.schema (slice_get session.now.making.history (length session.now.making.history - 1))) }
+    ensures { IfOk result (λ out. out.items ≡ undone_text session.now.making.schema (last_made session.now)) }
 {
     match session.last() {
         None => Vec::from_slice(alloc, b"there is nothing to take back\n"),
@@ -156,7 +156,7 @@ pub fn undone_reply(alloc: Global, session: &Session<'_>) -> Result<Vec<u8>, All
 
 /// The records, the lists of the sets, the least free numbers, and who has each area open.
 pub fn database_reply(alloc: Global, session: &Session<'_>) -> Result<Vec<u8>, AllocError>
-    ensures { IfOk result (λ out. let m = session.now.making in let image = image_of m.schema m.capacity (state_now m).database in out.items ≡ image_text m.schema image.records image.lists image.next image.usage) }
+    ensures { IfOk result (λ out. out.items ≡ database_text session.now.making) }
 {
     image_text(alloc, session.schema(), &session.image()?)
 }
@@ -168,7 +168,7 @@ pub fn units_reply(alloc: Global, session: &Session<'_>) -> Result<Vec<u8>, Allo
     units_text(alloc, session.schema(), session.units())
 }
 
-/// What is current of the unit of this number, in words.
+/// What is current of the unit with this number, in words.
 pub fn unit_reply(alloc: Global, session: &Session<'_>, unit: u8) -> Result<Vec<u8>, AllocError>
     requires low { 0 < unit }
     requires high { unit ≤ session.now.making.units }

@@ -5,7 +5,7 @@ use crate::writing::write_file;
 use std::alloc::AllocError;
 use std::fs;
 
-// What comes of writing a file: nothing to say, or the line that says it cannot be written.
+// The result of writing a file: nothing to say, or the line that says it cannot be written.
 fn written(rt: &HostRuntime, path: &str, bytes: &[u8]) -> Result<Option<String>, AllocError> {
     match write_file(rt, path, bytes) {
         Ok(()) => Ok(None),
@@ -69,7 +69,7 @@ fn is_plain(b: u8) -> bool {
         )
 }
 
-// In quotes all stands for itself but a quote, which is put between two quoted parts.
+// In quotes everything stands for itself except a quote, which is put between two quoted parts.
 fn push_quoted(told: &mut String, path: &str) -> Result<(), AllocError> {
     told.push_str("'")?;
     for (i, part) in path.split('\'').enumerate() {
@@ -81,7 +81,7 @@ fn push_quoted(told: &mut String, path: &str) -> Result<(), AllocError> {
     told.push_str("'")
 }
 
-// A path as a word of a command that is typed to a shell. One that begins with a hyphen would be taken for an option.
+// A path as a word of a command that is typed in a shell. One that begins with a hyphen would be taken for an option.
 fn push_path(told: &mut String, path: &str) -> Result<(), AllocError> {
     told.push_str(" ")?;
     if path.starts_with("-") {
@@ -123,7 +123,7 @@ fn command_for(
     Ok(told)
 }
 
-// Reports a file that is there.
+// Reports a file that exists.
 fn if_there(rt: &HostRuntime, path: &str) -> Result<Option<String>, AllocError> {
     if fs::metadata(rt, path).is_err() {
         return Ok(None);
@@ -151,7 +151,7 @@ pub fn first_there(
     if_there(rt, path.as_str())
 }
 
-/// Writes the scripts and the turns of a session into a directory, which is made where there is none, and says how they are made
+/// Writes the scripts and the turns of a session into a directory, which is created if necessary, and says how they are made
 /// again, or which file could not be written.
 pub fn save(
     rt: &HostRuntime,

@@ -1,11 +1,11 @@
-//! A session of the shell: a database in memory, and the script of each unit as it was typed so far.
+//! A session of the shell: a database in memory, and the script of each unit as typed so far.
 ghost use Rattle.std.specs.Prelude.{◌≡◌, ◌++◌, ◌∷◌, ◌+◌, ◌-◌, ◌≤◌, ◌<◌, [], IfErr, IfOk, OnErr, OnOk, length, map, option_map, replicate, slice_get, List, ℕ, true};
 ghost use Rattle.dbtg_schema.specs.Sound.{IsSound};
 ghost use Rattle.dbtg_unit.specs.Database.Statements.Fits.{fits};
 ghost use Rattle.dbtg_unit.specs.Database.State.Image.{image_of};
 ghost use Rattle.dbtg_step.specs.Core.Whole.{HasMade, state_now};
 ghost use Rattle.dbtg_command.specs.Refusals.{is_count};
-ghost use Rattle.dbtg_shell.specs.Sessions.{AreTurnsOf, IsLastSaid, RefusesBehind, RefusesLine, Takes, Undoes};
+ghost use Rattle.dbtg_shell.specs.Sessions.{AreTurnsOf, IsLastSaid, RefusesBehind, RefusesLine, Takes, Undoes, last_made};
 ghost use Rattle.dbtg_shell.specs.Inside.Sessions.{BeginsHistory, HasEntered, HasNoRoom, IsAsBefore, MakesLine};
 ghost use Rattle.dbtg_shell.specs.declared.session.Refusal.TheVariants.{Fault, Memory};
 
@@ -172,7 +172,7 @@ fn take_line(
     }
 }
 
-// Makes the statements of a history, behind none.
+// Makes the statements of a history on a database without statements.
 fn make_each(
     alloc: Global,
     database: &mut WholeDatabase<'_>,
@@ -260,7 +260,7 @@ impl<'a> Session<'a> {
         drop(self.scripts);
     }
 
-    /// Makes the statement of a line for the unit of this number, and says whether the line holds one.
+    /// Makes the statement of a line for the unit with this number, and says whether the line holds one.
     pub fn make_line(&mut self, unit: u8, line: &[u8]) -> Result<bool, Refusal>
         requires numbered { 0 < unit }
         requires within { unit ≤ self.old.making.units }
@@ -279,7 +279,7 @@ impl<'a> Session<'a> {
         )
     }
 
-    /// Takes back the statement that was made last, and says whether there was one.
+    /// Takes back the last statement, and says whether there was one.
     pub fn undo(&mut self) -> Result<bool, AllocError>
         ensures undone { IfOk result (λ undone. Undoes self.old undone self.new) }
         ensures unchanged { OnErr result (self.new ≡ self.old) }
@@ -302,14 +302,14 @@ impl<'a> Session<'a> {
         self.schema
     }
 
-    /// The statement that was made last, with its answer.
+    /// The last statement that was made, with its answer.
     pub fn last(&self) -> Option<&Entry>
-        ensures { option_map (λ e. e.now) result ≡ slice_get self.now.making.history (length self.now.making.history - 1) }
+        ensures { option_map (λ e. e.now) result ≡ last_made self.now }
     {
         self.database.history().last()
     }
 
-    /// What is in the way of the statement that was made last; nothing where it is done.
+    /// What is in the way of the last statement; nothing if it was done.
     pub fn last_said(&self) -> Result<Vec<u8>, AllocError>
         ensures { IfOk result (λ said. IsLastSaid self.now said.items) }
     {

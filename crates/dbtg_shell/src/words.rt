@@ -4,7 +4,7 @@ ghost use Rattle.std.specs.Prelude.{◌≡◌, ◌+◌, ◌++◌, ◌∷◌, ◌
 ghost use Rattle.dbtg_schema.specs.Lookups.{at};
 ghost use Rattle.dbtg_cells.specs.Keys.{key_eq, owner_eq};
 ghost use Rattle.dbtg_unit.specs.Database.State.Units.{place_in};
-ghost use Rattle.dbtg_shell.specs.Inside.UnitWords.{among_words, area_lines, at_words, current_words, key_words, kept_line, kept_lines, kept_words, line_of, list_of, list_words, many_words, member_words, open_words, ordinal, ordinal_end, owner_words, place_words, set_lines, type_lines, unit_words};
+ghost use Rattle.dbtg_shell.specs.UnitWords.{among_words, area_lines, at_words, current_words, key_words, kept_line, kept_lines, kept_words, line_of, list_of, list_words, many_words, member_words, open_words, ordinal, ordinal_end, owner_words, place_words, set_lines, type_lines, unit_words};
 
 use dbtg_cells::{DbKey, Mode, Owner, same_key, same_owner};
 use dbtg_schema::{Area, RecordType, Row, Schema, SetNo, SetType};
@@ -116,7 +116,7 @@ fn push_open(out: &mut Vec<u8>, mode: Option<Mode>) -> Result<(), AllocError>
     }
 }
 
-// What a line is about, up to its colon.
+// The start of a line, up to its colon.
 fn push_front(out: &mut Vec<u8>, what: &[u8], name: &[u8]) -> Result<(), AllocError>
     ensures { OnOk result (out.new.items ≡ out.old.items ++ what.now ++ name.now ++ codes ": ") }
 {
@@ -137,7 +137,7 @@ fn list_among<'b>(lists: &'b [(Owner, Row<DbKey>)], owner: &Owner) -> Option<&'b
     None
 }
 
-/// What units are told beside: the schema, and the image of the database.
+/// What is needed to describe units: the schema, and the image of the database.
 #[derive(Clone, Copy)]
 struct View<'a> {
     schema: &'a Schema,
@@ -199,7 +199,7 @@ impl<'a> View<'a> {
         }
     }
 
-    // Where a unit is that is at the owner or at a member.
+    // Where a unit is in a set: at the owner or at a member.
     fn push_at(
         &self,
         out: &mut Vec<u8>,
@@ -362,7 +362,7 @@ fn push_number_of(out: &mut Vec<u8>, unit: &Unit) -> Result<(), AllocError>
     Ok(())
 }
 
-/// What is current of a unit, and what it keeps, beside the image of the database on which it works.
+/// What is current of a unit, and what it keeps, given the image of the database on which it works.
 pub fn unit_words(
     alloc: Global,
     schema: &Schema,

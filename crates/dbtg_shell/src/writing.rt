@@ -1,9 +1,9 @@
-//! Writing a file so that an error at closing it is reported.
+//! Writing a file in such a way that an error at closing it is reported.
 
 use std::fs::{File, OpenFile};
 use std::io::{self, ErrorKind, Write};
 
-// The system writes out what it kept back of a file, and says where it cannot. A pipe or a device keeps nothing back, and says that it
+// The system writes out what it kept back of a file, and says if it cannot. A pipe or a device keeps nothing back, and says that it
 // cannot be asked.
 fn settle<F: OpenFile>(file: &F) -> io::Result<()> {
     match file.sync_all() {
@@ -12,7 +12,7 @@ fn settle<F: OpenFile>(file: &F) -> io::Result<()> {
     }
 }
 
-/// Writes a file whole; what it had before is lost.
+/// Writes a whole file; what it had before is lost.
 pub fn write_file(rt: &HostRuntime, path: &str, bytes: &[u8]) -> io::Result<()> {
     let mut file = File::create(rt, path)?;
     file.write_all(bytes)?;

@@ -37,7 +37,7 @@ pub of_ok : {T E P : Type 0} (r : Result T E) (v : T) → r ≡ Ok v → OnOk r 
 of_ok (Ok w) v is p = p
 of_ok (Err e) v is p = absurd cc
 
--- the same of a settlement that may not come
+-- the same for a settlement that may not come
 pub if_settled : (db : Database) (u v : UnitView) (firsts seconds : List Order) (r : Result Settled Stop) → IfOk r (IsSettled db (u ∷ v ∷ []))
     → (a b : List Entry) → AreFilled a u.journal firsts → AreFilled b v.journal seconds → IfOk r (HaveFilled firsts seconds)
 if_settled db u v firsts seconds (Ok settled) s a b p q = have_filled db u v firsts seconds settled s a b p q

@@ -56,7 +56,7 @@ kept_by about a b c u w finding one other D E one_done other_done =
       kept_done = other_done;
     }
 
--- what stands behind more stands behind less
+-- what follows more follows less
 pub filled_behind : (a b c : List Entry) (order : Order) → Begins a b → IsFilled b c order → IsFilled a c order
 filled_behind a b c order p f = record {
   before = f.before;
@@ -88,7 +88,7 @@ filled_more a b c orders i d below all filled =
 pub all_filled : (a b : List Entry) (orders : List Order) (i : ℕ) → length orders ≤ i → AreFilled a b (take i orders) → AreFilled a b orders
 all_filled a b orders i end all = subst (AreFilled a b) (take_all i orders end) all
 
--- behind nothing stands all
+-- after nothing stands all
 pub filled_in_all : (a b : List Entry) (orders : List Order) → AreFilled a b orders → AreFilled [] b orders
 unfolding AreFilled
 filled_in_all a b [] p = record { more = b; is = refl }

@@ -39,7 +39,7 @@ stock_shown answer = stock_in answer.items
 abbrev pub is_after : Order → ℕ → ℕ → Type 0
 is_after order before after = after + order.taken ≡ before + order.brought
 
--- two statements of the unit, one directly behind the other: a record is found and kept
+-- two statements of the unit, one directly after the other: a record is found and kept
 pub record HasKept (finding : Statement) (old new : List Entry) : Type 0 where
   pub found : Entry
   pub kept : Entry
@@ -74,7 +74,7 @@ pub record Begins (old new : List Entry) : Type 0 where
   pub more : List Entry
   pub is : new ≡ old ++ more
 
--- behind the old list the ware is found, kept, read and then changed, one directly behind another, and the new list ends there: the
+-- after the old list the ware is found, kept, read and then changed, one directly after another, and the new list ends there: the
 -- change is done, and what it makes of the stock is what the order says of what was read
 pub record IsFilled (old new : List Entry) (order : Order) : Type 0 where
   pub before : List Entry
@@ -86,7 +86,7 @@ pub record IsFilled (old new : List Entry) (order : Order) : Type 0 where
   pub has_read : HasRead stock kept read
   pub has_written : HasWritten order stock read new
 
--- behind the old list all orders are filled, in their order: the entries that fill one stand behind those that fill the one before it
+-- after the old list all orders are filled, in their order: the entries that fill one follow those that fill the one before it
 unfoldable pub AreFilled : List Entry → List Entry → List Order → Type 0
 AreFilled old new [] = Begins old new
 AreFilled old new (order ∷ orders) = (filled : List Entry) × IsFilled old filled order × AreFilled filled new orders

@@ -68,7 +68,7 @@ fn make<R: Wait>(
     }
 }
 
-// As `make`; a clerk stops at a statement that is refused.
+// Like `make`; a clerk stops at a statement that is refused.
 fn must<R: Wait>(
     rt: &R,
     alloc: Global,
@@ -126,7 +126,7 @@ fn read_stock<R: Wait>(
     }
 }
 
-// Whether a change was done: it was not where the other clerk changed the record since it was kept.
+// Whether a change was done: it was not if the other clerk changed the record since it was kept.
 fn was_done(answer: &Answer) -> Result<bool, Stop>
     ensures { IfOk result (λ done. done ≡ true → answer.now.status ≡ Done) }
 {
@@ -194,7 +194,7 @@ fn try_to_fill<R: Wait>(
     write_stock(rt, alloc, db, unit, order, stock)
 }
 
-// Fills an order: the ware is read and changed. Where the other clerk changed it in between, all is done again.
+// Fills an order: the ware is read and changed. If the other clerk changed it in between, everything is repeated.
 fn fill<R: Wait>(
     rt: &R,
     alloc: Global,

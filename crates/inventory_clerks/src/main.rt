@@ -48,7 +48,7 @@ STORE WARE CODE = 1 STOCK = 1000\n\
 STORE WARE CODE = 2 STOCK = 2000\n\
 STORE WARE CODE = 3 STOCK = 3000\n";
 
-/// And the second.
+/// What the second clerk does.
 const SECOND_SCRIPT: &[u8] = b"OPEN AREA HOUSE USAGE-MODE IS UPDATE\n";
 
 const FIRST_ORDERS: [Order; 4] = [
@@ -92,7 +92,7 @@ const SECOND_ORDERS: [Order; 3] = [
     },
 ];
 
-// The orders of so many rounds.
+// The orders of this many rounds.
 #[tactic(auto, using(crate::proofs::Rounds::no_round, crate::proofs::Rounds::one_round_more))]
 fn all_rounds(alloc: Global, orders: &[Order], rounds: usize) -> Result<Vec<Order>, AllocError>
     ensures { IfOk result (λ all. all.items ≡ rounds_of rounds orders.now) }
@@ -119,7 +119,7 @@ fn morning<R: Wait>(
     open_house(rt, alloc, house, first_text, second_text)
 }
 
-// What the day comes to, when both clerks have filled all their orders.
+// The result of the day, when both clerks have filled all their orders.
 fn work_day<R: Threads + Wait + Sync>(
     rt: &R,
     alloc: Global,
@@ -152,7 +152,7 @@ fn day<R: Threads + Wait + Sync>(rt: &R, alloc: Global) -> Result<Settled, Stop>
     work_day(rt, alloc, house, firsts.as_slice(), seconds.as_slice())
 }
 
-// Records, lists and usage, and behind them the units, as they are printed.
+// Records, lists and usage, followed by the units, as they are printed.
 fn text(
     alloc: Global,
     schema: &Schema,
@@ -166,7 +166,7 @@ fn text(
     Ok(out)
 }
 
-// The same of what an audit found, if it found anything.
+// The same for what an audit found, if it found anything.
 fn found_text(
     alloc: Global,
     schema: &Schema,
@@ -180,7 +180,7 @@ fn found_text(
     }
 }
 
-// The same of what a history leads to, if it is one of the sequential database.
+// The same for what a history leads to, if it is one of the sequential database.
 fn audited_text(
     alloc: Global,
     schema: &Schema,

@@ -1,4 +1,4 @@
-//! What a clerk is told to do, why one stops, and the statements that are made of it.
+//! What a clerk is told to do, why one stops, and the statements that are made from it.
 ghost use Rattle.std.specs.Prelude.{◌≡◌, IfOk, IfSome, Some, option_map};
 ghost use Rattle.inventory_clerks.specs.Orders.{change_of, find_of, is_after, stock_shown};
 
@@ -12,7 +12,7 @@ const WARE: u8 = 0;
 
 const STOCK: u8 = 1;
 
-/// So many pieces of a ware are brought, and so many are taken.
+/// This many pieces of a ware are brought, and this many are taken.
 #[derive(Clone, Copy)]
 pub struct Order {
     pub code: u16,
@@ -25,7 +25,7 @@ pub struct Order {
 pub enum Stop {
     /// A text has a fault, or the schema has no such statement.
     NoStatement,
-    /// A statement was refused, otherwise than by a change of another clerk.
+    /// A statement was refused, but not because of a change by another clerk.
     Refused,
     /// More is to be taken than there is.
     NoStock,
@@ -91,7 +91,7 @@ pub fn stock_shown(answer: &Answer) -> Option<u64>
     }
 }
 
-/// The stock after the order; none where more is to be taken than there is.
+/// The stock after the order; none if more is to be taken than there is.
 pub fn stock_after(order: Order, stock: u64) -> Option<u64>
     ensures { IfSome result (is_after order stock) }
 {

@@ -29,7 +29,7 @@ fn two_of(db: &Database, units: Vec<RunUnit>) -> (RunUnit, RunUnit)
     requires two { length units.items ≡ 2 }
     ensures { BelongsTo db.now result.0 × BelongsTo db.now result.1 }
 {
-    // Only the contract names the database.
+    // Unused here; the contract mentions it.
     let _about = &db.about;
     let mut units = units;
     let second = units.pop().unwrap();
@@ -59,7 +59,7 @@ pub fn new_house(alloc: Global, text: &[u8]) -> Result<Warehouse, Stop>
     }
 }
 
-// Each clerk makes the statements of his text, the second when the first is done.
+// Each clerk makes the statements of his text, the second after the first is done.
 fn open_both<R: Wait>(
     rt: &R,
     alloc: Global,
@@ -80,7 +80,7 @@ fn open_both<R: Wait>(
     open(rt, alloc, db, second, second_text)
 }
 
-/// Each clerk makes the statements of his text, the second when the first is done.
+/// Each clerk makes the statements of his text, the second after the first is done.
 pub fn open_house<R: Wait>(
     rt: &R,
     alloc: Global,
@@ -189,7 +189,7 @@ pub fn fill_orders<R: Threads + Wait + Sync>(
     (Warehouse { db, first, second }, both(one, other))
 }
 
-// The database is settled, when all its units have come back.
+// The database is settled, once all its units have come back.
 fn settle_all(alloc: Global, db: Database, units: Vec<RunUnit>) -> Result<Settled, Stop>
     requires belong { All (BelongsTo db) units.items }
     ensures { IfOk result (IsSettled db units.items) }

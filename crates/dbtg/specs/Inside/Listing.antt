@@ -1,5 +1,5 @@
 -- Words beside `Listing` that private functions and lemmas use.
-use Rattle.std.specs.Prelude.{ℕ, ◌≡◌, ◌⊎◌, nat_lt, Bool, List, Option, Contains, length}
+use Rattle.std.specs.Prelude.{ℕ, ◌≡◌, ◌++◌, ◌⊎◌, nat_lt, Bool, List, Contains, length}
 use Rattle.std.specs.List.{list_all}
 use Rattle.dbtg_unit.specs.declared.moves.Move.{Move}
 use Rattle.dbtg_outcomes.specs.declared.answered.Answered.{Answered}
@@ -9,7 +9,8 @@ use Rattle.dbtg_command.specs.declared.fault.Fault.{Fault}
 use Rattle.dbtg_command.specs.declared.fault.Fault.TheVariants as fault
 use Rattle.dbtg_outcomes.specs.Results.{Meeting}
 use Rattle.dbtg.specs.declared.outcomes.Front.{Front}
-use Rattle.dbtg.specs.Listing.{AreComparedWith, AreTold, IsLong}
+use Rattle.dbtg.specs.declared.outcomes.Showing.{Showing}
+use Rattle.dbtg.specs.Listing.{IsLong, IsResultText, and_told}
 use Rattle.dbtg_replay.specs.Ordering.{AreFirstMoves, first_turns}
 
 -- every status has four digits
@@ -27,8 +28,9 @@ pub record IsFront (m : Meeting) (front : Front) : Type 0 where
   pub are_first : AreFirstMoves m.first m.schema m.capacity m.scripts before
   pub moves_are : front.moves ≡ length before
 
--- the text tells of all results, as they are compared with the first where they are shown briefly
-pub record AreListed (m : Meeting) (brief : Bool) (all : Outcomes) (out : List ℕ) : Type 0 where
-  pub first : Option (List ℕ)
-  pub compared : AreComparedWith m brief all.results.items first
-  pub told : AreTold m first all out
+-- the text of result k goes behind others, and in brief the result behind those before
+pub record IsShown (m : Meeting) (k : ℕ) (one : OneResult) (old new : List ℕ) (showing shown : Showing) : Type 0 where
+  pub text : List ℕ
+  pub new_is : new ≡ old ++ text
+  pub is_text : IsResultText m showing.before k one text
+  pub shown_is : shown ≡ record { front = showing.front; before = and_told m showing.before is_text.given }

@@ -1,4 +1,4 @@
--- What `clap` is told of one word, and what it met.
+-- What `clap` is given of one word, and what it met.
 use Rattle.std.specs.Prelude.{◌≡◌, ℕ, false, List, [], Some}
 use Rattle.clap.specs.Matches.{found_of}
 use Rattle.clap.specs.Simple.{App, app_of, subcommand_rows_of, with_subcommand}
@@ -8,7 +8,7 @@ use Rattle.clap.specs.declared.builder.command.Command.{Command}
 use Rattle.clap.specs.declared.builder.command.Command.TheViews.{out-Command as fields_of}
 use Rattle.clap.specs.declared.parser.matches.ArgMatches.{ArgMatches}
 use Rattle.dbtg_command.specs.Calling.{IsCall}
-use Rattle.dbtg_command.specs.Commands.{all, answers, capacity, echo, explain, first, last, limit, limit_of_programs, moves, name_of, no_explain, programs, rules_for, save_turns, schema, scripts, shape_with, svg, topic, turns_option, turns_file, units, status, trace, trace_option, always, brief, never, turns_alone}
+use Rattle.dbtg_command.specs.Commands.{all, answers, capacity, echo, explain, first, last, limit, limit_of_programs, moves, name_of, no_explain, programs, rules_for, save_turns, schema, scripts, shape_with, svg, topic, turns_option, turns_file, units, status, trace, trace_alone, trace_option, always, brief, never, turns_alone}
 use Rattle.dbtg_command.specs.declared.arguments.Word.{Word}
 use Rattle.dbtg_command.specs.declared.arguments.Word.TheVariants as word
 use Rattle.dbtg_command.specs.declared.command.Named.{Named}
@@ -23,6 +23,7 @@ rule_for word.Brief = brief
 rule_for word.Capacity = capacity
 rule_for word.Echo = echo
 rule_for word.Explain = explain
+rule_for (word.ExplainMore help) = explain
 rule_for (word.First help) = first
 rule_for word.Last = last
 rule_for word.Limit = limit
@@ -39,6 +40,7 @@ rule_for word.Status = status
 rule_for (word.Svg help) = svg
 rule_for word.Topic = topic
 rule_for word.Trace = trace
+rule_for word.TraceAlone = trace_alone
 rule_for word.TraceOption = trace_option
 rule_for word.TurnsAlone = turns_alone
 rule_for word.TurnsBefore = turns_alone

@@ -1,4 +1,4 @@
--- What is said of files. No definition knows what a file has: `has` says that reading so many bytes of a path gave a text, `lacks`
+-- What is said of files. No definition knows the contents of a file: `has` says that reading this many bytes of a path gave a text, `lacks`
 -- that it gave none. Both are what the reader of files says.
 use Rattle.std.specs.Prelude.{ℕ, ◌≡◌, List, string_bytes}
 use Rattle.dbtg_command.specs.declared.fault.Fault.{Fault}
@@ -8,7 +8,7 @@ use Rattle.dbtg_command.specs.declared.place.TextPlace.{TextPlace}
 use Rattle.dbtg_command.specs.declared.place.TextPlace.TheVariants.{Schema, Script, Moves, Turns, Trace}
 use Rattle.dbtg_command.specs.Inside.Sources.{StandsIn}
 
--- so much of a file is read: a byte more than a schema, a script or a trace may have, and moves and turns to their end
+-- at most this much of a file is read: a byte more than a schema, a script or a trace may have; moves and turns to their end
 abbrev pub most_of : TextPlace → ℕ
 most_of Schema = 65537
 most_of (Script n) = 1048577

@@ -1,4 +1,4 @@
-//! What each cause of a refusal means, as docs/profile/statuses.md says it.
+//! The meaning of each cause of a refusal, in the words of docs/profile/statuses.md.
 
 /// The last two digits of a status, the cause's name, what it means, and what a program does next.
 pub static CAUSES: &str = "\
@@ -20,5 +20,5 @@ pub static CAUSES: &str = "\
 26|none satisfies|No live record has the key, the CALC values or the sort key that the FIND names; or the number of the key is above the capacity.|Take it as not found: STORE the record, or search by another value. Nothing became current.
 28|area already open|OPEN of an area that this unit has open, in whatever mode.|Use the area as it is open. For another mode CLOSE it first.
 29|usage conflict|OPEN in a mode that conflicts with the mode of a unit that has the area open. See usage-modes.md.|OPEN it in a mode that does not conflict, or again after the other unit has closed it.
-30|owner has members|The plain DELETE of a record that owns a member in some set.|DELETE ONLY, SELECTIVE or ALL takes members with it; else REMOVE or DELETE the members first.
+30|owner has members|The plain DELETE of a record that owns a member in some set.|DELETE ONLY, SELECTIVE or ALL takes members with it; otherwise REMOVE or DELETE the members first.
 31|not kept|FREE where the current of run-unit is not in the kept list.|Nothing is left to be done: the record is not kept.";

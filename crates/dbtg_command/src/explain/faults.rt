@@ -1,5 +1,5 @@
-//! What the faults of schemas, scripts, programs, moves, turns and traces mean, as the tables of docs/profile say it: a fault's number, what it means,
-//! where it is found, and what to do next.
+//! The meaning of the faults of schemas, scripts, programs, moves, turns and traces, in the words of docs/profile: a fault's number, its
+//! meaning, where it is found, and what to do next.
 
 /// The faults of a schema.
 pub static SCHEMA_FAULTS: &str = "\
@@ -11,7 +11,7 @@ pub static SCHEMA_FAULTS: &str = "\
 6|an item name twice in a record type|when read; the line told is: the word's|Rename one of the two items, or leave one out.
 7|unknown area after WITHIN|when read; the line told is: the word's|Declare the area above the record type, or correct the spelling.
 8|unknown record type after OWNER or MEMBER|when read; the line told is: the word's|Declare the record type above the set, or correct the spelling.
-9|a CALC or KEY item that the record type has not|CALC: at the record type's end; KEY: when read; the line told is: the word's|Declare the item in the record type, or correct the spelling.
+9|a CALC or KEY item that the record type does not have|CALC: at the record type's end; KEY: when read; the line told is: the word's|Declare the item in the record type, or correct the spelling.
 10|unknown set after VIA|at the text's end, in text order; the line told is: the word's|Declare the set, or correct the spelling.
 11|a word that is no picture where one is wanted, other than a period or the end (these are 3)|when read; the line told is: the word's|Write 9(n) with n from 1 to 18, X(n) with n from 1 to 64, or a run of 9 or X.
 12|the owner type is the member type|at the member's period, first; the line told is: its word MEMBER's|Give the set another owner or another member.
@@ -30,7 +30,7 @@ pub static SCRIPT_FAULTS: &str = "\
 4|unknown area|at the name, once its kind is known|Take an area of the schema, in its spelling.
 5|unknown record type|at the name, once its kind is known|Take a record type of the schema, in its spelling.
 6|unknown set|at the name, once its kind is known|Take a set of the schema, in its spelling.
-7|an item that the record type has not|at the item|Take an item of that record type, in its spelling.
+7|an item that the record type does not have|at the item|Take an item of that record type, in its spelling.
 8|an item named twice|at the second mention|Name each item once.
 9|a text for a number item, or a number for a text item|at the value|Write digits for a number item, and a text in double quotes for a text item.
 10|a number above the picture's greatest, or of more than 18 digits after leading zeros; a text longer than the picture|at the value|Take a value that the item's picture can hold.
@@ -39,14 +39,14 @@ pub static SCRIPT_FAULTS: &str = "\
 13|n that is 0 or above 999,999 in FIND; a key number that is 0 or above 999,999; a generation that is 0 or above 255|at the number|Take a number from 1 to 999,999, and a generation from 1 to 255.
 14|a text of more than 1,048,576 bytes (line 1), or statement 65,536 (its line)|before all else for the text, at its line for the statement|Divide the script: each run-unit has one of at most 65,535 statements.";
 
-/// The faults that a program has beside those of scripts.
+/// The faults that programs have in addition to those of scripts.
 pub static PROGRAM_FAULTS: &str = "\
-21|unknown paragraph; it may stand further below|at the name behind GO TO|Write the paragraph, or correct the spelling.
+21|unknown paragraph; it may stand further below|at the name after GO TO|Write the paragraph, or correct the spelling.
 22|a paragraph that stands in the text before|at the name|Rename one of the two.
 23|a word in a field's place that is a name, or has a period, and is no item and no counter|at the word|Declare the counter by 01 at the top, take an item of the schema as RECORD.ITEM, or correct the spelling.
-24|a counter with the name of a counter before it or of a record type, or a word that is no name|at the name behind 01|Take a name of 1 to 30 capital letters, digits and hyphens, a letter first, that no counter and no record type has.
+24|a counter with the name of a counter before it or of a record type, or a word that is no name|at the name after 01|Take a name of 1 to 30 capital letters, digits and hyphens, a letter first, that no counter and no record type has.
 25|a number and a text compared or moved; a text added or subtracted, or a field of texts that is added to or subtracted from|at the second of the two, or at the text|Compare and move values of one kind, and count with numbers alone.
-26|01 behind another sentence|at 01|Declare all counters at the top of the program.
+26|01 after another sentence|at 01|Declare all counters at the top of the program.
 27|counter 65|at 01|Use fewer counters: a program has at most 64.";
 
 /// The faults of moves.
@@ -59,8 +59,8 @@ pub static TURNS_FAULTS: &str = "\
 1|a word of another shape, a quit among them, or with a byte that is not one of these|at the word|Write u or u*k, with u from 1 to 99 and k from 1 to 1,000,000, without leading zeros.
 2|the word with which the total passes 1,000,000|at the word with which the total passes 1,000,000|Take fewer turns.";
 
-/// The faults that a trace has beside those of scripts.
+/// The faults that traces have in addition to those of scripts.
 pub static TRACE_FAULTS: &str = "\
-31|no unit: no colon, other bytes than digits in front of the first one, or a unit that is not from 1 to the number of units|behind the bytes of its line|Begin the line with the number of the unit and a colon; --units says how many units there are.
-32|no arrow behind the unit outside of a text|behind the unit of its line|Write => and the answer behind the statement.
-33|no answer: another first word than four digits, another word behind it than a key of the schema, other words behind the key than all its items with values of their pictures, or an unclosed text|behind the statement of its line|Write the status, or the status and the key, or these and all items, as replay prints them.";
+31|no unit: no colon, other bytes than digits before the first one, or a unit that is not from 1 to the number of units|after the bytes of its line|Begin the line with the number of the unit and a colon; --units says how many units there are.
+32|no arrow after the unit outside of a text|after the unit of its line|Write => and the answer after the statement.
+33|no answer: another first word than four digits, another word after it than a key of the schema, other words after the key than all its items with values of their pictures, or an unclosed text|after the statement of its line|Write the status, or the status and the key, or these and all items, as replay prints them.";

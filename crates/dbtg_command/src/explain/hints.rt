@@ -1,4 +1,4 @@
-//! What is added to a word that the grammar does not want: words that another language has, and what stands for them here.
+//! Hints for words that the grammar does not want: words of another language, and what to write in their place.
 ghost use Rattle.std.specs.Prelude.{◌≡◌, map, option_map};
 ghost use Rattle.std.specs.Str.{str_eq_ignore_ascii_case};
 ghost use Rattle.dbtg_command.specs.Hints.{hint_for, lacks_capitals, row_of_word};
@@ -6,7 +6,7 @@ ghost use Rattle.dbtg_command.specs.Hints.{hint_for, lacks_capitals, row_of_word
 use crate::explain::row::{field, next_row};
 use dbtg_script::in_front;
 
-// A word, and what is added to it: words of IDMS, and marks with which other languages begin a note.
+// A word, and the hint for it: words of IDMS, and marks with which other languages begin a comment.
 const HINTS: &str = "\
 READY|; here OPEN AREA
 FINISH|; here CLOSE AREA
@@ -22,7 +22,7 @@ ACCEPT|; there is none here: each answer has its key
 IF|; there is none here: FIND FIRST of an empty set answers 0307
 ANY|; here CALC
 ADD|; leave it out
-*|; a note has its star in front of its line, and a schema has no notes
+*|; a note has its star at the beginning of its line, and a schema has no notes
 --|; a note begins with a star, and a schema has no notes
 #|; a note begins with a star, and a schema has no notes";
 
@@ -56,7 +56,7 @@ fn lacks_capitals(wanted: &[&[u8]], word: &[u8]) -> bool
     false
 }
 
-/// What is added to a word that the grammar does not want, where it wants these.
+/// The hint for a word that the grammar does not want, if it wants one of these.
 pub fn hint_for(wanted: &[&[u8]], word: &[u8]) -> &'static [u8]
     ensures { result.now ≡ hint_for (map (λ thing. thing.now) wanted.now) word.now }
 {

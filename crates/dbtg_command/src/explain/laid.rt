@@ -1,4 +1,4 @@
-//! A schema's text with each word on a line of its own: then the line of a fault says its word.
+//! A schema's text with each word on a line of its own, so that the line of a fault gives its word.
 ghost use Rattle.std.specs.Prelude.{◌≡◌, ◌++◌, IfOk, OnOk, option_map};
 ghost use Rattle.dbtg_schema.specs.Texts.Words.{is_gap};
 ghost use Rattle.dbtg_schema.specs.Texts.SchemaFaults.{refusal};
@@ -27,7 +27,7 @@ fn push_apart(out: &mut Vec<u8>, b: u8) -> Result<(), AllocError>
     Ok(())
 }
 
-/// The text laid out so, and no word on its last line, on which a text that ends too early is refused.
+/// The text laid out in this way, with an empty last line, on which a text that ends too early is refused.
 pub fn laid_out(alloc: Global, text: &[u8]) -> Result<Vec<u8>, AllocError>
     ensures { IfOk result (λ out. out.items ≡ laid_out text.now) }
 {
@@ -39,7 +39,7 @@ pub fn laid_out(alloc: Global, text: &[u8]) -> Result<Vec<u8>, AllocError>
     Ok(out)
 }
 
-/// The line on which a text is refused for the cause of this number, 0 where it is not.
+/// The line on which a text is refused for the cause with this number; 0 if it is not refused for it.
 pub fn fault_line(alloc: Global, text: &[u8], number: u8) -> Result<u64, AllocError>
     ensures { IfOk result (λ line. line ≡ line_in number (refusal text.now)) }
 {
@@ -55,7 +55,7 @@ pub fn fault_line(alloc: Global, text: &[u8], number: u8) -> Result<u64, AllocEr
     }
 }
 
-/// The line of this number, from 1.
+/// The line with this number, from 1.
 pub fn line_at(text: &[u8], line: u64) -> &[u8]
     ensures { result.now ≡ line_at line text.now }
 {
@@ -76,7 +76,7 @@ fn is_label(word: &[u8]) -> bool
         || word == "ARE".as_bytes()
 }
 
-// The name of the entry whose first word stands in front of these.
+// The name of the entry whose first word comes before these.
 fn entry_name(words: &[u8]) -> Option<&[u8]>
     ensures { option_map (λ word. word.now) result ≡ entry_name (lines words.now) }
 {
@@ -97,7 +97,7 @@ fn is_of_entry(number: u8) -> bool
     12 <= number && number <= 15 || number == 17
 }
 
-/// The word that a fault on this line of a text that is laid out is about: the one there, or of a fault of a whole entry its name.
+/// The word that a fault on this line of a laid-out text is about: the word there, or the name of the entry for a fault of a whole entry.
 pub fn faulty_word(laid: &[u8], line: u64, number: u8) -> &[u8]
     ensures { result.now ≡ faulty_word number line laid.now }
 {

@@ -1,4 +1,4 @@
-//! What is said of a word that the grammar does not want, and where a line or a text ends too early; so of the word of any fault.
+//! The explanation of a word that the grammar does not want, or of a line or a text that ends too early, and so of the word of any fault.
 ghost use Rattle.std.specs.Prelude.{◌≡◌, ◌∷◌, [], IfOk, map};
 ghost use Rattle.dbtg_command.specs.Explaining.{filled};
 ghost use Rattle.dbtg_command.specs.Offered.{separated};
@@ -14,7 +14,7 @@ use dbtg_schema::{Schema, wanted_in_schema};
 use dbtg_script::{ends_in_text, trimmed, wanted_in_line};
 use std::alloc::{AllocError, Global};
 
-// A longer word is not told.
+// A longer word is not shown.
 const LONGEST: usize = 480;
 
 // The form for a word that does not fit: 0 is the word, 1 what is wanted, 2 a hint.
@@ -45,7 +45,7 @@ fn said_of_misfit(
     Ok(out)
 }
 
-// What is said where something ends too early; the form has 0 for what is wanted.
+// The explanation if something ends too early; the form has 0 for what is wanted.
 fn said_of_end(alloc: Global, form: &'static str, wanted: &[&[u8]]) -> Result<Vec<u8>, AllocError>
     ensures { IfOk result (λ out. out.items ≡ filled (separated (map (λ thing. thing.now) wanted.now) ∷ []) form.now) }
 {
@@ -55,7 +55,7 @@ fn said_of_end(alloc: Global, form: &'static str, wanted: &[&[u8]]) -> Result<Ve
     Ok(out)
 }
 
-// What is said of a line that ends too early, or in an open text.
+// The explanation of a line that ends too early, or in a text that is not closed.
 fn said_of_early_line(alloc: Global, line: &[u8], wanted: &[&[u8]]) -> Result<Vec<u8>, AllocError>
     ensures { IfOk result (λ out. out.items ≡ said_of_early_line line.now (map (λ thing. thing.now) wanted.now)) }
 {
@@ -68,7 +68,7 @@ fn said_of_early_line(alloc: Global, line: &[u8], wanted: &[&[u8]]) -> Result<Ve
     said_of_end(alloc, "the line ends too early (wanted: 0)", wanted)
 }
 
-// What is said of the word that was met in a line, or of its end.
+// The explanation of the word that was met in a line, or of its end.
 fn said_in_line(
     alloc: Global,
     number: u8,
@@ -84,7 +84,7 @@ fn said_in_line(
     said_of_misfit(alloc, number, word, wanted)
 }
 
-// What is said of fault 2 or 3 of a script's line.
+// The explanation of fault 2 or 3 of a script's line.
 fn said_of_line_misfit(
     alloc: Global,
     schema: &Schema,
@@ -98,7 +98,7 @@ fn said_of_line_misfit(
     said_in_line(alloc, number, line, word.as_slice(), wanted.as_slice())
 }
 
-// What is said of the word that was met on this line of the text that is laid out.
+// The explanation of the word that was met on this line of the laid-out text.
 fn said_of_met(
     alloc: Global,
     line: u64,
@@ -116,7 +116,7 @@ fn said_of_met(
     said_of_misfit(alloc, 3, word, wanted)
 }
 
-// What is said of fault 3 of a schema's text.
+// The explanation of fault 3 of a schema's text.
 fn said_of_schema_misfit(alloc: Global, text: &[u8]) -> Result<Vec<u8>, AllocError>
     ensures { IfOk result (λ out. out.items ≡ said_of_schema_misfit text.now) }
 {
@@ -131,7 +131,7 @@ fn said_of_schema_misfit(alloc: Global, text: &[u8]) -> Result<Vec<u8>, AllocErr
     )
 }
 
-/// What there is to say of the word of a line that is at fault, or of its end; nothing where no single word is.
+/// The explanation of the word of a line that is at fault, or of its end; empty if no single word is.
 pub fn said_of_word(
     alloc: Global,
     schema: &Schema,
@@ -146,7 +146,7 @@ pub fn said_of_word(
     said_of_name(alloc, schema, line, number)
 }
 
-/// What there is to say of the word of a schema's text that is at fault, or of its end; nothing where no single word is.
+/// The explanation of the word of a schema's text that is at fault, or of its end; empty if no single word is.
 pub fn said_of_schema_word(alloc: Global, text: &[u8], number: u8) -> Result<Vec<u8>, AllocError>
     ensures { IfOk result (λ out. out.items ≡ said_of_schema_word number text.now) }
 {

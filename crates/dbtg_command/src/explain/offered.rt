@@ -1,4 +1,4 @@
-//! The names that are offered in place of a word at fault: those that there are.
+//! The names that are offered instead of a word at fault: those that exist.
 ghost use Rattle.std.specs.List.{flat_map, prefix_len};
 ghost use Rattle.std.specs.Prelude.{◌≡◌, ◌≤◌, ◌++◌, IfOk, OnOk, codes, drop, length, map, not, option_map, take_while};
 ghost use Rattle.std.specs.Str.{bytes_eq};
@@ -7,10 +7,10 @@ ghost use Rattle.dbtg_command.specs.Offered.{begins_type, entry_name, entry_name
 use dbtg_schema::Schema;
 use std::alloc::{AllocError, Global};
 
-// So many names are written, and two periods for those behind them.
+// At most this many names are written; two periods stand for the rest.
 const MOST_NAMES: usize = 8;
 
-// Puts names behind another, with a comma in front of each.
+// Appends names, with a comma before each.
 fn push_further(out: &mut Vec<u8>, names: &[&[u8]]) -> Result<(), AllocError>
     ensures { OnOk result (out.new.items ≡ out.old.items ++ flat_map (λ name. codes ", " ++ name) (map (λ name. name.now) names.now)) }
 {
@@ -73,7 +73,7 @@ fn items_named<'a>(
     }
 }
 
-// The names that there are in the place of a word with a fault of this number.
+// The names that exist in place of a word with the fault of this number.
 pub fn names_for<'a>(
     alloc: Global,
     schema: &'a Schema,
@@ -122,7 +122,7 @@ pub fn seen_words<'a>(alloc: Global, words: &[&'a [u8]]) -> Result<Vec<&'a [u8]>
     Ok(seen)
 }
 
-// The name of an entry that begins with a word, and then has these.
+// The name of an entry that begins with a word, followed by these.
 fn name_behind<'a>(words: &[&'a [u8]]) -> Option<&'a [u8]>
     ensures { option_map (λ name. name.now) result ≡ name_behind (map (λ word. word.now) words.now) }
 {
@@ -132,7 +132,7 @@ fn name_behind<'a>(words: &[&'a [u8]]) -> Option<&'a [u8]>
     }
 }
 
-// Puts the name of an entry that begins with `first`, where this is one.
+// Appends the name of an entry that begins with `first`, if this is one.
 fn push_entry<'a>(
     names: &mut Vec<&'a [u8]>,
     first: &[u8],
@@ -164,7 +164,7 @@ fn entry_names<'a>(
     Ok(names)
 }
 
-// Puts the word behind this one, where this is `first`.
+// Appends the word after this one, if this is `first`.
 fn push_behind<'a>(
     names: &mut Vec<&'a [u8]>,
     first: &[u8],
@@ -181,7 +181,7 @@ fn push_behind<'a>(
     Ok(())
 }
 
-// The words that stand directly behind this one.
+// The words directly after this one.
 fn words_behind<'a>(
     alloc: Global,
     words: &[&'a [u8]],
@@ -196,7 +196,7 @@ fn words_behind<'a>(
     Ok(names)
 }
 
-// The entry of this record type begins with a word, and then has these.
+// The entry of this record type begins with a word, followed by these.
 fn begins_type(word: &[u8], more: &[&[u8]], rtype: &[u8]) -> bool
     ensures { result ≡ begins_type rtype.now word.now (map (λ word. word.now) more.now) }
 {
@@ -234,7 +234,7 @@ fn up_to_label<'a, 'b>(words: &'b [&'a [u8]]) -> &'b [&'a [u8]]
     &words[..count_to_label(words)]
 }
 
-// The words of the entry of this record type, behind its label and up to the next.
+// The words of the entry of this record type, after its label and up to the next.
 fn type_entry<'a, 'b>(words: &'b [&'a [u8]], rtype: &[u8]) -> &'b [&'a [u8]]
     ensures { map (λ word. word.now) result.now ≡ type_entry rtype.now (map (λ word. word.now) words.now) }
 {
@@ -255,7 +255,7 @@ fn last_of<'a>(words: &[&'a [u8]]) -> &'a [u8]
     }
 }
 
-/// The record type of which an item is wanted behind these words: behind KEY that of the last member, else the last that is declared.
+/// The record type of which an item is wanted after these words: after KEY that of the last member, otherwise the last one declared.
 pub fn type_wanted<'a>(alloc: Global, front: &[&'a [u8]]) -> Result<&'a [u8], AllocError>
     ensures { IfOk result (λ rtype. rtype.now ≡ type_wanted (map (λ word. word.now) front.now)) }
 {
@@ -267,7 +267,7 @@ pub fn type_wanted<'a>(alloc: Global, front: &[&'a [u8]]) -> Result<&'a [u8], Al
     Ok(last_of(types.as_slice()))
 }
 
-/// The names that a fault of this number in a schema's text asks for, by the words of the text and those in front of the fault.
+/// The names that a fault with this number in a schema's text asks for, given the words of the text and those before the fault.
 pub fn names_in<'a>(
     alloc: Global,
     number: u8,

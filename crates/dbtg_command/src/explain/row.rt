@@ -1,4 +1,4 @@
-//! The tables of texts: a row is a line, its fields stand between bars, and the first of them is a code.
+//! Tables as texts: a row is a line, its fields are separated by bars, and the first of them is a code.
 ghost use Rattle.std.specs.Prelude.{◌≡◌, ◌==◌, ◌<◌, ◌++◌, ◌∷◌, [], IfSome, MatchOption, OnOk, length, map, option_map};
 ghost use Rattle.dbtg_script.specs.Lines.{lines};
 ghost use Rattle.dbtg_command.specs.Explaining.{code_in, field, filled, part_for, row_of};
@@ -7,7 +7,7 @@ ghost use Rattle.dbtg_command.specs.FaultyWord.{behind_all};
 use dbtg_script::{behind, in_front, number};
 use std::alloc::AllocError;
 
-/// What is left behind so many c, nothing where there are fewer.
+/// What follows this many c; nothing if there are fewer.
 pub fn behind_all(text: &[u8], c: u8, count: usize) -> &[u8]
     ensures { result.now ≡ behind_all c count text.now }
 {
@@ -18,7 +18,7 @@ pub fn behind_all(text: &[u8], c: u8, count: usize) -> &[u8]
     rest
 }
 
-/// The field of this number, from 0, and nothing where the row has fewer.
+/// The field with this number, from 0; nothing if the row has fewer.
 pub fn field(row: &[u8], number: usize) -> &[u8]
     ensures { result.now ≡ field number row.now }
 {
@@ -31,7 +31,7 @@ fn has_code(row: &[u8], code: u16) -> bool
     number(in_front(row, b'|')) == code as u64
 }
 
-/// The first row of a table, and the table behind it.
+/// The first row of a table, and the rest of the table.
 #[tactic(auto, using(crate::proofs::Rows::no_row, crate::proofs::Rows::row_first, crate::proofs::Rows::behind_shorter))]
 pub fn next_row(table: &[u8]) -> Option<(&[u8], &[u8])>
     ensures found { MatchOption result (lines table.now ≡ []) (λ next. lines table.now ≡ next.0.now ∷ lines next.1.now) }
@@ -58,7 +58,7 @@ pub fn row_with(table: &'static str, code: u16) -> Option<&'static [u8]>
     None
 }
 
-/// Puts a form behind a text: each digit of the form stands for the part of that number.
+/// Appends a form: each digit of the form stands for the part with that number.
 pub fn push_form(out: &mut Vec<u8>, form: &[u8], parts: &[&[u8]]) -> Result<(), AllocError>
     ensures { OnOk result (out.new.items ≡ out.old.items ++ filled (map (λ part. part.now) parts.now) form.now) }
 {

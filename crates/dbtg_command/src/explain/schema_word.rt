@@ -1,4 +1,4 @@
-//! What is said of the word of a schema at which its fault is. The reader itself finds the word: it reads the text again, with each
+//! The explanation of the word of a schema at which its fault is. The reader itself finds the word: it reads the text again, with each
 //! word on a line of its own.
 ghost use Rattle.std.specs.Prelude.{◌≡◌, ◌-◌, IfOk, map, take};
 ghost use Rattle.dbtg_command.specs.Saying.{said_of_schema_name, told_schema_part};
@@ -11,10 +11,10 @@ use crate::explain::word::said_by;
 use crate::explain::{Kind, advice_for, meaning_of};
 use std::alloc::{AllocError, Global};
 
-// A longer word is not told.
+// A longer word is not shown.
 const LONGEST: usize = 480;
 
-// What is said under a fault's number: 0 is the word, 1 the record type, 2 the names that there are, 4 what to do.
+// The form for a fault's number: 0 is the word, 1 the record type, 2 the names that exist, 4 what to do.
 const FORMS: &str = "\
 4|0 is no name. 4
 6|0 is named twice
@@ -38,7 +38,7 @@ fn rows_of<'a>(alloc: Global, text: &'a [u8]) -> Result<Vec<&'a [u8]>, AllocErro
     Ok(rows)
 }
 
-// The lines in front of one, by its number from 1.
+// The lines before one, by its number from 1.
 fn rows_in_front<'a, 'b>(rows: &'b [&'a [u8]], line: u64) -> &'b [&'a [u8]]
     ensures { map (λ row. row.now) result.now ≡ take (line - 1) (map (λ row. row.now) rows.now) }
 {
@@ -46,7 +46,7 @@ fn rows_in_front<'a, 'b>(rows: &'b [&'a [u8]], line: u64) -> &'b [&'a [u8]]
     &rows[..count]
 }
 
-// No word is told of a byte that is not allowed and of a text that is too long.
+// No word is shown for a byte that is not allowed and for a text that is too long.
 fn told_schema_part(word: &[u8], number: u8) -> &[u8]
     ensures { result.now ≡ told_schema_part number word.now }
 {
@@ -57,7 +57,7 @@ fn told_schema_part(word: &[u8], number: u8) -> &[u8]
     }
 }
 
-/// What there is to say of the name, the picture or the entry that a fault of a schema's text is about; nothing where no single word is.
+/// The explanation of the name, the picture or the entry that a fault of a schema's text is about; empty if no single word is.
 pub fn said_of_schema_name(alloc: Global, text: &[u8], number: u8) -> Result<Vec<u8>, AllocError>
     ensures { IfOk result (λ out. out.items ≡ said_of_schema_name number text.now) }
 {

@@ -1,4 +1,4 @@
-//! When each refusal comes, as docs/profile/statuses.md says it.
+//! When each refusal comes, in the words of docs/profile/statuses.md.
 
 /// The four digits of a status, the statement, and when it gives that status.
 pub static STATUSES: &str = "\
@@ -6,10 +6,10 @@ pub static STATUSES: &str = "\
 0129|OPEN|The mode conflicts with that of a unit that has the area open.
 0201|CLOSE|This unit has not opened the area.
 0301|FIND|An area that this form of FIND uses is not open by this unit.
-0306|FIND|The current is null from which this form of FIND starts: of the set, the record type or the area.
+0306|FIND|The current from which this form of FIND starts is null: of the set, the record type or the area.
 0307|FIND|There is no such member of the set, no such key in the area, or no further duplicate.
 0313|FIND|FIND CURRENT OF RUN-UNIT alone: the current of run-unit is null.
-0317|FIND|The record is deleted from which this form of FIND starts: the current, or the owner in the current of the set.
+0317|FIND|The record from which this form of FIND starts is deleted: the current, or the owner in the current of the set.
 0323|FIND|NEXT and PRIOR in a set alone: the record at the position is no longer in that owner's list.
 0326|FIND|FIND KEY: no live record has the key, or its number is above the capacity. FIND CALC, FIND SORTED: no live record, or no member, has the values.
 0401|GET|The area of the current of run-unit is not open by this unit.

@@ -1,4 +1,4 @@
-//! What is said of the word that a fault of a script's line is about.
+//! The explanation of the word that a fault of a script's line is about.
 ghost use Rattle.std.specs.Prelude.{◌≡◌, ◌++◌, ◌∷◌, [], false, IfOk, map, option_map, unwrap_or};
 ghost use Rattle.dbtg_script.specs.Tokens.{tokens, view};
 ghost use Rattle.dbtg_command.specs.Saying.{faulty_text, form_for, is_find, said_by, said_of_name, told_part, type_token, written};
@@ -10,7 +10,7 @@ use dbtg_schema::Schema;
 use dbtg_script::{Token, Tokens, faulty_word, in_front};
 use std::alloc::{AllocError, Global};
 
-// What is said under a fault's number: 0 is the word, 1 the record type, 2 the names that there are.
+// The form for a fault's number: 0 is the word, 1 the record type, 2 the names that exist.
 const FORMS: &str = "\
 4|0 is no area (areas: 2)
 5|0 is no record type (record types: 2)
@@ -18,8 +18,8 @@ const FORMS: &str = "\
 7|0 is no item of 1 (items: 2)
 8|0 is named twice";
 
-// What is said of a word: the form for a fault of this number with these parts, of which 0 is the word and 3 what the fault means;
-// nothing of no word.
+// The explanation of a word: the form for a fault with this number with these parts, of which 0 is the word and 3 the meaning of the fault;
+// empty if there is no word.
 pub fn said_by(
     alloc: Global,
     forms: &'static str,
@@ -36,7 +36,7 @@ pub fn said_by(
     Ok(out)
 }
 
-// The form for a fault of this number.
+// The form for a fault with this number.
 fn form_for(forms: &'static str, number: u8) -> &'static [u8]
     ensures { result.now ≡ form_for number forms.now }
 {
@@ -92,7 +92,7 @@ fn is_find(token: Token) -> bool
     }
 }
 
-// The record type whose items a line names: its second word, and the third behind FIND CALC.
+// The record type whose items a line names: its second word, and the third after FIND CALC.
 fn type_token(line: &[u8]) -> Option<Token>
     ensures { option_map view result ≡ type_token (tokens false line.now) }
 {
@@ -117,7 +117,7 @@ fn told_part(text: &[u8], number: u8) -> &[u8]
     }
 }
 
-/// What there is to say of the name, the value or the key that a fault of a line is about; nothing where no single word is.
+/// The explanation of the name, the value or the key that a fault of a line is about; empty if no single word is.
 pub fn said_of_name(
     alloc: Global,
     schema: &Schema,

@@ -1,4 +1,4 @@
--- What a session of the shell keeps, its scripts and their lines, what a line does to them, and the page of a refusal.
+-- What a session of the shell keeps: its scripts and their lines, what a line does to them, and the page of a refusal.
 use Rattle.std.specs.Prelude.{ℕ, ◌≡◌, ◌+◌, ◌≤◌, ◌<◌, ◌∷◌, ◌++◌, Bool, true, false, List, [], length, map, None, reverse, Some, slice_get, ◌==◌, codes, if◌then◌else◌}
 use Rattle.dbtg_schema.specs.Lists.{Lists}
 use Rattle.dbtg_schema.specs.Lookups.{first}
@@ -32,8 +32,8 @@ pub record IsLastLine (schema : Lists) (text : List ℕ) (begin : ℕ) (e : Entr
   pub begins : begin ≡ length front
   pub says : line_statement schema (trimmed line) ≡ Some e.statement
 
--- where its lines begin, and the entries whose statements they say, both from the last one back: what stands in front of a line is the
--- script of the entries in front of its own
+-- where its lines begin, and the entries whose statements they say, both from the last one back: what comes before a line is the
+-- script of the entries before its own
 abbrev pub HasGrown : Lists → List ℕ → List ℕ → List Entry → Type 0
 HasGrown schema text [] [] = text ≡ []
 HasGrown schema text (b ∷ bs) (e ∷ es) =
@@ -55,11 +55,11 @@ pub record IsSession (schema : Lists) (capacity : ℕ) (making : Making) (script
   pub counted : is_count making.units ≡ true
   pub each : (k : ℕ) (one : Script) → slice_get scripts k ≡ Some one → IsOwnScript schema one (entries_of (k + 1) making.history)
 
--- a history goes on from these entries
+-- a history begins with these entries
 abbrev pub BeginsHistory : Lists → ℕ → ℕ → List Entry → Type 0
 BeginsHistory schema capacity units entries = (rest : List Entry) × IsHistoryOf schema capacity units (entries ++ rest)
 
--- the line stands behind the script, which says one statement more
+-- the line is appended to the script, which says one statement more
 pub record HasEntered (old : Script) (line : List ℕ) (new : Script) : Type 0 where
   pub text : new.text.items ≡ old.text.items ++ line ++ 10 ∷ []
   pub begins : new.begins.items ≡ old.begins.items ++ length old.text.items ∷ []
@@ -69,7 +69,7 @@ pub record IsAsBefore (old new : Script) : Type 0 where
   pub text : new.text.items ≡ old.text.items
   pub begins : new.begins.items ≡ old.begins.items
 
--- the statement of a line that has no fault behind the script is made whole by unit u, and the line is entered
+-- the statement of a line that has no fault after the script is made whole by unit u, and the line is entered
 pub record HasMadeLine (schema : Lists) (old : Making) (one : Script) (u : ℕ) (line : List ℕ) (new : Making) (next : Script) : Type 0 where
   pub statement : Statement
   pub says : line_statement schema (trimmed line) ≡ Some statement
@@ -78,7 +78,7 @@ pub record HasMadeLine (schema : Lists) (old : Making) (one : Script) (u : ℕ) 
   pub made : HasMade old u statement new
   pub entered : HasEntered one line next
 
--- so it is where the line holds a statement; else all is as it was
+-- true: the line holds a statement, which was made; false: it holds none, and nothing changed
 abbrev pub MakesLine : Lists → Making → Script → ℕ → List ℕ → Bool → Making → Script → Type 0
 MakesLine schema old one u line true new next = HasMadeLine schema old one u line new next
 MakesLine schema old one u line false new next = (new ≡ old) × IsAsBefore one next × (line_statement schema (trimmed line) ≡ None)

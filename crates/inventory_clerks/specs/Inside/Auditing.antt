@@ -7,7 +7,7 @@ use Rattle.dbtg_unit.specs.Database.State.Image.{Image}
 use Rattle.dbtg_step.specs.Core.Audit.{LeadsTo}
 use Rattle.dbtg_script.specs.Printing.Texts.{image_text, units_text}
 
--- records, lists and usage, and behind them the units
+-- records, lists and usage, and after them the units
 abbrev pub text_of : Lists → Image → List Unit → List ℕ
 text_of schema image units = image_text schema image.records image.lists image.next image.usage ++ units_text schema units
 

@@ -1,7 +1,11 @@
 use Rattle.std.proofs.Common.{◌≡◌, ◌++◌, ℕ, List, take}
-use Rattle.std.specs.Prelude.{option_map}
+use Rattle.dbtg.specs.Inside.Listing.{IsFront}
 use Rattle.dbtg.specs.Listing.{AreResultTexts, summary_text}
 use Rattle.dbtg.proofs.outcomes.outcomes_text.Given as goal
 
 abbrev pub invariant-loop-one : goal.invariant-loop-one
-invariant-loop-one l = record { number : l.number ≡ l.one-index; told : (texts : List ℕ) × (l.out.items ≡ summary_text l.all ++ texts) × AreResultTexts l.meeting (option_map (λ text. text.now) l.showing.first) 1 (take l.one-index l.all.results.items) texts }
+invariant-loop-one l = record {
+  number : l.number ≡ l.one-index;
+  front : IsFront l.meeting l.showing.front;
+  told : (texts : List ℕ) × (l.out.items ≡ summary_text l.all ++ texts) × AreResultTexts l.meeting l.initial.showing.before l.showing.before 1 (take l.one-index l.all.results.items) texts;
+}

@@ -1,5 +1,4 @@
 use Rattle.std.proofs.Common.{ℕ, List, subst}
-use Rattle.std.specs.Prelude.{option_map}
 use Rattle.std.proofs.lemmas.Result.{IfErr-weaker, IfOk-weaker}
 use Rattle.dbtg_unit.specs.declared.statement.Statement.{Statement}
 use Rattle.dbtg_step.specs.Core.Turns.{AreGiven, IsRunByTurns}
@@ -17,7 +16,7 @@ returns-clause-done c =
     let own = subst (λ (n : Meeting). IsRunByTurns n.schema n.capacity n.scripts one.turns turned.moves c.in_ok-turned.turned.run) c.meeting.view_is run in
     IfOk-weaker c.push_made-pushed.result _ _ (λ _ made.
     let given = subst (AreGiven 1000000 turned.moves) made.1 turned.given_moves in
-    result_told c.args.meeting.now one turned.moves c.in_ok-turned.turned.run own (option_map (λ text. text.now) c.args.showing.first) c.args.showing.front c.args.number made.0 c.args.out.now.items c.push_made-pushed.new.out.items c.requires.front given.0 given.1 made.2) c.push_made-pushed.ensures.done
+    result_told c.args.meeting.now one turned.moves c.in_ok-turned.turned.run own c.args.showing.now c.push_made-pushed.new.showing c.args.number made.0 c.args.out.now.items c.push_made-pushed.new.out.items c.requires.front given.0 given.1 made.2 made.3) c.push_made-pushed.ensures.done
 
 pub returns-clause-refused : goal.returns-clause-refused
 returns-clause-refused c =

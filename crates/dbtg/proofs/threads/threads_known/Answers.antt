@@ -4,6 +4,7 @@ use Rattle.dbtg.proofs.threads.threads_known.Goals as goal
 
 pub returns-clause-done : goal.returns-clause-done
 returns-clause-done g c =
-    let read = c.in_ok-scripts.ensures.read in
-    let same = c.as_slice.ensures ∙ read.1 in
-    runs_on_threads _ c.args.known.now _ c.args.first c.args.capacity _ _ c.requires.counted c.requires.read read.0 (rw (sym same) c.in_ok-threads_text.ensures)
+    let read = c.in_ok-statements.ensures.read in
+    let same = c.as_slice-scripts.ensures ∙ read.1 in
+    let shown = c.as_slice.ensures ∙ read.2 in
+    runs_on_threads _ c.args.known.now _ c.args.first c.args.form c.args.capacity _ _ c.requires.counted c.requires.read read.0 (rw (sym same, sym shown) c.in_ok-threads_text.ensures)

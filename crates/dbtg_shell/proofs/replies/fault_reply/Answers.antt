@@ -2,7 +2,7 @@ use Rattle.std.proofs.Common.{◌∙◌, ℕ, ap}
 use Rattle.std.proofs.lemmas.Result.{IfOk-weaker}
 use Rattle.dbtg_command.specs.FaultyWord.{line_at}
 use Rattle.dbtg_command.specs.Misfits.{said_of_word}
-use Rattle.dbtg_shell.specs.Sessions.{IsFaultText}
+use Rattle.dbtg_shell.specs.Replies.{IsFaultText}
 use Rattle.dbtg_shell.proofs.replies.fault_reply.Goals as goal
 
 pub returns : goal.returns

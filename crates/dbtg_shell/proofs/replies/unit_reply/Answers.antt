@@ -4,7 +4,7 @@ use Rattle.std.proofs.lemmas.Option.{slice_get_read}
 use Rattle.std.proofs.lemmas.Result.{IfOk-weaker}
 use Rattle.dbtg_unit.specs.Database.State.Image.{image_of}
 use Rattle.dbtg_step.specs.Core.Whole.{state_now}
-use Rattle.dbtg_shell.specs.Inside.UnitWords.{unit_said, unit_words}
+use Rattle.dbtg_shell.specs.UnitWords.{unit_said, unit_words}
 use Rattle.dbtg_shell.proofs.replies.unit_reply.Goals as goal
 
 pub returns : goal.returns

@@ -1,4 +1,4 @@
-use Rattle.std.proofs.Common.{ℕ, refl, subst}
+use Rattle.std.proofs.Common.{ℕ, refl, subst, sym}
 use Rattle.dbtg_shell.proofs.ShellReplies.{without_unit}
 use Rattle.dbtg_shell.specs.Sessions.{TakesLine}
 use Rattle.dbtg_shell.proofs.commands.Shell.make_for.Goals as goal
@@ -8,4 +8,4 @@ returns-in-Some-clause-taken c =
     subst (λ (u : ℕ). TakesLine u c.args.self.now.session c.args.line.now c.make_line.result c.make_line.new.self.session) c.in-Some.ensures.named c.make_line.ensures.taken
 
 pub returns-in-None-clause-taken : goal.returns-in-None-clause-taken
-returns-in-None-clause-taken c = without_unit c.args.unit c.args.self.now.session c.args.self.now.session c.args.line.now c.no_unit.result refl c.in-None.ensures.missing c.no_unit.ensures
+returns-in-None-clause-taken c = without_unit c.args.unit c.args.self.now.session c.args.self.now.session c.args.line.now c.no_unit.result refl (sym c.in-None.ensures.found) c.no_unit.ensures

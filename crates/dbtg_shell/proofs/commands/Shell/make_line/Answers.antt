@@ -1,6 +1,7 @@
 use Rattle.std.proofs.Common.{◌∙◌, Bool, IfOk, inl, inr, sym, subst}
 use Rattle.dbtg_shell.proofs.ShellReplies.{with_fault}
-use Rattle.dbtg_shell.specs.Sessions.{HasTyped, IsFaultText, IsLastAnswer, IsText, MayBeText, Takes, Typed}
+use Rattle.dbtg_shell.specs.Replies.{IsFaultText}
+use Rattle.dbtg_shell.specs.Sessions.{HasTyped, IsLastAnswer, IsText, MayBeText, Takes, Typed}
 use Rattle.dbtg_shell.proofs.commands.Shell.make_line.Goals as goal
 
 pub returns-in-Ok-false-clause-taken : goal.returns-in-Ok-false-clause-taken

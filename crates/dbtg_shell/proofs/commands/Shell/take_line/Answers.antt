@@ -4,7 +4,7 @@ use Rattle.dbtg_shell.proofs.commands.Shell.take_line.Goals as goal
 
 pub returns-in-Command : goal.returns-in-Command
 returns-in-Command c =
-    answered c.args.line.now c.args.self.now.turn c.carry_out.new.self.turn c.args.self.now.session c.carry_out.new.self.session c.carry_out.result c.read_asked.result _ c.read_asked.ensures c.in-Command.is c.carry_out.ensures.done c.carry_out.ensures.turn c.carry_out.ensures.kept
+    answered c.args.line.now c.args.self.now.turn c.carry_out.new.self.turn c.args.self.now.session c.carry_out.new.self.session c.carry_out.result c.read_asked.result _ c.read_asked.ensures c.in-Command.is (c.carry_out.ensures.done, c.carry_out.ensures.shown) c.carry_out.ensures.turn c.carry_out.ensures.kept
 
 pub returns-in-Statement : goal.returns-in-Statement
 returns-in-Statement c =

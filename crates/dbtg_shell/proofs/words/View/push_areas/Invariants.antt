@@ -1,5 +1,5 @@
 use Rattle.std.proofs.Common.{◌≡◌, ◌++◌, drop}
-use Rattle.dbtg_shell.specs.Inside.UnitWords.{area_lines}
+use Rattle.dbtg_shell.specs.UnitWords.{area_lines}
 use Rattle.dbtg_shell.proofs.words.View.push_areas.Given as goal
 
 abbrev pub invariant-loop-i : goal.invariant-loop-i

@@ -1,6 +1,6 @@
 use Rattle.std.proofs.Common.{◌≡◌, ◌++◌, take}
 use Rattle.std.specs.List.{flat_map}
-use Rattle.dbtg_shell.specs.Inside.UnitWords.{kept_line}
+use Rattle.dbtg_shell.specs.UnitWords.{kept_line}
 use Rattle.dbtg_shell.proofs.words.View.push_each_kept.Given as goal
 
 abbrev pub invariant-loop-one : goal.invariant-loop-one

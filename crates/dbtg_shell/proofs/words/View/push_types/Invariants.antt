@@ -1,5 +1,5 @@
 use Rattle.std.proofs.Common.{◌≡◌, ◌++◌, drop}
-use Rattle.dbtg_shell.specs.Inside.UnitWords.{type_lines}
+use Rattle.dbtg_shell.specs.UnitWords.{type_lines}
 use Rattle.dbtg_shell.proofs.words.View.push_types.Given as goal
 
 abbrev pub invariant-loop-i : goal.invariant-loop-i

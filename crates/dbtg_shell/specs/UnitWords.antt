@@ -1,4 +1,4 @@
--- What is current of a unit, in words, a line each; beside the image of the database, which says what became of it.
+-- What is current of a unit, in words, a line each, given the image of the database, which says whether it is still there.
 -- k is a key, o an owner, s a set, v a version.
 use Rattle.std.specs.Prelude.{ℕ, ◌+◌, ◌-◌, ◌/◌, ◌%◌, ◌==◌, ◌&&◌, List, [], ◌∷◌, ◌++◌, Option, Some, None, if◌then◌else◌, length, option_map, unwrap_or, slice_get, decimal, codes}
 use Rattle.std.specs.List.{find, flat_map, list_any, position_from}
@@ -47,7 +47,7 @@ ordinal_end n =
 abbrev pub ordinal : ℕ → List ℕ
 ordinal n = decimal n ++ ordinal_end n
 
--- the members in the list of owner o of set s, none where there is no such list
+-- the members in the list of owner o of set s; none if there is no such list
 abbrev pub list_of : Image → ℕ → Owner → Option (List DbKey)
 list_of image s o = option_map (λ l. l.1) (find (λ l. owner_eq o l.0) (unwrap_or (slice_get image.lists s) []))
 
@@ -60,7 +60,7 @@ abbrev pub list_words : Option (List DbKey) → List ℕ
 list_words None = codes "no list"
 list_words (Some list) = many_words (length list)
 
--- the how many-th of how many it is, or that it is no longer among them
+-- which of how many it is, or that it is no longer among them
 abbrev pub among_words : Option ℕ → ℕ → List ℕ
 among_words None many = codes ", position lost: it is not in the list of "
 among_words (Some i) many = codes ", " ++ ordinal i ++ codes " of " ++ decimal many ++ codes " in the list of "
@@ -70,7 +70,7 @@ abbrev pub member_words : DbKey → Option (List DbKey) → List ℕ
 member_words k None = codes ", position lost: there is no list of "
 member_words k (Some list) = among_words (position_from (key_eq k) 1 list) (length list)
 
--- where a unit is that is at the owner or at a member
+-- where a unit is: at the owner or at a member
 abbrev pub at_words : Lists → Image → ℕ → Owner → Option DbKey → List ℕ
 at_words schema image s o None = owner_words schema image o ++ codes ", the owner of " ++ list_words (list_of image s o)
 at_words schema image s o (Some k) = key_words schema image k ++ member_words k (list_of image s o) ++ owner_words schema image o
@@ -95,7 +95,7 @@ kept_words schema image e =
 
 -- ---- lines
 
--- what it is, its name, and what is said of it
+-- a line: what it is about, its name, and what is said of it
 abbrev pub line_of : List ℕ → List ℕ → List ℕ → List ℕ
 line_of what name words = what ++ name ++ codes ": " ++ words ++ 10 ∷ []
 
@@ -105,7 +105,7 @@ type_lines schema image unit t [] = []
 type_lines schema image unit t (r ∷ rs) =
     line_of (codes "record ") r.name (current_words schema image (at unit.currency.types t)) ++ type_lines schema image unit (t + 1) rs
 
--- the sets from number s on. A SYSTEM set of which nothing is current yet stands at SYSTEM
+-- the sets from number s on. A SYSTEM set without a current is at SYSTEM
 abbrev pub set_lines : Lists → Image → Unit → ℕ → List SetType → List ℕ
 set_lines schema image unit s [] = []
 set_lines schema image unit s (set ∷ sets) =
@@ -122,7 +122,7 @@ area_lines schema image unit a (area ∷ areas) =
 abbrev pub kept_line : Lists → Image → DbKey × ℕ → List ℕ
 kept_line schema image e = line_of (codes "kept") [] (kept_words schema image e)
 
--- or that nothing is
+-- the same; or that nothing is
 abbrev pub kept_lines : Lists → Image → List (DbKey × ℕ) → List ℕ
 kept_lines schema image [] = line_of (codes "kept") [] (codes "nothing")
 kept_lines schema image (e ∷ es) = flat_map (kept_line schema image) (e ∷ es)
