@@ -1,6 +1,7 @@
 //! Explores programs that meet, as a caller does, with memory to spare. That a way round is found where there is one no contract says.
 
 use dbtg_explore::{Explored, Meeting, explore};
+use dbtg_outcomes::Unwatched;
 use dbtg_program::{End, read_program};
 use dbtg_schema::Schema;
 use std::test::*;
@@ -38,7 +39,7 @@ fn explored(rt: &HostRuntime, texts: &[&[u8]], limit: usize) -> Option<Explored>
         begun: &[],
         last_waits: false,
     };
-    explore(rt.alloc(), &meeting, limit).ok()
+    explore(rt.alloc(), &Unwatched, &meeting, limit).ok()
 }
 
 // Unit 2 tries for ever where unit 1 was first; unit 1 is refused where unit 2 was, and has ended.

@@ -57,7 +57,7 @@ impl Chance {
         (self.state >> 33) as usize % count
     }
 
-    // Both areas are opened, and then so many statements are drawn.
+    // Both areas are opened, and then this many statements are drawn.
     fn script(&mut self, alloc: Global, schema: &Schema) -> Option<Row<Statement>> {
         let mut text = Vec::new(alloc);
         text.extend_from_slice(OPENS).ok()?;

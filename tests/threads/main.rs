@@ -29,7 +29,7 @@ const MEETINGS: usize = 10;
 // The status where there was no memory for the command's words.
 const UNREAD: u8 = 3;
 
-// The runs of so many units, and a line that counts them. A run is known again by its place: the scripts are the same each time.
+// The runs of this many units, and a line that counts them. A run is known again by its place: the scripts are the same each time.
 fn run_so_many<R: Threads + Wait + Sync>(rt: &HostRuntime, threads: &R, units: u8, runs: usize) -> Option<()> {
     let mut chance = Chance::of(1971 + units as u64);
     let mut sound = 0;

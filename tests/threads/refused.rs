@@ -176,7 +176,7 @@ fn in_turn(rt: &HostRuntime) -> Option<Vec<u8>> {
     twice(rt, "image_text", &|| -> Result<Vec<u8>, AllocError> { ended_text(rt.alloc(), &settled) })
 }
 
-// What stands behind so many lines.
+// What follows this many lines.
 fn behind(text: &[u8], lines: usize) -> Option<&[u8]> {
     let mut rest = text;
     for _ in 0..lines {

@@ -3,7 +3,7 @@
 use super::answer;
 use std::test::*;
 
-/// A piece, so many times.
+/// A piece, repeated.
 fn repeated(rt: &HostRuntime, piece: &[u8], times: usize) -> Option<Vec<u8>> {
     let mut text = Vec::new(rt.alloc());
     for _ in 0..times {
@@ -12,7 +12,7 @@ fn repeated(rt: &HostRuntime, piece: &[u8], times: usize) -> Option<Vec<u8>> {
     Some(text)
 }
 
-/// The answer of a text that is a piece, so many times.
+/// The answer of a text that is a piece, repeated.
 fn answer_of(rt: &HostRuntime, piece: &[u8], times: usize) -> (u8, u64) {
     match repeated(rt, piece, times) {
         Some(text) => answer(rt, text.as_slice()),
@@ -38,7 +38,7 @@ fn bytes_are_counted(rt: HostRuntime) {
     assert_eq!(rt; answer_of(&rt, b"\xff\x00\x80\n", 1000), (1, 1));
 }
 
-/// 01 and a name of two letters, for each of so many.
+/// 01 and a name of two letters, this many times.
 fn counters(rt: &HostRuntime, times: usize) -> Option<Vec<u8>> {
     let mut text = Vec::new(rt.alloc());
     for i in 0..times {

@@ -132,7 +132,7 @@ fn a_unit_goes_on_in_another_area(rt: HostRuntime) {
     assert_eq!(rt; beside_a_delete(rt.alloc(), b"STORE CRATE N = 2\n"), Some((false, true)));
 }
 
-// What becomes of the first unit's REMOVE with so many tries, made as often as is said. Its guess of the owner is wrong at first, since
+// What becomes of the first unit's REMOVE with this many tries, made as often as is said. Its guess of the owner is wrong at first, since
 // the second unit has moved the item.
 fn removes(alloc: Global, tries: u32, count: usize) -> Option<Outcome> {
     let (db, mut first, _) = begun(alloc, MOVE)?;
@@ -185,7 +185,7 @@ impl Gate for Hold {
     }
 }
 
-// Whether both are done: the first unit's REMOVE, held at its ticket, and the second's DELETE with so many tries, which wants its areas.
+// Whether both are done: the first unit's REMOVE, held at its ticket, and the second's DELETE with this many tries, which wants its areas.
 fn both_done<R: Threads + Sync>(rt: &R, alloc: Global, tries: u32) -> Option<(bool, bool)> {
     let (db, first, second) = begun(alloc, SECOND)?;
     let (remove, delete) = (script(alloc, &db, REMOVE)?, script(alloc, &db, DELETE)?);

@@ -67,7 +67,7 @@ impl Gate for Turnstile {
     }
 }
 
-// A database on SHOP with so many units.
+// A database on SHOP with this many units.
 pub fn made(alloc: Global, units: u8) -> Option<(Database, Vec<RunUnit>)> {
     Database::make(alloc, Schema::read(alloc, SHOP).ok()?, 10, units).ok()
 }

@@ -8,7 +8,7 @@ use std::alloc::Global;
 use std::cell::{Cell, RefCell};
 use std::test::*;
 
-// Makes the statements of a script with so many tries each; how many were done with status 0000.
+// Makes the statements of a script with this many tries each; how many were done with status 0000.
 fn make_all(alloc: Global, db: &Database, unit: &mut RunUnit, text: &[u8], tries: u32) -> Option<usize> {
     let mut done = 0;
     for statement in &script(alloc, db, text)? {
