@@ -16,7 +16,7 @@ use Rattle.dbtg_command.specs.declared.order.Order.TheVariants.{Moves, Turns}
 use Rattle.dbtg_replay.specs.Ordering.{StandFor}
 use Rattle.dbtg_command.specs.Refusals.{moves_in, schema_in, turns_in}
 use Rattle.dbtg_replay.specs.declared.replay.AnswerForm.{AnswerForm}
-use Rattle.dbtg_replay.specs.declared.replay.AnswerForm.TheVariants.{Plain, Echo, Trace}
+use Rattle.dbtg_replay.specs.declared.replay.AnswerForm.TheVariants.{Plain, Echo, Explained, Trace}
 use Rattle.dbtg_replay.specs.Replaying.{IsReplay, MovedIs, shown_text}
 use Rattle.dbtg_replay.proofs.UnitEntries.{same_history}
 
@@ -24,6 +24,7 @@ use Rattle.dbtg_replay.proofs.UnitEntries.{same_history}
 shown_alike : (lists : Lists) (form : AnswerForm) (texts : List (List ℕ)) (a b : Run) → a.history ≡ b.history → a.image ≡ b.image → a.units ≡ b.units → shown_text lists form texts a ≡ shown_text lists form texts b
 shown_alike lists Plain texts a b h m u = λ i. shown_text lists Plain texts (record a { history = h i; image = m i; units = u i })
 shown_alike lists Echo texts a b h m u = λ i. shown_text lists Echo texts (record a { history = h i; image = m i; units = u i })
+shown_alike lists (Explained capacity) texts a b h m u = λ i. shown_text lists (Explained capacity) texts (record a { history = h i; image = m i; units = u i })
 shown_alike lists Trace texts a b h m u = λ i. shown_text lists Trace texts (record a { history = h i; image = m i; units = u i })
 
 pub same_text : (lists : Lists) (capacity : ℕ) (scripts : List (List Statement)) (form : AnswerForm) (texts : List (List ℕ)) (a b : Run)

@@ -12,6 +12,7 @@ ghost use Rattle.dbtg_unit.specs.Hands.Local.{Agrees};
 ghost use Rattle.dbtg_unit.specs.Hands.Making.{IsReady};
 ghost use Rattle.dbtg_unit.specs.Hands.Needs.{need};
 ghost use Rattle.dbtg_step.specs.Machine.Network.{noted_owners};
+ghost use Rattle.dbtg_step.specs.Core.Courses.{IsCourseKept};
 ghost use Rattle.dbtg_step.specs.Inside.Courses.{HasMore};
 ghost use Rattle.dbtg_step.specs.Inside.Events.{HaveRings};
 ghost use Rattle.dbtg_run.specs.Inside.Posed.{HoldsSo, turns_left};
@@ -36,10 +37,17 @@ fn is_delete(statement: &Statement) -> bool
     matches!(statement, Statement::Delete(_))
 }
 
-fn is_ready(wanted: &Need) -> bool
-    ensures { MatchBool result (wanted.now ≡ Need.Ready) (wanted.now ≢ Need.Ready) }
+fn is_ready(wanted: &Wanted) -> bool
+    ensures { MatchBool result (wanted.now.need ≡ Need.Ready) (wanted.now.need ≢ Need.Ready) }
 {
-    matches!(wanted, Need::Ready)
+    matches!(wanted.need, Need::Ready)
+}
+
+// What a unit at work needs next, and the guesses with which it goes on where its own are wrong.
+#[derive(Drop)]
+pub(crate) struct Wanted {
+    pub(crate) need: Need,
+    pub(crate) guesses: Owners,
 }
 
 // Forgets what is settled about the needs.
@@ -188,18 +196,19 @@ impl Work {
     }
 
     // Turns back: the cells go home, and the true owners are noted.
-    fn turn_back(&mut self, db: &Database, statement: &Statement)
+    fn turn_back(&mut self, db: &Database, statement: &Statement, guesses: Owners)
         requires belongs { Belongs db.now self.old }
         requires work { IsAtWork self.old }
         requires fits { fits self.old.about.schema.value statement.now ≡ true }
-        requires stale { (d : Db) → Agrees self.old.about.schema.value self.old.about.capacity d self.old.held self.old.unit → Stale ≡ need self.old.about.schema.value self.old.about.capacity d self.old.unit self.old.held statement.now }
+        requires owners { (d : Db) → Agrees self.old.about.schema.value self.old.about.capacity d self.old.held self.old.unit → guesses ≡ noted_owners self.old.about.schema.value self.old.about.capacity d self.old.unit statement.now self.old.held.guesses }
         ensures same { IsSameUnit self.old self.new }
         ensures work { IsAtWork self.new }
         ensures exclusive { self.new.exclusive ≡ self.old.exclusive }
         ensures turned { IsVain Stale self.old.held self.new.held }
         ensures noted { (d : Db) → Agrees self.old.about.schema.value self.old.about.capacity d self.old.held self.old.unit → self.new.held.guesses ≡ noted_owners self.old.about.schema.value self.old.about.capacity d self.old.unit statement.now self.old.held.guesses }
     {
-        let guesses = true_guesses(&db.schema, &self.unit, statement, &self.held);
+        // Unused here; the contract mentions it.
+        let _ = statement;
         self.put_cells(db);
         self.guess(guesses);
     }
@@ -210,24 +219,26 @@ impl Work {
         db: &Database,
         statement: &Statement,
         exclusive: bool,
-        wanted: Need,
+        wanted: Wanted,
     ) -> Result<bool, AllocError>
         requires belongs { Belongs db.now self.old }
         requires work { IsAtWork self.old }
         requires so { HoldsSo exclusive self.old.exclusive self.old.held }
         requires fits { fits self.old.about.schema.value statement.now ≡ true }
-        requires needed { (d : Db) → Agrees self.old.about.schema.value self.old.about.capacity d self.old.held self.old.unit → wanted ≡ need self.old.about.schema.value self.old.about.capacity d self.old.unit self.old.held statement.now }
-        requires some { wanted ≢ Need.Ready }
+        requires needed { (d : Db) → Agrees self.old.about.schema.value self.old.about.capacity d self.old.held self.old.unit → wanted.need ≡ need self.old.about.schema.value self.old.about.capacity d self.old.unit self.old.held statement.now }
+        requires owners { (d : Db) → wanted.need ≡ Stale → Agrees self.old.about.schema.value self.old.about.capacity d self.old.held self.old.unit → wanted.guesses ≡ noted_owners self.old.about.schema.value self.old.about.capacity d self.old.unit statement.now self.old.held.guesses }
+        requires some { wanted.need ≢ Need.Ready }
         ensures same { IsSameUnit self.old self.new }
         ensures work { IsAtWork self.new }
         ensures so { IfOk result (λ _. HoldsSo exclusive self.new.exclusive self.new.held) }
-        ensures vain { IfOk result (λ b. b ≡ false → IsVain wanted self.old.held self.new.held) }
-        ensures noted { (d : Db) → wanted ≡ Stale → Agrees self.old.about.schema.value self.old.about.capacity d self.old.held self.old.unit → self.new.held.guesses ≡ noted_owners self.old.about.schema.value self.old.about.capacity d self.old.unit statement.now self.old.held.guesses }
+        ensures vain { IfOk result (λ b. b ≡ false → IsVain wanted.need self.old.held self.new.held) }
+        ensures noted { (d : Db) → wanted.need ≡ Stale → Agrees self.old.about.schema.value self.old.about.capacity d self.old.held self.old.unit → self.new.held.guesses ≡ noted_owners self.old.about.schema.value self.old.about.capacity d self.old.unit statement.now self.old.held.guesses }
         ensures more { IfOk result (λ b. b ≡ true → HasMore self.old.held self.new.held) }
         ensures nearer { IfOk result (λ b. b ≡ true → (tries : ℕ) → turns_left self.new.about tries self.new.held < turns_left self.old.about tries self.old.held) }
         ensures alone { self.old.about.units ≡ 1 → IfOk result (λ b. KnowsBetter statement.now self.old self.new b) }
     {
-        match wanted {
+        let Wanted { need, guesses } = wanted;
+        match need {
             Need::Ready => Ok(false),
             Need::Area(area) => self.take_area(db, area, exclusive),
             Need::Take(name) => match cell_number(&db.schema, db.about.capacity, &name) {
@@ -235,10 +246,42 @@ impl Work {
                 None => unreachable!(),
             },
             Need::Stale => {
-                self.turn_back(db, statement);
+                self.turn_back(db, statement, guesses);
                 Ok(false)
             }
         }
+    }
+
+    // What the statement needs next.
+    fn wanted(
+        &self,
+        alloc: Global,
+        db: &Database,
+        statement: &Statement,
+        course: &mut Option<Course>,
+    ) -> Result<Wanted, AllocError>
+        requires belongs { Belongs db.now self.now }
+        requires work { IsAtWork self.now }
+        requires fits { fits self.now.about.schema.value statement.now ≡ true }
+        requires kept { IsCourseKept db.now.schema db.now.about.capacity self.now.held self.now.unit statement.now course.old }
+        ensures kept { IsCourseKept db.now.schema db.now.about.capacity self.now.held self.now.unit statement.now course.new }
+        ensures need { IfOk result (λ w. (d : Db) → Agrees db.now.schema db.now.about.capacity d self.now.held self.now.unit → w.need ≡ need db.now.schema db.now.about.capacity d self.now.unit self.now.held statement.now) }
+        ensures guesses { IfOk result (λ w. (d : Db) → w.need ≡ Stale → Agrees self.now.about.schema.value self.now.about.capacity d self.now.held self.now.unit → w.guesses ≡ noted_owners self.now.about.schema.value self.now.about.capacity d self.now.unit statement.now self.now.held.guesses) }
+    {
+        let need = next_need(
+            alloc,
+            &db.schema,
+            db.about.capacity,
+            &self.unit,
+            statement,
+            &self.held,
+            course,
+        )?;
+        let guesses = match need {
+            Need::Stale => true_guesses(&db.schema, &self.unit, statement, &self.held),
+            _ => Owners::none(0),
+        };
+        Ok(Wanted { need, guesses })
     }
 
     // Takes everything that the statement needs, and keeps what is settled about its needs. False if the tries are used up.
@@ -267,15 +310,7 @@ impl Work {
     {
         let exclusive = is_delete(statement);
         'needs: loop {
-            let wanted = next_need(
-                alloc,
-                &db.schema,
-                db.about.capacity,
-                &self.unit,
-                statement,
-                &self.held,
-                course,
-            )?;
+            let wanted = self.wanted(alloc, db, statement, course)?;
             if is_ready(&wanted) {
                 return Ok(true);
             }

@@ -31,7 +31,7 @@ needs-preserved-then-branch c =
       known = search rules;
       given = search rules;
       tries = search rules;
-      course = course_goes_on db.schema db.about.capacity old.held new.held old.unit new.unit c.args.statement.now c.next_need.new.course c.meet.ensures.same.unit (c.in_ok-meet.ensures.more c.if-branch.true) c.next_need.ensures.kept;
+      course = course_goes_on db.schema db.about.capacity old.held new.held old.unit new.unit c.args.statement.now c.wanted.new.course c.meet.ensures.same.unit (c.in_ok-meet.ensures.more c.if-branch.true) c.wanted.ensures.kept;
     }
 
 pub needs-preserved : goal.needs-preserved
@@ -90,7 +90,7 @@ turned_back x old new tries nearer none is (inr fresh) knows = let stale = subst
 pub returns-then-are_used_up-clause-free : goal.returns-then-are_used_up-clause-free
 returns-then-are_used_up-clause-free c ready =
     let i = c.needs.invariant in let db = c.args.db.now in
-    absurd (not_ready db.about db.schema c.needs.self c.args.statement.now c.in_ok-wanted.wanted i.belongs.about db.same i.work (i.free ready) c.in_ok-wanted.ensures.need c.if-is_ready.ensures)
+    absurd (not_ready db.about db.schema c.needs.self c.args.statement.now c.in_ok-wanted.wanted.need i.belongs.about db.same i.work (i.free ready) c.in_ok-wanted.ensures.need c.if-is_ready.ensures)
 
 pub returns-then-are_used_up-clause-alone : goal.returns-then-are_used_up-clause-alone
 returns-then-are_used_up-clause-alone c one some =

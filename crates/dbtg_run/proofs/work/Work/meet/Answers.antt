@@ -37,8 +37,8 @@ pub returns-in-Some-clause-vain : goal.returns-in-Some-clause-vain
 returns-in-Some-clause-vain c =
     ok_also c.take_cell.result _ _ (λ b took no. subst (λ wanted. IsVain wanted c.args.self.now.held c.take_cell.new.self.held) (sym c.in-Take.is) (same_without_cell b c.args.self.now.held c.take_cell.new.self.held _ took no)) c.take_cell.ensures.took
 
-pub turn_back-requires-clause-stale : goal.turn_back-requires-clause-stale
-turn_back-requires-clause-stale c d agrees = sym c.in-Stale.is ∙ c.requires.needed d agrees
+pub turn_back-requires-clause-owners : goal.turn_back-requires-clause-owners
+turn_back-requires-clause-owners c d agrees = c.requires.owners d c.in-Stale.is agrees
 
 pub returns-in-Stale-clause-vain : goal.returns-in-Stale-clause-vain
 returns-in-Stale-clause-vain c failed =
