@@ -1,5 +1,5 @@
 //! The page of a run. The core is stepped move by move; each ticket is followed by what it leads to.
-ghost use Rattle.std.specs.Prelude.{◌≡◌, ◌++◌, ◌∷◌, ◌≤◌, [], true, length, map, IfOk, OnOk, codes};
+ghost use Rattle.std.specs.Prelude.{◌≡◌, ◌++◌, ◌∷◌, ◌≤◌, [], true, length, map, if◌then◌else◌, IfOk, OnOk, codes};
 ghost use Rattle.std.specs.List.{flat_map};
 ghost use Rattle.dbtg_schema.specs.Sound.{IsSound};
 ghost use Rattle.dbtg_script.specs.Printing.Texts.{units_text};
@@ -165,45 +165,34 @@ fn push_state(
     push_row_of_three(out, b"STATE", answer, database.as_slice(), units.as_slice())
 }
 
-fn push_newest_area(
-    out: &mut Vec<u8>,
-    known: &Known<'_>,
-    core: &Core,
-    unit: u8,
-) -> Result<(), AllocError>
-    requires { core.now.schema ≡ known.now.schema.now }
-    ensures { OnOk result (out.new.items ≡ out.old.items ++ newest_area (machine core.now) unit) }
+// The area or the cell that a unit took last.
+fn push_newest(out: &mut Vec<u8>, core: &Core, unit: u8, is_cell: bool) -> Result<(), AllocError>
+    ensures { OnOk result (out.new.items ≡ out.old.items ++ (if is_cell then newest_cell (machine core.now) unit else newest_area (machine core.now) unit)) }
 {
-    match core.newest(unit).and_then(|newest| newest.area) {
-        Some(area) => out.extend_from_slice(area_name(known.schema, area)),
-        None => Ok(()),
-    }
-}
-
-fn push_newest_cell(
-    out: &mut Vec<u8>,
-    known: &Known<'_>,
-    core: &Core,
-    unit: u8,
-) -> Result<(), AllocError>
-    requires { core.now.schema ≡ known.now.schema.now }
-    ensures { OnOk result (out.new.items ≡ out.old.items ++ newest_cell (machine core.now) unit) }
-{
-    match core.newest(unit).and_then(|newest| newest.cell) {
-        Some(cell) => push_cell(out, known.schema, cell),
-        None => Ok(()),
+    let Some(newest) = core.newest(unit) else {
+        return Ok(());
+    };
+    if is_cell {
+        match newest.cell {
+            Some(cell) => push_cell(out, core.schema(), cell),
+            None => Ok(()),
+        }
+    } else {
+        match newest.area {
+            Some(area) => out.extend_from_slice(area_name(core.schema(), area)),
+            None => Ok(()),
+        }
     }
 }
 
 // The area or the cell that an event took, or for what its unit waits.
-fn about_event(known: &Known<'_>, core: &Core, event: &Event) -> Result<Vec<u8>, AllocError>
-    requires { core.now.schema ≡ known.now.schema.now }
+fn about_event(alloc: Global, core: &Core, event: &Event) -> Result<Vec<u8>, AllocError>
     ensures { IfOk result (λ text. text.items ≡ about_event (machine core.now) event.now.unit event.now.mark event.now.below) }
 {
-    let mut text = Vec::new(known.alloc);
+    let mut text = Vec::new(alloc);
     match event.mark {
-        Mark::TakeArea => push_newest_area(&mut text, known, core, event.unit)?,
-        Mark::TakeCell => push_newest_cell(&mut text, known, core, event.unit)?,
+        Mark::TakeArea => push_newest(&mut text, core, event.unit, false)?,
+        Mark::TakeCell => push_newest(&mut text, core, event.unit, true)?,
         _ => text.extend_from_slice(event.below.as_slice())?,
     }
     Ok(text)
@@ -211,17 +200,16 @@ fn about_event(known: &Known<'_>, core: &Core, event: &Event) -> Result<Vec<u8>,
 
 #[tactic(auto, unfolding(crate::specs::Rows::event_row, crate::specs::Json::row))]
 fn push_event(
+    alloc: Global,
     out: &mut Vec<u8>,
-    known: &Known<'_>,
     core: &Core,
     event: &Event,
 ) -> Result<(), AllocError>
-    requires { core.now.schema ≡ known.now.schema.now }
     ensures { OnOk result (out.new.items ≡ out.old.items ++ event_row (machine core.now) event.now) }
 {
     let mut unit = Buffer::new();
     let mut place = Buffer::new();
-    let about = about_event(known, core, event)?;
+    let about = about_event(alloc, core, event)?;
     push_kind(out, b"EVENT")?;
     push_field(out, unit.format(event.unit).as_bytes())?;
     push_field(out, &[letter(event.mark)])?;
@@ -265,7 +253,7 @@ fn push_move(
     ensures text { OnOk result (out.new.items ≡ out.old.items ++ move_rows (machine core.old) one) }
 {
     let event = watch_move(known.alloc, core, one)?;
-    push_event(out, known, core, &event)?;
+    push_event(known.alloc, out, core, &event)?;
     push_ticket(out, known, core, event.mark)
 }
 
