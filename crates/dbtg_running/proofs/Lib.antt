@@ -1,3 +1,4 @@
 mod ProgramsRead
 mod Echoed
 pub mod Rows
+mod Shown

@@ -19,7 +19,7 @@ use Rattle.dbtg_command.specs.declared.place.TextPlace.{TextPlace}
 use Rattle.dbtg_command.specs.Refusals.{is_count}
 use Rattle.dbtg_command.specs.Sources.{ReadSchema, ReadTurns, ToldOfOrder, ToldOfSchema}
 use Rattle.dbtg_replay.specs.declared.replay.AnswerForm.{AnswerForm}
-use Rattle.dbtg_replay.specs.declared.replay.AnswerForm.TheVariants.{Trace}
+use Rattle.dbtg_replay.specs.declared.replay.AnswerForm.TheVariants.{Echo, Explained, Trace}
 use Rattle.dbtg_replay.specs.Replaying.{shown_text}
 use Rattle.dbtg_running.specs.declared.command.Printed.{Printed}
 use Rattle.dbtg_running.specs.declared.command.RunOptions.{RunOptions}
@@ -49,11 +49,16 @@ abbrev pub has_values : AnswerForm → Bool
 has_values Trace = true
 has_values _ = false
 
+-- no refusal of a program is explained, since programs ask for their statuses themselves
+abbrev pub unexplained : AnswerForm → AnswerForm
+unexplained (Explained capacity) = Echo
+unexplained form = form
+
 -- the text of a run of the programs of these texts: the answers alone, or with the statement of each beside it, as the program's text
 -- has it, or as a trace
 abbrev pub run_text : Lists → AnswerForm → List (List ℕ) → ProgramRun → List ℕ
 run_text lists form texts given =
-    shown_text lists form (scripts_made lists (has_values form) 1 texts given.run.history) given.run ++ programs_text 1 (map (program lists) texts) given.programs
+    shown_text lists (unexplained form) (scripts_made lists (has_values form) 1 texts given.run.history) given.run ++ programs_text 1 (map (program lists) texts) given.programs
 
 -- 1 to 8 programs, nothing is refused, and what is printed is the text of the run of what the texts say; it is said whether a program failed
 pub record RunsHeld (holds : TextPlace → List ℕ → Type 0) (count : ℕ) (which : OrderKind) (options : RunOptions) (printed : Printed) : Type 0 where

@@ -5,7 +5,7 @@ ghost use Rattle.dbtg_command.specs.Sources.{ReadSchema, ToldOfOrder};
 ghost use Rattle.dbtg_going.specs.Turns.{IsRunOf, turns_of};
 ghost use Rattle.dbtg_program.specs.Reading.{program};
 ghost use Rattle.dbtg_running.specs.Reading.{ReadPrograms};
-ghost use Rattle.dbtg_running.specs.Running.{ReadsTurns, RunsHeld, ToldOfRun, failed, has_values, run_text as said_text};
+ghost use Rattle.dbtg_running.specs.Running.{ReadsTurns, RunsHeld, ToldOfRun, failed, has_values, run_text as said_text, unexplained};
 ghost use Rattle.dbtg_schema.specs.Sound.{IsSound};
 ghost use Rattle.std.specs.List.{list_any};
 ghost use Rattle.std.specs.Prelude.{◌≡◌, ◌≤◌, IfErr, IfOk, length, map, true};
@@ -56,7 +56,18 @@ fn has_values(form: AnswerForm) -> bool
     matches!(form, AnswerForm::Trace)
 }
 
+// Programs ask for their statuses themselves, so an echo of theirs explains none.
+fn unexplained(form: AnswerForm) -> AnswerForm
+    ensures { result ≡ unexplained form }
+{
+    match form {
+        AnswerForm::Explained(_) => AnswerForm::Echo,
+        _ => form,
+    }
+}
+
 // The text of a run of these programs, in which each answer has its statement beside it.
+#[tactic(auto, using(crate::proofs::Shown::can_be_shown))]
 fn text_with_statements(
     alloc: Global,
     schema: &Schema,
@@ -74,7 +85,7 @@ fn text_with_statements(
     let made = scripts_made(alloc, schema, has_values(form), list, texts, history)?;
     let mut out = Vec::new(alloc);
     let shown = Shown {
-        form,
+        form: unexplained(form),
         texts: made.as_slice(),
     };
     push_given(alloc, &mut out, schema, shown, &given.run)?;
