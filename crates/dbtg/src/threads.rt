@@ -64,6 +64,10 @@ fn audited_text(
 ) -> Result<Vec<u8>, AllocError>
     ensures { IfOk result (λ out. out.items ≡ shown_text schema.now shown.entry.form shown.entry.texts.now given.now ++ audit_line) }
 {
+    if let AnswerForm::Explained(_) = shown.form {
+        // Units on threads explain no refusal: no command asks for it.
+        return Err(AllocError);
+    }
     let mut out = Vec::new(alloc);
     push_given(alloc, &mut out, schema, shown, given)?;
     out.extend_from_slice(b"AUDIT EQUAL\n")?;
