@@ -39,12 +39,13 @@ class Meeting:
 
 
 def state_of(runs):
-    """All that what comes after depends on, as words that tell states apart."""
+    """All that what comes after depends on, as words that tell states apart: all but the order in which units opened an area."""
     db = runs.machine.db
     records = [(key, it.items, it.version, sorted(it.owners.items())) for key, it in sorted(db.records.items())]
     units = [(u.run, u.records, u.areas, u.places, sorted(u.kept.items()), sorted(u.modes.items())) for u in runs.machine.units]
     programs = [(program.due(runs.schema), program.at, program.end, program.status, program.fields) for program in runs.programs]
-    return repr((records, sorted(db.lists.items()), db.generations, db.usage, units, programs))
+    users = [sorted(it) for it in db.usage]
+    return repr((records, sorted(db.lists.items()), db.generations, users, units, programs))
 
 
 def failures_of(runs):

@@ -1,4 +1,4 @@
--- What comes after a state depends on the state alone.
+-- What comes after a state depends on its essence alone.
 -- m is a meeting, u a unit, o and p are orders.
 use Rattle.std.proofs.Common.{◌≡◌, ℕ, zero, suc, ◌+◌, ◌-◌, Bool, true, false, ◌&&◌, List, [], ◌∷◌, ◌++◌, length, Option, Some, None, refl, ap, sym, ◌∙◌, slice_get, arith}
 use Rattle.std.specs.Prelude.{◌==◌, if◌then◌else◌, is_some, not, option_and_then, option_map, slice_set}
@@ -19,20 +19,22 @@ use Rattle.dbtg_going.specs.Turns as turns
 use Rattle.dbtg_going.specs.Turns.{comes, made, statement_due}
 use Rattle.dbtg_going.proofs.Turning.{state_behind}
 use Rattle.dbtg_explore.specs.Orders.{CanFollow, Meeting, after_order, after_turn, can_go_on, can_turn, due_of, history_of, IsOrder}
-use Rattle.dbtg_explore.specs.States.{MeetingState, comes_of_each, sequential_after, state_after, state_of}
+use Rattle.dbtg_outcomes.specs.Alike.{unordered}
+use Rattle.dbtg_outcomes.proofs.States.Alike.{steps_alike}
+use Rattle.dbtg_explore.specs.States.{Essence, MeetingState, comes_of_each, essence, essence_of, sequential_after, state_after, state_of}
 use Rattle.dbtg_explore.proofs.Turning.{history_on, last_can, order_on}
 
 -- WHAT A STATE SAYS
 
 -- the statement that is due in the program of unit u
-abbrev pub due_in : Meeting → MeetingState → ℕ → Option Statement
-due_in m state u = option_and_then (statement_due m.schema) (unit_at state.programs u)
+abbrev pub due_in : Meeting → List Due → ℕ → Option Statement
+due_in m dues u = option_and_then (statement_due m.schema) (unit_at dues u)
 
 -- the unit can have its turn
-abbrev pub can_turn_in : Meeting → MeetingState → ℕ → Bool
-can_turn_in m state u =
-    is_some (due_in m state u)
-    && not (m.last_waits && (u == length m.programs && list_any (λ v. is_some (due_in m state v)) (range_with_len 1 (length m.programs - 1))))
+abbrev pub can_turn_in : Meeting → List Due → ℕ → Bool
+can_turn_in m dues u =
+    is_some (due_in m dues u)
+    && not (m.last_waits && (u == length m.programs && list_any (λ v. is_some (due_in m dues v)) (range_with_len 1 (length m.programs - 1))))
 
 -- what comes of a program after this answer
 abbrev pub comes_then : Lists → Program → Answer → Due → Due
@@ -60,7 +62,7 @@ with_made m state u (Some s) = with_outcome m state u (outcome_of m.schema m.cap
 
 -- the state after a turn of unit u
 abbrev pub state_then : Meeting → MeetingState → ℕ → MeetingState
-state_then m state u = with_made m state u (due_in m state u)
+state_then m state u = with_made m state u (due_in m state.programs u)
 
 -- EACH PROGRAM
 
@@ -83,10 +85,10 @@ module _ (m : Meeting) where
   chained None f g = refl
   chained (Some x) f g = refl
 
-  pub due_is : (history : List Entry) (u : ℕ) → due_of m history u ≡ due_in m (state_after m history) u
+  pub due_is : (history : List Entry) (u : ℕ) → due_of m history u ≡ due_in m (state_after m history).programs u
   due_is history u = chained (unit_at m.programs u) (λ (p : Program). comes m.schema p u history) (statement_due m.schema) ∙ ap (option_and_then (statement_due m.schema)) (sym (comes_at history u))
 
-  pub can_turn_is : (history : List Entry) (u : ℕ) → can_turn m history u ≡ can_turn_in m (state_after m history) u
+  pub can_turn_is : (history : List Entry) (u : ℕ) → can_turn m history u ≡ can_turn_in m (state_after m history).programs u
   can_turn_is history u =
       λ i. is_some (due_is history u i) && not (m.last_waits && (u == length m.programs && list_any (λ v. is_some (due_is history v i)) (range_with_len 1 (length m.programs - 1))))
 
@@ -169,23 +171,43 @@ module _ (m : Meeting) where
     by None is = refl
     by (Some s) is = made_state history u s (due_there history u s is) (outcome_of m.schema m.capacity (sequential_after m history) u s) refl
 
-  -- EQUAL STATES GO ON ALIKE
+  -- STATES WITH THE SAME ESSENCE GO ON ALIKE
 
-  pub due_alike : (h g : List Entry) (u : ℕ) → state_after m h ≡ state_after m g → due_of m h u ≡ due_of m g u
-  due_alike h g u e = due_is h u ∙ ap (λ (s : MeetingState). due_in m s u) e ∙ sym (due_is g u)
+  -- the programs after an answer to a statement of unit u
+  abbrev programs_by : List Due → ℕ → Option Answer → List Due
+  programs_by dues u None = dues
+  programs_by dues u (Some answer) = programs_then m.schema dues u answer (unit_at m.programs u) (unit_at dues u)
 
-  pub can_turn_alike : (h g : List Entry) (u : ℕ) → state_after m h ≡ state_after m g → can_turn m h u ≡ can_turn m g u
-  can_turn_alike h g u e = can_turn_is h u ∙ ap (λ (s : MeetingState). can_turn_in m s u) e ∙ sym (can_turn_is g u)
+  essence_then : (state : MeetingState) (u : ℕ) (q : Option Outcome) → essence (with_outcome m state u q) ≡ record { sequential = unordered (after_outcome state.sequential u q); programs = programs_by state.programs u (option_map (λ (o : Outcome). o.answer) q) }
+  essence_then state u None = refl
+  essence_then state u (Some o) = refl
 
-  pub turn_alike : (h g : List Entry) (u : ℕ) → state_after m h ≡ state_after m g → state_after m (after_turn m h u) ≡ state_after m (after_turn m g u)
-  turn_alike h g u e = state_on h u ∙ ap (λ (s : MeetingState). state_then m s u) e ∙ sym (state_on g u)
+  made_alike : (x y : MeetingState) (u : ℕ) (o : Option Statement) → essence x ≡ essence y → essence (with_made m x u o) ≡ essence (with_made m y u o)
+  made_alike x y u None e = e
+  made_alike x y u (Some s) e =
+      let step = steps_alike m.schema m.capacity x.sequential y.sequential u s (ap (λ (z : Essence). z.sequential) e) in
+      essence_then x u (outcome_of m.schema m.capacity x.sequential u s)
+      ∙ (λ i. record { sequential = step.alike i; programs = programs_by (e i).programs u (step.answer i) })
+      ∙ sym (essence_then y u (outcome_of m.schema m.capacity y.sequential u s))
 
-  pub order_alike : (h g : List Entry) (us : List ℕ) → state_after m h ≡ state_after m g → state_after m (after_order m h us) ≡ state_after m (after_order m g us)
+  then_alike : (x y : MeetingState) (u : ℕ) → essence x ≡ essence y → essence (state_then m x u) ≡ essence (state_then m y u)
+  then_alike x y u e = made_alike x y u (due_in m x.programs u) e ∙ ap (λ d. essence (with_made m y u d)) (ap (λ (s : Essence). due_in m s.programs u) e)
+
+  pub due_alike : (h g : List Entry) (u : ℕ) → essence (state_after m h) ≡ essence (state_after m g) → due_of m h u ≡ due_of m g u
+  due_alike h g u e = due_is h u ∙ ap (λ (s : Essence). due_in m s.programs u) e ∙ sym (due_is g u)
+
+  pub can_turn_alike : (h g : List Entry) (u : ℕ) → essence (state_after m h) ≡ essence (state_after m g) → can_turn m h u ≡ can_turn m g u
+  can_turn_alike h g u e = can_turn_is h u ∙ ap (λ (s : Essence). can_turn_in m s.programs u) e ∙ sym (can_turn_is g u)
+
+  pub turn_alike : (h g : List Entry) (u : ℕ) → essence (state_after m h) ≡ essence (state_after m g) → essence (state_after m (after_turn m h u)) ≡ essence (state_after m (after_turn m g u))
+  turn_alike h g u e = ap essence (state_on h u) ∙ then_alike (state_after m h) (state_after m g) u e ∙ sym (ap essence (state_on g u))
+
+  pub order_alike : (h g : List Entry) (us : List ℕ) → essence (state_after m h) ≡ essence (state_after m g) → essence (state_after m (after_order m h us)) ≡ essence (state_after m (after_order m g us))
   unfolding after_order
   order_alike h g [] e = e
   order_alike h g (u ∷ us) e = order_alike (after_turn m h u) (after_turn m g u) us (turn_alike h g u e)
 
-  pub follow_alike : (h g : List Entry) (us : List ℕ) → state_after m h ≡ state_after m g → CanFollow m h us → CanFollow m g us
+  pub follow_alike : (h g : List Entry) (us : List ℕ) → essence (state_after m h) ≡ essence (state_after m g) → CanFollow m h us → CanFollow m g us
   unfolding CanFollow
   follow_alike h g [] e f = tt
   follow_alike h g (u ∷ us) e f = (sym (can_turn_alike h g u e) ∙ f.0, follow_alike (after_turn m h u) (after_turn m g u) us (turn_alike h g u e) f.1)
@@ -197,11 +219,11 @@ module _ (m : Meeting) where
   state_of_on o u = ap (state_after m) (history_on m o u) ∙ state_on (history_of m o) u
 
   -- where two orders lead to the same state, what can follow one can follow the other, and leads to the same state
-  pub order_after : (o p : List ℕ) (u : ℕ) → IsOrder m p → state_of m o ≡ state_of m p → IsOrder m (o ++ u ∷ []) → IsOrder m (p ++ u ∷ [])
+  pub order_after : (o p : List ℕ) (u : ℕ) → IsOrder m p → essence_of m o ≡ essence_of m p → IsOrder m (o ++ u ∷ []) → IsOrder m (p ++ u ∷ [])
   order_after o p u is e on = order_on m p u is (sym (can_turn_alike (history_of m o) (history_of m p) u e) ∙ last_can m o u on)
 
-  pub same_after : (o p : List ℕ) (u : ℕ) → state_of m o ≡ state_of m p → state_of m (o ++ u ∷ []) ≡ state_of m (p ++ u ∷ [])
-  same_after o p u e = state_of_on o u ∙ ap (λ (s : MeetingState). state_then m s u) e ∙ sym (state_of_on p u)
+  pub same_after : (o p : List ℕ) (u : ℕ) → essence_of m o ≡ essence_of m p → essence_of m (o ++ u ∷ []) ≡ essence_of m (p ++ u ∷ [])
+  same_after o p u e = ap essence (state_of_on o u) ∙ then_alike (state_of m o) (state_of m p) u e ∙ sym (ap essence (state_of_on p u))
 
-  pub can_go_on_alike : (h g : List Entry) (u : ℕ) → state_after m h ≡ state_after m g → can_go_on m h u ≡ can_go_on m g u
+  pub can_go_on_alike : (h g : List Entry) (u : ℕ) → essence (state_after m h) ≡ essence (state_after m g) → can_go_on m h u ≡ can_go_on m g u
   can_go_on_alike h g u e = ap is_some (due_alike h g u e)

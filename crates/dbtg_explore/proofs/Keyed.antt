@@ -1,31 +1,36 @@
--- Two states of a meeting are one where their numbers are the same.
+-- Two states of a meeting have the same essence exactly if their numbers are the same.
 -- m is a meeting, u a unit, o and p are orders.
-use Rattle.std.proofs.Common.{◌≡◌, ℕ, zero, suc, ◌+◌, Bool, true, false, List, [], ◌∷◌, ◌++◌, length, Option, Some, None, refl, ap, subst, sym, ◌∙◌, append_assoc}
+use Rattle.std.proofs.Common.{◌≡◌, ℕ, zero, suc, ◌+◌, Bool, true, false, List, [], ◌∷◌, ◌++◌, length, Option, Some, None, refl, ap, subst, sym, ◌∙◌, append_assoc, map}
 use Rattle.std.specs.Prelude.{⊤, flat_map, if◌then◌else◌, nat_lt, option_and_then}
-use Rattle.std.specs.List.{list_all}
+use Rattle.std.specs.List.{list_all, range_with_len}
 use Rattle.dbtg_schema.specs.Lists.{Lists}
 use Rattle.dbtg_unit.specs.declared.limits.TheConstants.{MOST_STATEMENTS}
 use Rattle.dbtg_unit.specs.declared.statement.Statement.{Statement}
 use Rattle.dbtg_unit.specs.declared.unit.Entry.{Entry}
-use Rattle.dbtg_unit.specs.Database.State.Image.{image_of}
-use Rattle.dbtg_unit.specs.Database.State.Legal.{Legal}
+use Rattle.dbtg_unit.specs.Database.State.Image.{Image, image_of}
 use Rattle.dbtg_unit.specs.Database.Statements.Effect.{Outcome}
 use Rattle.dbtg_unit.specs.Database.Statements.Fits.{fits}
-use Rattle.dbtg_unit.specs.Database.Laws.Replay.{entries_of, opening_state}
-use Rattle.dbtg_unit.proofs.Public.{opening_is_legal, replay_keeps_legal}
+use Rattle.dbtg_unit.specs.Database.Laws.Replay.{State, after_entry, entries_of, opening_state, outcome_of, replay}
+use Rattle.dbtg_unit.specs.Database.Laws.StaysLegal.{IsLegalState}
+use Rattle.dbtg_unit.proofs.Public.{opening_is_legal, opening_length, replay_keeps_legal}
 use Rattle.dbtg_program.specs.declared.program.End.TheVariants.{Stop, Assert, Size, Astray}
 use Rattle.dbtg_program.specs.declared.program.Program.{Program}
 use Rattle.dbtg_program.specs.States.{ProgramState}
 use Rattle.dbtg_program.specs.Going.{Due, Step, at_line, due, ended, ends, from_step, goes, line_at, line_number, makes, next, within}
 use Rattle.dbtg_step.specs.Machine.SequentialDatabase.{unit_at}
 use Rattle.dbtg_step.proofs.Public.{fits_more}
+use Rattle.dbtg_script.specs.Printing.Texts.{run_text}
+use Rattle.dbtg_going.specs.Texts.{programs_text}
 use Rattle.dbtg_going.specs.Turns as turns
 use Rattle.dbtg_going.specs.Turns.{after_turns, comes, made, statement_due, statement_of}
 use Rattle.dbtg_outcomes.specs.Inside.Spelling.{behind, image_apart, list_apart, unit_apart, value_apart}
 use Rattle.dbtg_outcomes.specs.Spelling.{Apart, image_numbers, list_numbers, unit_numbers, value_numbers}
-use Rattle.dbtg_outcomes.proofs.States.SameImages.{same_databases}
+use Rattle.dbtg_outcomes.specs.Results.{in_unit_order}
+use Rattle.dbtg_outcomes.proofs.States.Histories.{as_many}
+use Rattle.dbtg_outcomes.proofs.States.SameImages.{image_alike, same_unordered}
 use Rattle.dbtg_explore.specs.Orders.{IsMeeting, Meeting, after_order, after_turn, beginning, due_of, history_of}
-use Rattle.dbtg_explore.specs.States.{MeetingState, comes_of_each, state_after, state_of}
+use Rattle.dbtg_explore.specs.Results.{reached_of, state_text}
+use Rattle.dbtg_explore.specs.States.{Essence, MeetingState, comes_of_each, essence, essence_of, state_after, state_of}
 use Rattle.dbtg_explore.specs.Inside.Keys.{due_numbers, how_numbers, program_numbers, state_numbers}
 
 -- WHAT IS DUE
@@ -162,24 +167,45 @@ module _ (m : Meeting) where
   pub order_fits : (o : List ℕ) → AllFit (history_of m o)
   order_fits o = fit_order (beginning m) o (fit_turns [] m.begun refl)
 
-  legal : IsMeeting m → (o : List ℕ) → Legal m.schema m.capacity (state_of m o).sequential.database
-  legal meets o = (replay_keeps_legal m.schema m.capacity (opening_state m.schema (length m.programs)) (history_of m o) meets.sound (opening_is_legal m.schema m.capacity (length m.programs)) (order_fits o)).legal
+  legal : IsMeeting m → (o : List ℕ) → IsLegalState m.schema m.capacity (state_of m o).sequential
+  legal meets o = replay_keeps_legal m.schema m.capacity (opening_state m.schema (length m.programs)) (history_of m o) meets.sound (opening_is_legal m.schema m.capacity (length m.programs)) (order_fits o)
+
+  units_after : (state : State) (es : List Entry) → length (replay m.schema m.capacity state es).units ≡ length state.units
+  unfolding replay
+  units_after state [] = refl
+  units_after state (e ∷ es) = units_after (after_entry m.schema m.capacity state e) es ∙ as_many m.schema m.capacity state e.unit (outcome_of m.schema m.capacity state e.unit e.statement)
+
+  count : (o : List ℕ) → length (state_of m o).sequential.units ≡ length m.programs
+  count o = units_after (opening_state m.schema (length m.programs)) (history_of m o) ∙ opening_length m.schema (length m.programs)
 
   -- EQUAL NUMBERS, EQUAL STATES
 
-  pub same_state : IsMeeting m → (o p : List ℕ) → state_numbers m (state_of m o) ≡ state_numbers m (state_of m p) → state_of m o ≡ state_of m p
+  -- the image of a state in the order of units
+  abbrev image_in : MeetingState → Image
+  image_in s = in_unit_order (range_with_len 1 (length m.programs)) (image_of m.schema m.capacity s.sequential.database)
+
+  pub same_state : IsMeeting m → (o p : List ℕ) → state_numbers m (state_of m o) ≡ state_numbers m (state_of m p) → essence_of m o ≡ essence_of m p
   same_state meets o p e =
       let x = state_of m o in
       let y = state_of m p in
-      let image_x = image_of m.schema m.capacity x.sequential.database in
-      let image_y = image_of m.schema m.capacity y.sequential.database in
       let tail : MeetingState → List ℕ = λ s. list_numbers unit_numbers s.sequential.units ++ list_numbers due_numbers s.programs in
-      let whole : (image_numbers image_x ++ tail x) ++ [] ≡ (image_numbers image_y ++ tail y) ++ [] = ap (λ l. l ++ []) e in
-      let one = behind image_numbers image_apart image_x image_y (tail x) (tail y) [] [] whole in
+      let whole : (image_numbers (image_in x) ++ tail x) ++ [] ≡ (image_numbers (image_in y) ++ tail y) ++ [] = ap (λ l. l ++ []) e in
+      let one = behind image_numbers image_apart (image_in x) (image_in y) (tail x) (tail y) [] [] whole in
       let two = behind (list_numbers unit_numbers) (list_apart unit_numbers unit_apart) x.sequential.units y.sequential.units (list_numbers due_numbers x.programs) (list_numbers due_numbers y.programs) [] [] one.1 in
       let programs = programs_apart (history_of m o) (history_of m p) [] [] two.1 in
-      let databases = same_databases m.schema m.capacity x.sequential.database y.sequential.database (legal meets o) (legal meets p) one.0 in
-      λ i. record { sequential = record { database = databases i; units = two.0 i }; programs = programs i }
+      let alike = same_unordered m.schema m.capacity (length m.programs) x.sequential y.sequential (legal meets o) (legal meets p) (count o) (count p) one.0 two.0 in
+      λ i. record { sequential = alike i; programs = programs i }
 
-  pub same_numbers : (o p : List ℕ) → state_of m o ≡ state_of m p → state_numbers m (state_of m o) ≡ state_numbers m (state_of m p)
-  same_numbers o p e = ap (state_numbers m) e
+  image_same : (x y : MeetingState) → essence x ≡ essence y → image_in x ≡ image_in y
+  image_same x y e = image_alike m.schema m.capacity (range_with_len 1 (length m.programs)) x.sequential y.sequential (ap (λ (z : Essence). z.sequential) e)
+
+  pub same_numbers : (o p : List ℕ) → essence_of m o ≡ essence_of m p → state_numbers m (state_of m o) ≡ state_numbers m (state_of m p)
+  same_numbers o p e =
+      let image = image_same (state_of m o) (state_of m p) e in
+      λ i. image_numbers (image i) ++ (list_numbers unit_numbers (e i).sequential.units ++ list_numbers due_numbers (e i).programs)
+
+  -- and the same text
+  pub same_text : (x y : MeetingState) → essence x ≡ essence y → state_text m x ≡ state_text m y
+  same_text x y e =
+      let image = image_same x y e in
+      λ i. run_text m.schema [] (image i).records (image i).lists (image i).next (image i).usage (e i).sequential.units ++ programs_text 1 m.programs (map reached_of (e i).programs)

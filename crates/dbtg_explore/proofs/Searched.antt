@@ -48,7 +48,7 @@ pairwise_push R (x ∷ xs) y h all = (
   pairwise_push R xs y h.1 (λ z c. all z (contains_behind x xs z c)),
 )
 
--- of two places the first has the order that is before the other
+-- the order at the first of two places is before that at the other
 pub in_order_at : (xs : List (List ℕ)) (i j : ℕ) → ArePairwise IsBefore xs → i < j → j < length xs → IsBefore (get_or xs i []) (get_or xs j [])
 in_order_at [] i j h low in_range = absurd (omega arith)
 in_order_at (x ∷ xs) i zero h low in_range = absurd (omega arith)

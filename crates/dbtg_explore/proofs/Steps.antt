@@ -11,7 +11,7 @@ use Rattle.dbtg_explore.specs.Inside.Found.{FoundOrders, IsEntered, IsPut}
 use Rattle.dbtg_explore.specs.Inside.Search.{IsUnderWay}
 use Rattle.dbtg_explore.specs.Inside.Steps.{Goes, IsAt, can_follow, numbers_of}
 use Rattle.dbtg_explore.specs.Orders.{IsMeeting, IsOrder, Meeting, beginning, can_turn, history_of}
-use Rattle.dbtg_explore.specs.States.{HasMoreStates, state_of}
+use Rattle.dbtg_explore.specs.States.{HasMoreStates, essence_of}
 use Rattle.dbtg_explore.proofs.Alike.{can_turn_alike, same_after}
 use Rattle.dbtg_explore.proofs.Keyed.{same_numbers, same_state}
 use Rattle.dbtg_explore.proofs.Searched.{GoOn, at_beginning, contains_behind, contains_cases, contains_here, contains_none, known_state, new_state, next_place, no_turn}
@@ -58,7 +58,7 @@ module _ (m : Meeting) where
   pub cannot_beyond : (o : List ℕ) (u : ℕ) → length m.programs < u → can_follow m o u ≡ false
   cannot_beyond o u h = cannot_turn (history_of m o) u (none_beyond m.programs u h)
 
-  pub goes_on : GoOn (IsOrder m) (can_follow m) (state_of m)
+  pub goes_on : GoOn (IsOrder m) (can_follow m) (essence_of m)
   goes_on = record {
     first = none_follow m (beginning m);
     more = order_on m;
@@ -69,7 +69,7 @@ module _ (m : Meeting) where
   }
 
   abbrev Under : List (List ℕ) → ℕ → ℕ → Type 0
-  Under = IsUnderWay (IsOrder m) (can_follow m) (state_of m)
+  Under = IsUnderWay (IsOrder m) (can_follow m) (essence_of m)
 
   -- the first order of all
   module _ (old found : FoundOrders) (none : old ≡ record { keys = []; orders = [] }) (key : List ℕ) (is : key ≡ numbers_of m []) (first : List ℕ) (first_is : first ≡ []) (entered : IsEntered old key first found) where
@@ -87,14 +87,14 @@ module _ (m : Meeting) where
     at_first s found_is few =
         let orders : s.found.orders ≡ [] ∷ [] = ap (λ (f : FoundOrders). f.orders) found_is ∙ begins.0 in
         record {
-          under_way = subst (λ os. Under os 0 0) (sym orders) (at_beginning (IsOrder m) (can_follow m) (state_of m) goes_on);
+          under_way = subst (λ os. Under os 0 0) (sym orders) (at_beginning (IsOrder m) (can_follow m) (essence_of m) goes_on);
           keys_are = ap (λ (f : FoundOrders). f.keys) found_is ∙ begins.1 ∙ ap (map (numbers_of m)) (sym orders);
           few = let long = ap (λ (f : FoundOrders). length f.orders) found_is in omega arith;
         }
 
     pub over_first : (limit : ℕ) → limit < length found.orders → HasMoreStates m limit
     over_first limit more =
-        let way = subst (λ os. Under os 0 0) (sym begins.0) (at_beginning (IsOrder m) (can_follow m) (state_of m) goes_on) in
+        let way = subst (λ os. Under os 0 0) (sym begins.0) (at_beginning (IsOrder m) (can_follow m) (essence_of m) goes_on) in
         record { orders = found.orders; are_apart = record { are_orders = way.are_orders; apart = way.apart }; more = more }
 
   -- ONE TURN MORE
@@ -117,14 +117,14 @@ module _ (m : Meeting) where
       same_key : key ≡ numbers_of m (turned old.found.orders i u)
       same_key = key_is ∙ ap (numbers_of m) next_is
 
-      known_there : (o : List ℕ) → numbers_of m o ≡ key → state_of m o ≡ state_of m (turned old.found.orders i u)
+      known_there : (o : List ℕ) → numbers_of m o ≡ key → essence_of m o ≡ essence_of m (turned old.found.orders i u)
       known_there o e = same_state m meets o (turned old.found.orders i u) (e ∙ same_key)
 
       known_turn : Contains old.found.keys key → Turned old.found old.found i (u + 1)
       known_turn c =
           let r = of_map (numbers_of m) old.found.orders key (subst (λ ks. Contains ks key) at.keys_are c) in
           record {
-            way = known_state (IsOrder m) (can_follow m) (state_of m) goes_on old.found.orders i u in_range at.under_way r.0 r.1 (known_there r.0 r.2);
+            way = known_state (IsOrder m) (can_follow m) (essence_of m) goes_on old.found.orders i u in_range at.under_way r.0 r.1 (known_there r.0 r.2);
             keys_are = at.keys_are;
             more = [];
             kept = sym (append-nil old.found.orders);
@@ -135,7 +135,7 @@ module _ (m : Meeting) where
           let orders : new.orders ≡ old.found.orders ++ turned old.found.orders i u ∷ [] = put.orders_are ∙ ap (λ (o : List ℕ). old.found.orders ++ o ∷ []) next_is in
           record {
             way = subst (λ os. Under os i (u + 1)) (sym orders)
-                (new_state (IsOrder m) (can_follow m) (state_of m) goes_on old.found.orders i u in_range at.under_way can (λ o c e.
+                (new_state (IsOrder m) (can_follow m) (essence_of m) goes_on old.found.orders i u in_range at.under_way can (λ o c e.
                 put.absent (subst (λ ks. Contains ks key) (sym at.keys_are) (subst (Contains (map (numbers_of m) old.found.orders)) (same_numbers m o (turned old.found.orders i u) e ∙ sym same_key) (in_map (numbers_of m) old.found.orders o c)))));
             keys_are = put.keys_are ∙ (λ j. at.keys_are j ++ same_key j ∷ []) ∙ sym (map_push (numbers_of m) old.found.orders (turned old.found.orders i u)) ∙ ap (map (numbers_of m)) (sym orders);
             more = turned old.found.orders i u ∷ [];
@@ -167,7 +167,7 @@ module _ (m : Meeting) where
 
   pub stays : (s : given.Search) (i u : ℕ) (in_range : i < length s.found.orders) (at : IsAt m i u s) → can_follow m (get_or s.found.orders i []) u ≡ false → Goes m i (u + 1) s s
   stays s i u in_range at cannot = record {
-    at = record { under_way = no_turn (IsOrder m) (can_follow m) (state_of m) goes_on s.found.orders i u in_range at.under_way cannot; keys_are = at.keys_are; few = at.few };
+    at = record { under_way = no_turn (IsOrder m) (can_follow m) (essence_of m) goes_on s.found.orders i u in_range at.under_way cannot; keys_are = at.keys_are; few = at.few };
     more = [];
     kept = sym (append-nil s.found.orders);
     limit_is = refl;
@@ -191,7 +191,7 @@ module _ (m : Meeting) where
   pub goes_to_next : (i : ℕ) (a b : given.Search) → i < length a.found.orders → Goes m i (length m.programs + 1) a b → Goes m (i + 1) 0 a b
   goes_to_next i a b low g = record {
     at = record {
-      under_way = next_place (IsOrder m) (can_follow m) (state_of m) goes_on b.found.orders i (length m.programs + 1) (kept_range i i (length m.programs + 1) a b g low) g.at.under_way (λ v le. cannot_beyond (get_or b.found.orders i []) v (omega arith));
+      under_way = next_place (IsOrder m) (can_follow m) (essence_of m) goes_on b.found.orders i (length m.programs + 1) (kept_range i i (length m.programs + 1) a b g low) g.at.under_way (λ v le. cannot_beyond (get_or b.found.orders i []) v (omega arith));
       keys_are = g.at.keys_are;
       few = g.at.few;
     };

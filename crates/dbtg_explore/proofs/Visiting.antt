@@ -19,10 +19,11 @@ use Rattle.dbtg_explore.specs.Inside.Steps.{Goes, IsAt, can_follow}
 use Rattle.dbtg_explore.specs.Inside.Visits.{HasVisited, IsThrough, IsVisited}
 use Rattle.dbtg_explore.specs.Orders.{IsBefore, IsEnd, IsOrder, Meeting, history_of}
 use Rattle.dbtg_explore.specs.Pairwise.{ArePairwise}
-use Rattle.dbtg_explore.specs.Results.{AreFailures, AreResults, is_failure, state_text}
-use Rattle.dbtg_explore.specs.States.{CountsStates, MeetingState, state_of}
+use Rattle.dbtg_explore.specs.Results.{AreFailures, AreResults, is_failure}
+use Rattle.dbtg_explore.specs.States.{CountsStates, Essence, MeetingState, essence_of, state_of}
 use Rattle.dbtg_explore.proofs.Alike.{can_go_on_alike}
 use Rattle.dbtg_explore.proofs.Before.{no_later_trans}
+use Rattle.dbtg_explore.proofs.Keyed.{same_text}
 use Rattle.dbtg_explore.proofs.Searched.{all_found, in_order_at}
 use Rattle.dbtg_explore.proofs.Steps.{goes_on, kept_at, kept_range}
 
@@ -93,8 +94,8 @@ module _ (m : Meeting) where
     noted : AreEndsOf m s.found.orders e
     noted = subst (λ os. AreEndsOf m os e) seen through.visited.ends
 
-    first_of : (o : List ℕ) → IsOrder m o → HasFirst (state_of m) s.found.orders o
-    first_of = all_found (IsOrder m) (can_follow m) (state_of m) (goes_on m) s.found.orders (length s.found.orders) (omega arith) through.visited.at.under_way
+    first_of : (o : List ℕ) → IsOrder m o → HasFirst (essence_of m) s.found.orders o
+    first_of = all_found (IsOrder m) (can_follow m) (essence_of m) (goes_on m) s.found.orders (length s.found.orders) (omega arith) through.visited.at.under_way
 
     pub counts : CountsStates m (length s.found.orders)
     counts = record {
@@ -116,7 +117,7 @@ module _ (m : Meeting) where
                 at_end = λ u. can_go_on_alike m (history_of m first.first) (history_of m o) u first.same ∙ end.at_end u;
               } in
               let result = results.all first.first first.is_found there in
-              (result.first, result.is_found, result.same ∙ ap (state_text m) first.same, no_later_trans result.first first.first o result.no_later first.no_later);
+              (result.first, result.is_found, result.same ∙ same_text m (state_of m first.first) (state_of m o) first.same, no_later_trans result.first first.first o result.no_later first.no_later);
           once = results.once;
           in_order = results.in_order;
         }
@@ -131,7 +132,7 @@ module _ (m : Meeting) where
               record { order = at.0; is_order = through.visited.at.under_way.are_orders at.0 at.1; state = failed.at; ended_is = failed.ended_is; is_failure_is = failed.is_failure_is };
           all = λ f fails.
               let first = first_of fails.order fails.is_order in
-              failures.all f first.first first.is_found (subst (λ (state : MeetingState). FailsIn state f) (sym first.same) (fails_there (state_of m fails.order) f fails.state fails.ended_is fails.is_failure_is));
+              failures.all f first.first first.is_found (subst (λ (s : Essence). option_and_then failure_by (unit_at s.programs f.unit) ≡ Some f.how) (sym first.same) (fails_there (state_of m fails.order) f fails.state fails.ended_is fails.is_failure_is));
           in_order = failures.in_order;
         }
 

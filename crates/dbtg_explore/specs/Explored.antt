@@ -5,13 +5,13 @@ use Rattle.dbtg_explore.specs.declared.explored.Endless.{Endless}
 use Rattle.dbtg_explore.specs.declared.explored.Explored as given
 use Rattle.dbtg_explore.specs.Orders.{IsOrder, Meeting, can_turn, history_of}
 use Rattle.dbtg_explore.specs.Results.{AreFailures, AreResults}
-use Rattle.dbtg_explore.specs.States.{CountsStates, state_of}
+use Rattle.dbtg_explore.specs.States.{CountsStates, essence_of}
 
 -- turns that lead to a way round, and turns that go round it: it comes back to the same state, and each program that can have its turn there has
 -- one on the way. So it can be gone round for ever, and no program is kept waiting
 pub record IsEndless (m : Meeting) (e : Endless) : Type 0 where
   pub is_order : IsOrder m (e.turns ++ e.round)
-  pub comes_back : state_of m (e.turns ++ e.round) ≡ state_of m e.turns
+  pub comes_back : essence_of m (e.turns ++ e.round) ≡ essence_of m e.turns
   pub goes : 0 < length e.round
   pub fair : (u : ℕ) → can_turn m (history_of m e.turns) u ≡ true → Contains e.round u
 

@@ -1,5 +1,5 @@
--- Where a meeting is: all that what comes after depends on. Two states are one where all of it is, the versions of kept records too, and
--- in each area the order in which units opened it.
+-- Where a meeting is. Two states are one where all of it is that what comes after depends on: all but the order in which units opened an
+-- area.
 -- m is a meeting, u a unit, o and p are orders.
 use Rattle.std.specs.Prelude.{ℕ, ◌≡◌, ◌+◌, ◌<◌, List, [], ◌∷◌, Contains, length}
 use Rattle.dbtg_unit.specs.declared.unit.Entry.{Entry}
@@ -7,6 +7,7 @@ use Rattle.dbtg_unit.specs.Database.Laws.Replay.{State, opening_state, replay}
 use Rattle.dbtg_program.specs.declared.program.Program.{Program}
 use Rattle.dbtg_program.specs.Going.{Due}
 use Rattle.dbtg_going.specs.Turns.{comes}
+use Rattle.dbtg_outcomes.specs.Alike.{Unordered, unordered}
 use Rattle.dbtg_explore.specs.Orders.{IsOrder, Meeting, history_of}
 use Rattle.dbtg_explore.specs.Pairwise.{ArePairwise}
 
@@ -32,11 +33,25 @@ state_after m history = record { sequential = sequential_after m history; progra
 abbrev pub state_of : Meeting → List ℕ → MeetingState
 state_of m order = state_after m (history_of m order)
 
+-- WHAT TELLS STATES APART
+
+-- a state without the order in which units opened an area
+pub record Essence : Type 0 where
+  pub sequential : Unordered
+  pub programs : List Due
+
+abbrev pub essence : MeetingState → Essence
+essence state = record { sequential = unordered state.sequential; programs = state.programs }
+
+-- that of the state after an order
+abbrev pub essence_of : Meeting → List ℕ → Essence
+essence_of m order = essence (state_of m order)
+
 -- HOW MANY THERE ARE
 
 -- two orders lead to different states
 abbrev pub LeadApart : Meeting → List ℕ → List ℕ → Type 0
-LeadApart m o p = state_of m o ≡ state_of m p → ⊥
+LeadApart m o p = essence_of m o ≡ essence_of m p → ⊥
 
 -- orders, no two of which lead to the same state
 pub record AreApart (m : Meeting) (orders : List (List ℕ)) : Type 0 where
@@ -47,7 +62,7 @@ pub record AreApart (m : Meeting) (orders : List (List ℕ)) : Type 0 where
 pub record CountsStates (m : Meeting) (n : ℕ) : Type 0 where
   pub orders : List (List ℕ)
   pub are_apart : AreApart m orders
-  pub all : (o : List ℕ) → IsOrder m o → (p : List ℕ) × Contains orders p × (state_of m p ≡ state_of m o)
+  pub all : (o : List ℕ) → IsOrder m o → (p : List ℕ) × Contains orders p × (essence_of m p ≡ essence_of m o)
   pub count : length orders ≡ n
 
 -- there are more than n

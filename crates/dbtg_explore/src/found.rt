@@ -8,7 +8,7 @@ use indexmap::IndexSet;
 use std::alloc::{AllocError, Global};
 use std::marker::Model;
 
-/// Orders in which they were found, each under a key that none before it has.
+/// Orders, as they were found, each under a key that none before it has.
 #[derive(Drop)]
 pub struct Found {
     keys: IndexSet<Vec<u64>>,

@@ -2,6 +2,7 @@
 
 ghost use Rattle.dbtg_explore.specs.Inside.Keys.{due_numbers, how_numbers, state_numbers};
 ghost use Rattle.dbtg_explore.specs.Inside.Places.{IsPlace};
+ghost use Rattle.dbtg_explore.specs.Orders.{IsMeeting};
 ghost use Rattle.dbtg_explore.specs.States.{state_after};
 ghost use Rattle.dbtg_going.specs.Goings.{comes_of};
 ghost use Rattle.dbtg_outcomes.specs.Spelling.{list_numbers};
@@ -10,7 +11,7 @@ ghost use Rattle.std.specs.Prelude.{◌≡◌, ◌++◌, ◌∷◌, [], flat_map
 use crate::meeting::Meeting;
 use crate::place::Place;
 use dbtg_going::Going;
-use dbtg_outcomes::{Spelled, spell_each};
+use dbtg_outcomes::{Spelled, spell_each, spell_image};
 use dbtg_program::{Due, End};
 use std::alloc::{AllocError, Global};
 
@@ -68,13 +69,16 @@ fn spell_programs(goings: &[Going], out: &mut Vec<u64>) -> Result<(), AllocError
 }
 
 impl<'a> Meeting<'a> {
-    /// The state of a place as numbers. Two places have the same numbers exactly if they have the same state.
+    /// The state of a place as numbers. Two places have the same numbers exactly if their states differ at most in the order in which units
+    /// opened an area.
     pub(crate) fn state_key(&self, alloc: Global, place: &Place) -> Result<Vec<u64>, AllocError>
-        requires { IsPlace self.now place.now }
+        requires meeting { IsMeeting self.now }
+        requires place { IsPlace self.now place.now }
         ensures { IfOk result (λ key. key.items ≡ state_numbers self.now (state_after self.now place.now.database.history)) }
     {
         let mut key = Vec::new(alloc);
-        place.database.image()?.spell(&mut key)?;
+        let image = place.database.image()?;
+        spell_image(alloc, &image, self.units(), &mut key)?;
         spell_list(place.database.units(), &mut key)?;
         spell_programs(place.goings.as_slice(), &mut key)?;
         Ok(key)

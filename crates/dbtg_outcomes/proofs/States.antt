@@ -2,6 +2,7 @@
 -- May use: `Lists` and `Orders`, and the image and replay of dbtg_unit.
 -- Promises: `SameStates`: what a search may put together; `Results`, `ComesOut`: what is given out is all that can come out; `Broken`:
 -- the turns that break a wish are found, where there are any.
+pub mod Alike
 pub mod Broken
 pub mod ComesOut
 pub mod Entered

@@ -1,3 +1,4 @@
+pub mod Alike
 pub mod Brief
 pub mod Counted
 pub mod Groups

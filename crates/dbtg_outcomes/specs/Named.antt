@@ -53,7 +53,7 @@ currency_name stored c =
     option_numbers (key_name stored) c.run_unit ++ (list_numbers (option_numbers (key_name stored)) c.types
     ++ (list_numbers (option_numbers (key_name stored)) c.areas ++ list_numbers (option_numbers (place_name stored)) c.sets))
 
--- of an answer the status, the key and the items
+-- the status, the key and the items of an answer
 abbrev pub answer_name : List DbKey → Entry → List ℕ
 answer_name stored e =
     status_code e.statement e.answer.status ∷ (option_numbers (key_name stored) e.answer.key ++ option_numbers (list_numbers value_numbers) e.answer.items)
@@ -67,7 +67,7 @@ fact kind of numbers = kind ∷ of ∷ numbers
 abbrev pub answers_fact : List DbKey → List Entry → ℕ → List ℕ
 answers_fact stored history u = fact 0 u (flat_map (answer_name stored) (entries_of u history))
 
--- of a unit its currents, and each record that it keeps, with the version
+-- the currents of a unit, and each record that it keeps, with the version
 abbrev pub unit_facts : List DbKey → unit.Unit → List (List ℕ)
 unit_facts stored u =
     fact 1 u.number (currency_name stored u.currency) ∷ map (λ e. fact 2 u.number (pair_numbers (key_name stored) one_number e)) u.kept

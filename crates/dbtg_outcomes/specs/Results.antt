@@ -9,7 +9,7 @@ use Rattle.dbtg_script.specs.Printing.Spelling.{behind}
 use Rattle.dbtg_script.specs.Printing.Texts.{answer_text, answers_text, run_text}
 use Rattle.dbtg_unit.specs.declared.statement.Statement.{Statement}
 use Rattle.dbtg_unit.specs.declared.unit.Entry.{Entry}
-use Rattle.dbtg_unit.specs.Database.State.Image.{image_of}
+use Rattle.dbtg_unit.specs.Database.State.Image.{Image, image_of}
 use Rattle.dbtg_unit.specs.Database.Laws.Replay.{State, after_outcome, entries_of, opening_state, outcome_of, state_after}
 use Rattle.dbtg_step.specs.declared.results.Run.{Run}
 use Rattle.dbtg_outcomes.specs.Orders.{made}
@@ -60,6 +60,10 @@ answers_told m order = if m.tells then map (unit_answers m order) (units_of m) e
 abbrev pub by_unit : List ℕ → List (ℕ × Mode) → List (ℕ × Mode)
 by_unit units users = flat_map (λ u. filter (λ e. e.0 == u) users) units
 
+-- an image in which they are in that order
+abbrev pub in_unit_order : List ℕ → Image → Image
+in_unit_order units image = record image { usage = map (by_unit units) image.usage }
+
 -- what is printed after `--`, except that the units that have an area open are in the order of their numbers; before it the
 -- answers that tell results apart
 abbrev pub result_text : Meeting → List (ℕ × Statement) → List ℕ
@@ -68,11 +72,12 @@ result_text m order =
     let image = image_of m.schema m.capacity state.database in
     flat_map (λ t. t) (answers_told m order) ++ run_text m.schema [] image.records image.lists image.next (map (by_unit (units_of m)) image.usage) state.units
 
--- the state after an order as numbers: how far each unit is, the database and the units, and the answers that tell results apart
+-- the state after an order as numbers: how far each unit is, the database without the order in which units opened an area, the units,
+-- and the answers that tell results apart
 abbrev pub state_key : Meeting → List (ℕ × Statement) → List ℕ
 state_key m order =
     list_numbers one_number (map (λ u. made u order) (units_of m))
-    ++ (image_numbers (image_of m.schema m.capacity (state_of m order).database)
+    ++ (image_numbers (in_unit_order (units_of m) (image_of m.schema m.capacity (state_of m order).database))
     ++ (list_numbers unit_numbers (state_of m order).units
     ++ list_numbers (list_numbers one_number) (answers_told m order)))
 

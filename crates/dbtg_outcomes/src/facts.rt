@@ -12,7 +12,7 @@ use dbtg_step::Run;
 use dbtg_unit::{Entry, Image, Unit};
 use std::alloc::{AllocError, Global};
 
-// Of which kind a fact is, and of which unit or set.
+// The kind of a fact, and its unit or set.
 #[derive(Clone, Copy)]
 struct Head {
     kind: u64,

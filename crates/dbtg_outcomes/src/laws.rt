@@ -1,6 +1,7 @@
 //! What the orders are, and what outcomes say of runs, each as the contract of a function that does nothing.
 ghost use Rattle.std.specs.Prelude.{Bool, List};
 ghost use Rattle.dbtg_unit.specs.declared.statement.Statement as statement;
+ghost use Rattle.dbtg_outcomes.specs.Alike.{OrderOfOpeningIsNoState};
 ghost use Rattle.dbtg_outcomes.specs.Laws.{AreAllMerges, EveryRunComesOut};
 ghost use Rattle.dbtg_outcomes.specs.Named.{key_name};
 ghost use Rattle.dbtg_outcomes.specs.Outcomes.{IsMeeting};
@@ -25,4 +26,10 @@ pub fn every_run_comes_out()
 /// renamings that are one-to-one.
 pub fn names_tell_records_apart()
     ensures { (stored : List DbKey) → Apart (key_name stored) }
+{}
+
+/// The order in which units opened an area is no part of a state: from two states that differ in it alone, whatever statements are made
+/// get the same answers, and lead to states that differ in it alone. So the search puts such states together.
+pub fn order_of_opening_is_no_state()
+    ensures { OrderOfOpeningIsNoState }
 {}

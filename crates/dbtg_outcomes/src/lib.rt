@@ -22,9 +22,13 @@ mod wishes;
 pub use answered::Answered;
 pub use brief::{Told, none_before, push_shown};
 pub use facts::named;
-pub use laws::{every_run_comes_out, names_tell_records_apart, orders_are_all_merges};
+pub use laws::{
+    every_run_comes_out, names_tell_records_apart, order_of_opening_is_no_state,
+    orders_are_all_merges,
+};
 pub use meeting::{Meeting, as_numbers};
 pub use outcomes::{OneResult, Outcomes, all_outcomes};
+pub use parts::spell_image;
 pub use search::Stop;
 pub use spelled::{Spelled, spell_each};
 pub use told::usage_by_unit;

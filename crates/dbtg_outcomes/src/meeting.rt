@@ -12,6 +12,7 @@ ghost use Rattle.dbtg_outcomes.specs.Results.{answers_told, placed_told, result_
 
 use crate::brief::Told;
 use crate::facts::named;
+use crate::parts::spell_image;
 use crate::spelled::Spelled;
 use crate::told::{answers_by_unit, placed_by_unit, result_text, usage_by_unit};
 use dbtg_schema::{Row, Schema};
@@ -176,7 +177,7 @@ impl<'a> Meeting<'a> {
         let history = run.history.as_slice();
         let mut key = Vec::new(alloc);
         made_by_each(alloc, history, self.units())?.spell(&mut key)?;
-        run.image.spell(&mut key)?;
+        spell_image(alloc, &run.image, self.units(), &mut key)?;
         run.units.spell(&mut key)?;
         self.answers(alloc, history)?.spell(&mut key)?;
         Ok(key)

@@ -1,12 +1,15 @@
 //! The parts of a database and of its units, spelled as numbers.
 ghost use Rattle.std.specs.Prelude.{◌≡◌, ◌++◌, OnOk};
-ghost use Rattle.dbtg_outcomes.specs.Spelling.{noted_numbers, stored_numbers, currency_numbers, image_numbers, kept_numbers, key_numbers, mode_numbers, owner_numbers, place_numbers, unit_numbers, value_numbers};
-ghost use Rattle.dbtg_outcomes.specs.Inside.Spelling.{currency_apart, image_apart, kept_apart, key_apart, mode_apart, owner_apart, place_apart, unit_apart, value_apart};
+ghost use Rattle.std.specs.List.{range_with_len};
+ghost use Rattle.dbtg_outcomes.specs.Results.{in_unit_order};
+ghost use Rattle.dbtg_outcomes.specs.Spelling.{stored_numbers, currency_numbers, image_numbers, kept_numbers, key_numbers, mode_numbers, owner_numbers, place_numbers, unit_numbers, value_numbers};
+ghost use Rattle.dbtg_outcomes.specs.Inside.Spelling.{currency_apart, kept_apart, key_apart, mode_apart, owner_apart, place_apart, unit_apart, value_apart};
 
 use crate::spelled::{Spelled, spell_each};
+use crate::told::usage_by_unit;
 use dbtg_cells::{DbKey, Mode, Owner, Value};
 use dbtg_unit::{Currency, Image, Kept, Place, Unit};
-use std::alloc::AllocError;
+use std::alloc::{AllocError, Global};
 
 impl Spelled for DbKey {
     ghost numbers = { key_numbers };
@@ -135,22 +138,18 @@ fn spell_stored(image: &Image, out: &mut Vec<u64>) -> Result<(), AllocError>
     image.lists.spell(out)
 }
 
-// Free numbers, generations and usage.
-fn spell_noted(image: &Image, out: &mut Vec<u64>) -> Result<(), AllocError>
-    ensures { OnOk result (out.new.items ≡ out.old.items ++ noted_numbers image.now) }
+/// All of an image, in which the units that have an area open are in the order of their numbers.
+pub fn spell_image(
+    alloc: Global,
+    image: &Image,
+    units: u8,
+    out: &mut Vec<u64>,
+) -> Result<(), AllocError>
+    ensures { OnOk result (out.new.items ≡ out.old.items ++ image_numbers (in_unit_order (range_with_len 1 units) image.now)) }
 {
+    let usage = usage_by_unit(alloc, image.usage.as_slice(), units)?;
+    spell_stored(image, out)?;
     image.next.spell(out)?;
     image.last.spell(out)?;
-    image.usage.spell(out)
-}
-
-impl Spelled for Image {
-    ghost numbers = { image_numbers };
-
-    fn spell(&self, out: &mut Vec<u64>) -> Result<(), AllocError> {
-        spell_stored(self, out)?;
-        spell_noted(self, out)
-    }
-
-    ghost apart = { image_apart };
+    usage.spell(out)
 }

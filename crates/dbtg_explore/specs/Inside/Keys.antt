@@ -1,10 +1,12 @@
 -- States as numbers, which tell them apart.
-use Rattle.std.specs.Prelude.{ℕ, List, [], ◌∷◌, ◌++◌}
+use Rattle.std.specs.Prelude.{ℕ, List, [], ◌∷◌, ◌++◌, length}
+use Rattle.std.specs.List.{range_with_len}
 use Rattle.dbtg_unit.specs.Database.State.Image.{image_of}
 use Rattle.dbtg_program.specs.declared.program.End.{End}
 use Rattle.dbtg_program.specs.declared.program.End.TheVariants.{Stop, Assert, Size, Astray}
 use Rattle.dbtg_program.specs.States.{ProgramState}
 use Rattle.dbtg_program.specs.Going.{Due, due, ended}
+use Rattle.dbtg_outcomes.specs.Results.{in_unit_order}
 use Rattle.dbtg_outcomes.specs.Spelling.{image_numbers, list_numbers, unit_numbers, value_numbers}
 use Rattle.dbtg_explore.specs.Orders.{Meeting}
 use Rattle.dbtg_explore.specs.States.{MeetingState}
@@ -25,8 +27,8 @@ abbrev pub due_numbers : Due → List ℕ
 due_numbers (due state s) = 0 ∷ 0 ∷ program_numbers state
 due_numbers (ended state how) = how_numbers how ++ program_numbers state
 
--- for a state the database, the units, and the programs
+-- for a state the database without the order in which units opened an area, the units, and the programs
 abbrev pub state_numbers : Meeting → MeetingState → List ℕ
 state_numbers m state =
-    image_numbers (image_of m.schema m.capacity state.sequential.database)
+    image_numbers (in_unit_order (range_with_len 1 (length m.programs)) (image_of m.schema m.capacity state.sequential.database))
     ++ (list_numbers unit_numbers state.sequential.units ++ list_numbers due_numbers state.programs)

@@ -5,7 +5,7 @@ use Rattle.dbtg_unit.specs.declared.unit.Entry.{Entry}
 use Rattle.dbtg_explore.specs.declared.place.Place.{Place}
 use Rattle.dbtg_explore.specs.Inside.Places.{IsPlace, IsPlaceOf}
 use Rattle.dbtg_explore.specs.Orders.{IsOrder, Meeting, can_turn}
-use Rattle.dbtg_explore.specs.States.{state_of}
+use Rattle.dbtg_explore.specs.States.{essence_of}
 
 -- each unit that can have its turn after a history has one in the round
 abbrev pub HasEach : Meeting → List Entry → List ℕ → Type 0
@@ -19,4 +19,4 @@ pub record HasGone (m : Meeting) (turns : List ℕ) (old new : Place) : Type 0 w
 -- the round can be gone after the order, and comes back to the same state
 pub record ComesBack (m : Meeting) (o round : List ℕ) : Type 0 where
   pub is_order : IsOrder m (o ++ round)
-  pub same : state_of m (o ++ round) ≡ state_of m o
+  pub same : essence_of m (o ++ round) ≡ essence_of m o

@@ -5,7 +5,7 @@ use Rattle.dbtg_explore.specs.declared.search.Search as given
 use Rattle.dbtg_explore.specs.Inside.Keys.{state_numbers}
 use Rattle.dbtg_explore.specs.Inside.Search.{IsUnderWay}
 use Rattle.dbtg_explore.specs.Orders.{IsOrder, Meeting, can_turn, history_of}
-use Rattle.dbtg_explore.specs.States.{state_of}
+use Rattle.dbtg_explore.specs.States.{essence_of, state_of}
 
 -- the unit can have its turn after the order
 abbrev pub can_follow : Meeting → List ℕ → ℕ → Bool
@@ -17,7 +17,7 @@ numbers_of m o = state_numbers m (state_of m o)
 
 -- the search is at place i and unit u, and has each order under the numbers of its state
 pub record IsAt (m : Meeting) (i u : ℕ) (s : given.Search) : Type 0 where
-  pub under_way : IsUnderWay (IsOrder m) (can_follow m) (state_of m) s.found.orders i u
+  pub under_way : IsUnderWay (IsOrder m) (can_follow m) (essence_of m) s.found.orders i u
   pub keys_are : s.found.keys ≡ map (numbers_of m) s.found.orders
   pub few : length s.found.orders ≤ s.limit
 

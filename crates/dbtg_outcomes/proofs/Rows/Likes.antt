@@ -32,7 +32,7 @@ one_less = refl
 longer : same_facts (one ∷ []) (three ∷ []) ≡ false
 longer = refl
 
--- of two that are alike the first is named, though it is itself like none before
+-- the first of two that are alike is named, though it is itself like none before
 abbrev three_results : List Told
 three_results = told (codes "A:1") (one ∷ []) ∷ told (codes "A:2") (two ∷ []) ∷ told (codes "A:3") (two ∷ []) ∷ []
 

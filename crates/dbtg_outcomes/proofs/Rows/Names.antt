@@ -51,7 +51,7 @@ of_its_type = refl
 not_stored : key_name (record_of 0 1 ∷ []) (record_of 1 1) ≡ 1 ∷ 1 ∷ 1 ∷ 1 ∷ []
 not_stored = refl
 
--- unit 1 stores a 7, and unit 2 an 8 of which it is current; they got these numbers, and so many numbers are free
+-- unit 1 stores a 7; unit 2 stores an 8, which is its current of run-unit. They got the numbers n and k, and `next` is the least free one
 abbrev run_with : ℕ → ℕ → ℕ → Run
 run_with n k next = record {
   results = [];

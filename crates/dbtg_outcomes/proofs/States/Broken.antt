@@ -10,7 +10,6 @@ use Rattle.dbtg_unit.specs.declared.statement.Statement.{Statement}
 use Rattle.dbtg_unit.specs.declared.unit.Entry.{Entry}
 use Rattle.dbtg_unit.specs.Database.Statements.Codes.{status_code}
 use Rattle.dbtg_unit.specs.Database.Statements.Effect.{Outcome}
-use Rattle.dbtg_unit.specs.Database.Laws.Replay.{State, outcome_of}
 use Rattle.dbtg_unit.specs.Database.Laws.Replaying.{statements_of}
 use Rattle.dbtg_unit.proofs.Public.{In, in_range, in_right, of_map}
 use Rattle.dbtg_step.specs.Machine.SequentialDatabase.{unit_at}
@@ -29,7 +28,7 @@ use Rattle.dbtg_outcomes.proofs.Lists.Members.{contains_in, in_contains}
 use Rattle.dbtg_outcomes.proofs.Orders.Begun.{amid, begun_left, begun_long, completed_begins, front_or_amid, left, next_left}
 use Rattle.dbtg_outcomes.proofs.Orders.Mixed.{first_left}
 use Rattle.dbtg_outcomes.proofs.States.Results.{units_alone}
-use Rattle.dbtg_outcomes.proofs.States.SameStates.{SameState}
+use Rattle.dbtg_outcomes.proofs.States.SameStates.{SameState, back, status_same}
 use Rattle.dbtg_outcomes.proofs.States.Searched.{held_of, next_completes, states_grow, weight_of}
 use Rattle.dbtg_outcomes.proofs.States.States.{group_of, has_group, same_state}
 
@@ -82,11 +81,7 @@ module _ (m : Meeting) (w : Wish) where
       next_is = ap (λ k. option_and_then (λ (script : List Statement). slice_get script k) (unit_at m.scripts w.unit)) (same.made_same w.unit unit_in) ∙ b.next_is;
       place_is = same.made_same w.unit unit_in ∙ b.place_is;
       code = b.code;
-      status = record {
-        outcome = b.status.outcome;
-        outcome_is = ap (λ (z : State). outcome_of m.schema m.capacity z w.unit b.statement) same.state_same ∙ b.status.outcome_is;
-        code_is = b.status.code_is;
-      };
+      status = status_same m p o w.unit b.statement b.code (back m o p same) b.status;
       breaks_is = b.breaks_is;
     }
 

@@ -62,8 +62,11 @@ module _ (m : Meeting) where
   units_after state [] = refl
   units_after state (s ∷ o) = units_after (after_outcome state s.0 (outcome_of m.schema m.capacity state s.0 s.1)) o ∙ as_many m.schema m.capacity state s.0 (outcome_of m.schema m.capacity state s.0 s.1)
 
+  pub units_after_order : (o : List (ℕ × Statement)) → length (state_of m o).units ≡ length m.scripts
+  units_after_order o = units_after (opening_state m.schema (length m.scripts)) o ∙ opening_length m.schema (length m.scripts)
+
   pub units_of_run : (o : List (ℕ × Statement)) (run : Run) → IsRunOf m o run → length run.units ≡ length m.scripts
-  units_of_run o run h = ap length h.units_are ∙ units_after (opening_state m.schema (length m.scripts)) o ∙ opening_length m.schema (length m.scripts)
+  units_of_run o run h = ap length h.units_are ∙ units_after_order o
 
   -- a run is that of its own statements
   pub own_run : (o : List (ℕ × Statement)) (run : Run) → IsRunOf m o run → IsRunOf m (statements_of run.history) run

@@ -1,9 +1,11 @@
--- Two legal databases of a schema that have the same image are one.
--- k is a key, s a set, o an owner, t a record type, n a number, a an area; db and eb are the databases.
-use Rattle.std.proofs.Common.{◌≡◌, refl, sym, ◌∙◌, ap, subst, ◌&&◌, ℕ, ◌+◌, ◌<◌, ◌≤◌, Bool, true, List, [], ◌∷◌, length, Option, Some, None, inl, inr, ⊎_elim, ◌⊎◌, arith, map, slice_get}
-use Rattle.std.specs.Prelude.{◌==◌, is_some, option_map, option_and_then, unwrap_or}
-use Rattle.std.specs.List.{range_with_len}
-use Rattle.std.proofs.lemmas.Bool.{and_parts, cases_Bool, cases_lt, false≢true}
+-- Two legal states of a schema with the same units, whose images are the same in the order of units, are one but for the order in which
+-- units opened an area.
+-- k is a key, s a set, o an owner, t a record type, n a number, a an area, u and v units; db and eb are the databases.
+use Rattle.std.proofs.Common.{◌≡◌, append-nil, refl, sym, ◌∙◌, ap, subst, ◌&&◌, ℕ, zero, suc, ◌+◌, ◌<◌, ◌≤◌, Bool, true, false, List, [], ◌∷◌, ◌++◌, length, Option, Some, None, inl, inr, ⊎_elim, ◌⊎◌, arith, map, slice_get}
+use Rattle.std.specs.Prelude.{◌==◌, flat_map, is_some, nat_le, nat_lt, option_map, option_and_then, unwrap_or}
+use Rattle.std.specs.List.{list_all, range_with_len}
+use Rattle.std.proofs.lemmas.List.Elements.{filter-append}
+use Rattle.std.proofs.lemmas.Bool.{and_parts, cases_Bool, cases_lt, eqb-true, false≢true, leb-true, ltb-true}
 use Rattle.dbtg_schema.specs.Lists.{Lists}
 use Rattle.dbtg_schema.specs.Lookups.{some_and}
 use Rattle.dbtg_schema.specs.Structure.{owns, set_numbers}
@@ -12,12 +14,17 @@ use Rattle.dbtg_schema.proofs.Public.{none_is}
 use Rattle.dbtg_cells.specs.declared.key.DbKey.{DbKey}
 use Rattle.dbtg_cells.specs.declared.key.Owner.{Owner}
 use Rattle.dbtg_cells.specs.declared.key.Owner.TheVariants.{System, Rec}
+use Rattle.dbtg_cells.specs.declared.usage.Mode.{Mode}
 use Rattle.dbtg_cells.proofs.Public.{index_within, same_truth}
 use Rattle.dbtg_unit.specs.Database.State.Base.{Database, Record, is_live, items_of, members_of, owners, version_of}
 use Rattle.dbtg_unit.specs.Database.Statements.Doomed.{all_keys}
 use Rattle.dbtg_unit.specs.Database.State.Image.{Image, image_of}
 use Rattle.dbtg_unit.specs.Database.State.Legal.{Legal, has_occurrence}
-use Rattle.dbtg_unit.proofs.Public.{In, all_are_live, in_range, live_in_all, owner_in}
+use Rattle.dbtg_unit.specs.Database.Laws.Replay.{State}
+use Rattle.dbtg_unit.specs.Database.Laws.StaysLegal.{IsLegalState}
+use Rattle.dbtg_unit.proofs.Public.{In, all_are_live, all_at, in_range, live_in_all, none_pass, owner_in}
+use Rattle.dbtg_outcomes.specs.Alike.{unordered, uses_of}
+use Rattle.dbtg_outcomes.specs.Results.{by_unit, in_unit_order}
 
 -- LISTS OF WHAT EACH HAS
 
@@ -74,9 +81,72 @@ list_same None m h g e = absurd (false≢true h)
 list_same (Some l) None h g e = absurd (false≢true g)
 list_same (Some l) (Some m) h g e = ap Some e
 
+-- USERS IN THE ORDER OF UNITS
+
+mapped_twice : {X Y Z : Type 0} (g : Y → Z) (f : X → Y) (xs : List X) → map g (map f xs) ≡ map (λ x. g (f x)) xs
+mapped_twice g f [] = refl
+mapped_twice g f (x ∷ xs) = ap (λ zs. g (f x) ∷ zs) (mapped_twice g f xs)
+
+module _ (es : List (ℕ × Mode)) where
+  own_uses : (u : ℕ) (fs : List (ℕ × Mode)) → uses_of u (uses_of u fs) ≡ uses_of u fs
+  own_uses u [] = refl
+  own_uses u (f ∷ fs) = by (own_uses u fs) (f.0 == u) refl where
+    by : uses_of u (uses_of u fs) ≡ uses_of u fs → (b : Bool) → (f.0 == u) ≡ b → uses_of u (uses_of u (f ∷ fs)) ≡ uses_of u (f ∷ fs)
+    by rest true e = rw e (rw e (ap (λ l. f ∷ l) rest))
+    by rest false e = rw e rest
+
+  other_uses : (u v : ℕ) (fs : List (ℕ × Mode)) → (u ≡ v → ⊥) → uses_of u (uses_of v fs) ≡ []
+  other_uses u v [] apart = refl
+  other_uses u v (f ∷ fs) apart = by (other_uses u v fs apart) (f.0 == v) refl (f.0 == u) refl where
+    by : uses_of u (uses_of v fs) ≡ [] → (b : Bool) → (f.0 == v) ≡ b → (c : Bool) → (f.0 == u) ≡ c → uses_of u (uses_of v (f ∷ fs)) ≡ []
+    by rest true e true g = absurd (apart (sym (eqb-true f.0 u g) ∙ eqb-true f.0 v e))
+    by rest true e false g = rw e (rw g rest)
+    by rest false e c g = rw e rest
+
+  uses_below : (n k u : ℕ) → u < k → uses_of u (by_unit (range_with_len k n) es) ≡ []
+  uses_below zero k u low = refl
+  uses_below (suc n) k u low =
+      filter-append (λ (e : ℕ × Mode). e.0 == u) (uses_of k es) (by_unit (range_with_len (k + 1) n) es)
+      ∙ (λ i. other_uses u k es (λ e. omega (arith, low, e)) i ++ uses_below n (k + 1) u (omega (arith, low)) i)
+
+  -- each unit in the range has what it had
+  uses_within : (n k u : ℕ) → k ≤ u → u < k + n → uses_of u (by_unit (range_with_len k n) es) ≡ uses_of u es
+  uses_within zero k u low high = absurd (omega (arith, low, high))
+  uses_within (suc n) k u low high =
+      filter-append (λ (e : ℕ × Mode). e.0 == u) (uses_of k es) (by_unit (range_with_len (k + 1) n) es) ∙ by (λ above. uses_within n (k + 1) u above (omega (arith, high))) (cases_lt k u) where
+        by : (k + 1 ≤ u → uses_of u (by_unit (range_with_len (k + 1) n) es) ≡ uses_of u es) → (k < u) ⊎ (u ≤ k) → uses_of u (uses_of k es) ++ uses_of u (by_unit (range_with_len (k + 1) n) es) ≡ uses_of u es
+        by rest (inl above) = (λ i. other_uses u k es (λ e. omega (arith, above, e)) i ++ rest (omega (arith, above)) i)
+        by rest (inr here) =
+            let is : k ≡ u = omega (arith, low, here) in
+            (λ i. uses_of u (uses_of (is i) es) ++ uses_of u (by_unit (range_with_len (k + 1) n) es))
+            ∙ (λ i. own_uses u es i ++ uses_below n (k + 1) u (omega (arith, is)) i)
+            ∙ append-nil (uses_of u es)
+
+  -- no other has one
+  uses_beyond : (n u : ℕ) → list_all (λ e. nat_lt 0 e.0 && nat_le e.0 n) es ≡ true → (u ≡ 0) ⊎ (n < u) → uses_of u es ≡ []
+  uses_beyond n u all out = none_pass (λ e. e.0 == u) es (λ e i. apart e (all_at (λ e. nat_lt 0 e.0 && nat_le e.0 n) e es all i)) where
+    apart : (e : ℕ × Mode) → (nat_lt 0 e.0 && nat_le e.0 n) ≡ true → (e.0 == u) ≡ false
+    apart e within = let bounds = and_parts _ _ within in different (ltb-true _ _ bounds.0) (leb-true _ _ bounds.1) (e.0 == u) refl where
+      different : 0 < e.0 → e.0 ≤ n → (b : Bool) → (e.0 == u) ≡ b → b ≡ false
+      different low high false is = refl
+      different low high true is = let same = eqb-true e.0 u is in absurd (⊎_elim (λ none. omega (arith, low, same, none)) (λ above. omega (arith, high, same, above)) out)
+
+uses_from : (n : ℕ) (es fs : List (ℕ × Mode)) → list_all (λ e. nat_lt 0 e.0 && nat_le e.0 n) es ≡ true → list_all (λ e. nat_lt 0 e.0 && nat_le e.0 n) fs ≡ true
+    → by_unit (range_with_len 1 n) es ≡ by_unit (range_with_len 1 n) fs → (u : ℕ) → uses_of u es ≡ uses_of u fs
+uses_from n es fs all all' same u =
+    ⊎_elim
+    (λ low. ⊎_elim
+    (λ high. sym (uses_within es n 1 u (omega arith) (omega arith)) ∙ ap (uses_of u) same ∙ uses_within fs n 1 u (omega arith) (omega arith))
+    (λ beyond. out (inr (omega arith)))
+    (cases_lt u (n + 1)))
+    (λ none. out (inl (omega arith)))
+    (cases_lt 0 u) where
+      out : (u ≡ 0) ⊎ (n < u) → uses_of u es ≡ uses_of u fs
+      out h = uses_beyond es n u all h ∙ sym (uses_beyond fs n u all' h)
+
 -- THE DATABASES
 
-module _ (schema : Lists) (capacity : ℕ) (db eb : Database) (ldb : Legal schema capacity db) (leb : Legal schema capacity eb) (same : image_of schema capacity db ≡ image_of schema capacity eb) where
+module _ (schema : Lists) (capacity n : ℕ) (db eb : Database) (ldb : Legal schema capacity db) (leb : Legal schema capacity eb) (same : in_unit_order (range_with_len 1 n) (image_of schema capacity db) ≡ in_unit_order (range_with_len 1 n) (image_of schema capacity eb)) where
   items_are : paired (items_of db) (all_keys schema capacity db) ≡ paired (items_of eb) (all_keys schema capacity eb)
   unfolding image_of
   items_are = ap (λ (i : Image). i.records) same
@@ -93,9 +163,15 @@ module _ (schema : Lists) (capacity : ℕ) (db eb : Database) (ldb : Legal schem
   unfolding image_of
   last_are = ap (λ (i : Image). i.last) same
 
-  usage_are : map db.usage (range_with_len 0 (length schema.areas)) ≡ map eb.usage (range_with_len 0 (length schema.areas))
+  abbrev sorted : Database → ℕ → List (ℕ × Mode)
+  sorted d a = by_unit (range_with_len 1 n) (d.usage a)
+
+  usage_are : map (sorted db) (range_with_len 0 (length schema.areas)) ≡ map (sorted eb) (range_with_len 0 (length schema.areas))
   unfolding image_of
-  usage_are = ap (λ (i : Image). i.usage) same
+  usage_are =
+      sym (mapped_twice (by_unit (range_with_len 1 n)) db.usage (range_with_len 0 (length schema.areas)))
+      ∙ ap (λ (i : Image). i.usage) same
+      ∙ mapped_twice (by_unit (range_with_len 1 n)) eb.usage (range_with_len 0 (length schema.areas))
 
   keys_are : all_keys schema capacity db ≡ all_keys schema capacity eb
   keys_are = named_same (items_of db) (items_of eb) _ _ items_are
@@ -132,9 +208,9 @@ module _ (schema : Lists) (capacity : ℕ) (db eb : Database) (ldb : Legal schem
         out : (length schema.types ≤ t) ⊎ (n ≡ 0) ⊎ (capacity < n) → db.last t n ≡ eb.last t n
         out h = ldb.no_number t n h ∙ sym (leb.no_number t n h)
 
-  same_usage : (a : ℕ) → db.usage a ≡ eb.usage a
+  same_usage : (a : ℕ) → sorted db a ≡ sorted eb a
   same_usage a =
-      ⊎_elim (λ h. map_same db.usage eb.usage _ a usage_are (in_range (length schema.areas) 0 a (omega arith) (omega arith))) (λ h. ldb.no_area a h ∙ sym (leb.no_area a h)) (cases_lt a (length schema.areas))
+      ⊎_elim (λ h. map_same (sorted db) (sorted eb) _ a usage_are (in_range (length schema.areas) 0 a (omega arith) (omega arith))) (λ h. ap (by_unit (range_with_len 1 n)) (ldb.no_area a h ∙ sym (leb.no_area a h))) (cases_lt a (length schema.areas))
 
   set_within : (s : ℕ) (o : Owner) → has_occurrence schema db s o ≡ true → s < length schema.sets
   set_within s System h = index_within schema.sets s (system_set (slice_get schema.sets s) _ h)
@@ -155,5 +231,38 @@ module _ (schema : Lists) (capacity : ℕ) (db eb : Database) (ldb : Legal schem
         | inr h ↦ none_is (db.lists s o) (ldb.pairs s o ∙ h) ∙ sym (none_is (eb.lists s o) (leb.pairs s o ∙ sym (same_occurrence s o) ∙ h))
       ]
 
-  pub same_databases : db ≡ eb
-  same_databases = λ i. record { records = λ k. same_records k i; lists = λ s o. same_lists s o i; last = λ t n. same_last t n i; usage = λ a. same_usage a i }
+-- THE STATES
+
+pub same_unordered : (schema : Lists) (capacity n : ℕ) (one other : State) → IsLegalState schema capacity one → IsLegalState schema capacity other → length one.units ≡ n → length other.units ≡ n
+    → in_unit_order (range_with_len 1 n) (image_of schema capacity one.database) ≡ in_unit_order (range_with_len 1 n) (image_of schema capacity other.database)
+    → one.units ≡ other.units → unordered one ≡ unordered other
+same_unordered schema capacity n one other lo lp count count' same units =
+    let db = one.database in
+    let eb = other.database in
+    let within : (a : ℕ) → list_all (λ e. nat_lt 0 e.0 && nat_le e.0 n) (db.usage a) ≡ true = λ a. subst (λ k. list_all (λ e. nat_lt 0 e.0 && nat_le e.0 k) (db.usage a) ≡ true) count (lo.users a) in
+    let within' : (a : ℕ) → list_all (λ e. nat_lt 0 e.0 && nat_le e.0 n) (eb.usage a) ≡ true = λ a. subst (λ k. list_all (λ e. nat_lt 0 e.0 && nat_le e.0 k) (eb.usage a) ≡ true) count' (lp.users a) in
+    λ i. record {
+      records = λ k. same_records schema capacity n db eb lo.legal lp.legal same k i;
+      lists = λ s o. same_lists schema capacity n db eb lo.legal lp.legal same s o i;
+      last = λ t k. same_last schema capacity n db eb lo.legal lp.legal same t k i;
+      uses = λ a u. uses_from n (db.usage a) (eb.usage a) (within a) (within' a) (same_usage schema capacity n db eb lo.legal lp.legal same a) u i;
+      units = units i;
+    }
+
+-- and they have the same image in the order of units
+module _ (schema : Lists) (capacity : ℕ) (units : List ℕ) where
+  abbrev areas : List ℕ
+  areas = range_with_len 0 (length schema.areas)
+
+  usage_sorted : (db : Database) → in_unit_order units (image_of schema capacity db) ≡ record (image_of schema capacity db) { usage = map (λ a. by_unit units (db.usage a)) areas }
+  unfolding image_of
+  usage_sorted db = λ i. record (image_of schema capacity db) { usage = mapped_twice (by_unit units) db.usage areas i }
+
+  image_on : (one other : State) → unordered one ≡ unordered other
+      → record (image_of schema capacity one.database) { usage = map (λ a. by_unit units (one.database.usage a)) areas } ≡ record (image_of schema capacity other.database) { usage = map (λ a. by_unit units (other.database.usage a)) areas }
+  unfolding image_of
+  image_on one other e =
+      λ i. record (image_of schema capacity (record { records = (e i).records; lists = (e i).lists; last = (e i).last; usage = one.database.usage })) { usage = map (λ a. flat_map (λ u. (e i).uses a u) units) areas }
+
+  pub image_alike : (one other : State) → unordered one ≡ unordered other → in_unit_order units (image_of schema capacity one.database) ≡ in_unit_order units (image_of schema capacity other.database)
+  image_alike one other e = usage_sorted one.database ∙ image_on one other e ∙ sym (usage_sorted other.database)

@@ -11,7 +11,7 @@ use Rattle.dbtg_unit.specs.declared.statement.Statement.{Statement}
 use Rattle.dbtg_unit.specs.Database.Statements.Codes.{status_code}
 use Rattle.dbtg_unit.specs.Database.Statements.Effect.{Outcome}
 use Rattle.dbtg_unit.specs.declared.unit.Entry.{Entry}
-use Rattle.dbtg_unit.specs.Database.Laws.Replay.{IsHistoryOf, State, outcome_of}
+use Rattle.dbtg_unit.specs.Database.Laws.Replay.{IsHistoryOf}
 use Rattle.dbtg_unit.specs.Database.Laws.Replaying.{statements_of}
 use Rattle.dbtg_unit.proofs.Public.{In, in_flat_map, in_map, of_flat_map, of_map}
 use Rattle.dbtg_step.specs.Machine.SequentialDatabase.{unit_at}
@@ -31,7 +31,7 @@ use Rattle.dbtg_outcomes.proofs.Orders.Mixed.{first_left, nothing_begun}
 use Rattle.dbtg_outcomes.proofs.Lists.Gathered.{gathered_is}
 use Rattle.dbtg_outcomes.proofs.States.Layers.{stand_alone, stand_length}
 use Rattle.dbtg_outcomes.proofs.Lists.Members.{contains_in, in_contains}
-use Rattle.dbtg_outcomes.proofs.States.SameStates.{SameState}
+use Rattle.dbtg_outcomes.proofs.States.SameStates.{SameState, status_same}
 use Rattle.dbtg_outcomes.proofs.States.States.{group_of, has_group, layer_next, same_state}
 
 module _ (m : Meeting) where
@@ -85,11 +85,7 @@ module _ (m : Meeting) where
   note_moves o p u x notes same i h = record {
     note = h.note;
     is = record {
-      status = record {
-        outcome = h.is.status.outcome;
-        outcome_is = ap (λ (z : State). outcome_of m.schema m.capacity z u x) (sym same.state_same) ∙ h.is.status.outcome_is;
-        code_is = h.is.status.code_is;
-      };
+      status = status_same m o p u x h.note.status same h.is.status;
       unit_is = h.is.unit_is;
       place_is = h.is.place_is ∙ same.made_same u i;
     };

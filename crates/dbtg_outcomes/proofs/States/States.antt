@@ -12,7 +12,7 @@ use Rattle.dbtg_unit.specs.declared.statement.Statement.{Statement}
 use Rattle.dbtg_unit.specs.declared.unit.Entry.{Entry}
 use Rattle.dbtg_unit.specs.declared.unit.Status.TheVariants.{Done}
 use Rattle.dbtg_unit.specs.Database.Statements.Fits.{fits}
-use Rattle.dbtg_unit.specs.Database.State.Legal.{Legal}
+use Rattle.dbtg_unit.specs.Database.Laws.StaysLegal.{IsLegalState}
 use Rattle.dbtg_unit.specs.Database.Laws.Replay.{State, opening_state, replay}
 use Rattle.dbtg_unit.specs.Database.Laws.Replaying.{statements_of}
 use Rattle.dbtg_unit.proofs.Public.{In, all_at, element_at, in_map, of_flat_map, of_map, opening_is_legal, replay_keeps_legal, statements_determine}
@@ -132,11 +132,11 @@ module _ (m : Meeting) where
     fits_back [] = refl
     fits_back (s ∷ o) = ap (λ b. fits m.schema s.1 && b) (fits_back o)
 
-    pub begun_legal : (n : ℕ) (o : List (ℕ × Statement)) → In o (orders_after m.first m.scripts n) → Legal m.schema m.capacity (state_of m o).database
+    pub begun_legal : (n : ℕ) (o : List (ℕ × Statement)) → In o (orders_after m.first m.scripts n) → IsLegalState m.schema m.capacity (state_of m o)
     begun_legal n o i =
         let opening : State = opening_state m.schema (length m.scripts) in
         let is : replay m.schema m.capacity opening (as_history o) ≡ state_of m o = (statements_determine m.schema m.capacity opening (as_history o)).state_is ∙ ap (state_of m) (statements_back o) in
-        subst (λ (z : State). Legal m.schema m.capacity z.database) is (replay_keeps_legal m.schema m.capacity opening (as_history o) sound (opening_is_legal m.schema m.capacity (length m.scripts)) (fits_back o ∙ orders_fit n o i)).legal
+        subst (IsLegalState m.schema m.capacity) is (replay_keeps_legal m.schema m.capacity opening (as_history o) sound (opening_is_legal m.schema m.capacity (length m.scripts)) (fits_back o ∙ orders_fit n o i))
 
     pub same_state : (n k : ℕ) (o p : List (ℕ × Statement)) → In o (orders_after m.first m.scripts n) → In p (orders_after m.first m.scripts k) → state_key m o ≡ state_key m p → SameState m o p
     same_state n k o p i j e = same_key m o p (begun_legal n o i) (begun_legal k p j) e

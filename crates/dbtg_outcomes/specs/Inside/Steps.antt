@@ -1,8 +1,7 @@
 -- What the steps of a search do.
--- m is a meeting, g a group, o an order, u a unit, w an order with a weight, n how many statements are made.
+-- m is a meeting, g a group, o an order, u a unit, w a counted order, n the number of statements that are made.
 use Rattle.std.specs.Prelude.{ℕ, ◌≡◌, ◌+◌, ◌<◌, List, [], ◌∷◌, ◌++◌, map, length}
 use Rattle.std.specs.List.{flat_map}
-use Rattle.dbtg_unit.specs.declared.statement.Statement.{Statement}
 use Rattle.dbtg_unit.specs.Database.Laws.Replay.{IsHistoryOf}
 use Rattle.dbtg_unit.specs.Database.Laws.Replaying.{statements_of}
 use Rattle.dbtg_outcomes.specs.declared.groups.Group.{Group}
@@ -12,67 +11,67 @@ use Rattle.dbtg_outcomes.specs.Inside.Gathered.{each_of, gathered}
 use Rattle.dbtg_outcomes.specs.Orders.{extended}
 use Rattle.dbtg_outcomes.specs.Outcomes.{states_within}
 use Rattle.dbtg_outcomes.specs.Results.{Meeting, result_text, state_key, units_of}
-use Rattle.dbtg_outcomes.specs.Inside.Search.{AreHeld, AreNoted, Hold, IsAt, IsHeld}
+use Rattle.dbtg_outcomes.specs.Inside.Search.{AreHeld, AreNoted, CountedOrder, Hold, IsAt, IsHeld, MadeOrder, OrderAndUnit}
 
--- a history of the meeting's units
+-- the group has a history of the meeting's units
 abbrev pub HasHistory : Meeting → Group → Type 0
 HasHistory m g = IsHistoryOf m.schema m.capacity (length m.scripts) g.history
 
 -- ONE STATEMENT MORE
 
--- an order with each of these units
-abbrev pub with_each : List (ℕ × Statement) → List ℕ → List (List (ℕ × Statement) × ℕ)
+-- the order beside each of these units
+abbrev pub with_each : MadeOrder → List ℕ → List OrderAndUnit
 with_each o us = map (λ u. (o, u)) us
 
--- the orders of groups, with each of the units
-abbrev pub nexts : Meeting → List Group → List (List (ℕ × Statement) × ℕ)
+-- the order of each group beside each unit: what can be asked for a next statement
+abbrev pub nexts : Meeting → List Group → List OrderAndUnit
 nexts m gs = flat_map (λ g. with_each (statements_of g.history) (units_of m)) gs
 
--- the orders with one statement more; each has the weight of the order that it extends
-abbrev pub next_orders : Meeting → List (List (ℕ × Statement) × ℕ) → List (List (ℕ × Statement) × ℕ)
+-- the orders with one statement more; each counts as many orders as the one that it extends
+abbrev pub next_orders : Meeting → List CountedOrder → List CountedOrder
 next_orders m ws = flat_map (λ w. each_of w.1 (extended m.scripts w.0 (units_of m))) ws
 
--- group g goes on with the next statement of each of these units that has one: afterwards the groups stand for these orders too, and the
--- statuses of these statements are noted
+-- each of these units that has a next statement makes it after the order of group g. Then the groups are those of the orders seen before
+-- and of the longer ones, and the statuses of these statements are noted
 pub record Extends (m : Meeting) (g : Group) (us : List ℕ) (old new : List (List ℕ × Group)) (before after : List Note) : Type 0 where
-  pub holds : (seen : List (List (ℕ × Statement) × ℕ)) (w : List (ℕ × Statement) × ℕ) → IsHeld m g w → Hold m (state_key m) old seen → Hold m (state_key m) new (seen ++ each_of w.1 (extended m.scripts w.0 us))
+  pub holds : (seen : List CountedOrder) (w : CountedOrder) → IsHeld m g w → Hold m (state_key m) old seen → Hold m (state_key m) new (seen ++ each_of w.1 (extended m.scripts w.0 us))
   pub noted : AreNoted m (with_each (statements_of g.history) us) before after
 
--- these groups go on with the next statement of each unit that has one
+-- after the order of each of these groups, each unit that has a next statement makes it
 pub record ExtendsAll (m : Meeting) (gs : List Group) (new : List (List ℕ × Group)) (before after : List Note) : Type 0 where
-  pub holds : (ws : List (List (ℕ × Statement) × ℕ)) → AreHeld m gs ws → Hold m (state_key m) new (next_orders m ws)
+  pub holds : (ws : List CountedOrder) → AreHeld m gs ws → Hold m (state_key m) new (next_orders m ws)
   pub noted : AreNoted m (nexts m gs) before after
 
--- with one statement more, the groups lead to more than `most` states
+-- one statement more leads from these groups to more than `most` states
 abbrev pub LeadToMore : Meeting → List Group → ℕ → Type 0
-LeadToMore m gs most = (ws : List (List (ℕ × Statement) × ℕ)) → AreHeld m gs ws → most < length (gathered (state_key m) [] (next_orders m ws))
+LeadToMore m gs most = (ws : List CountedOrder) → AreHeld m gs ws → most < length (gathered (state_key m) [] (next_orders m ws))
 
 -- THE SEARCH
 
--- a search is after some number of statements
+-- the search has made some number of statements
 pub record IsUnderWay (m : Meeting) (s : given.Search) : Type 0 where
   pub made : ℕ
   pub at : IsAt m made s
 
--- the search goes on by k statements
+-- the search has made k statements more
 pub record Advances (m : Meeting) (k : ℕ) (old new : given.Search) : Type 0 where
   pub at : (n : ℕ) → IsAt m n old → IsAt m (n + k) new
   pub limit_is : new.limit ≡ old.limit
 
--- with k statements more, the search would come to more states than its limit
+-- k statements more would lead the search to more states than its limit
 abbrev pub IsOver : Meeting → ℕ → given.Search → Type 0
 IsOver m k s = (n : ℕ) → IsAt m n s → s.limit < states_within m (n + k)
 
 -- RESULTS
 
--- group g is put into the group of its result
+-- group g is added to the group of its result
 pub record Joins (m : Meeting) (g : Group) (old new : List (List ℕ × Group)) : Type 0 where
-  pub holds : (seen : List (List (ℕ × Statement) × ℕ)) (w : List (ℕ × Statement) × ℕ) → IsHeld m g w → Hold m (result_text m) old seen → Hold m (result_text m) new (seen ++ w ∷ [])
+  pub holds : (seen : List CountedOrder) (w : CountedOrder) → IsHeld m g w → Hold m (result_text m) old seen → Hold m (result_text m) new (seen ++ w ∷ [])
 
--- groups under results stand for the orders of these groups
+-- the orders of these groups are grouped by their results
 pub record HoldAll (m : Meeting) (gs : List Group) (new : List (List ℕ × Group)) : Type 0 where
-  pub holds : (ws : List (List (ℕ × Statement) × ℕ)) → AreHeld m gs ws → Hold m (result_text m) new ws
+  pub holds : (ws : List CountedOrder) → AreHeld m gs ws → Hold m (result_text m) new ws
 
--- the groups of the same result
+-- the new groups are those of the same result
 pub record AreByResult (m : Meeting) (last new : List Group) : Type 0 where
-  pub held : (ws : List (List (ℕ × Statement) × ℕ)) → AreHeld m last ws → AreHeld m new (gathered (result_text m) [] ws)
+  pub held : (ws : List CountedOrder) → AreHeld m last ws → AreHeld m new (gathered (result_text m) [] ws)
