@@ -3,7 +3,7 @@ use Rattle.std.proofs.Common.{◌≡◌, ℕ, ◌+◌, ◌<◌, cond, List, [], 
 use Rattle.std.specs.Prelude.{Option}
 use Rattle.std.specs.Option.{option_or}
 use Rattle.std.specs.Str.{bytes_eq}
-use Rattle.std.proofs.lemmas.List.{length-map, length-take-le, map_more}
+use Rattle.std.proofs.lemmas.List.{get_or_default, length-map, length-take-le, map_more}
 use Rattle.dbtg_schema.specs.Lookups.{some_and}
 use Rattle.dbtg_schema.specs.Structure.{place_of}
 use Rattle.dbtg_schema.specs.declared.shape.Item.{Item}
@@ -15,9 +15,11 @@ use Rattle.dbtg_program.specs.Inside.Gathered.{leads_to}
 use Rattle.dbtg_program.specs.Inside.Views.{view_holding}
 
 -- the sentence at i is entered, with the paragraph that it begins, if it begins one
-pub paragraph_entered : (old new : Places) (xs : List code.Holding) (i : ℕ) (x : code.Holding) → i < length xs → x ≡ get_or xs i x → ((q : List ℕ) → leads_to old q ≡ paragraph_at (map view_holding (take i xs)) q)
-    → ((q : List ℕ) → leads_to new q ≡ option_or (leads_to old q) (cond (some_and (bytes_eq q) (view_holding x).paragraph) (Some i) None)) → (q : List ℕ) → leads_to new q ≡ paragraph_at (map view_holding (take (i + 1) xs)) q
-paragraph_entered old new xs i x lt is before enters q =
+pub paragraph_entered : (old new : Places) (xs : List code.Holding) (i : ℕ) (d : code.Holding) → i < length xs → ((q : List ℕ) → leads_to old q ≡ paragraph_at (map view_holding (take i xs)) q)
+    → ((q : List ℕ) → leads_to new q ≡ option_or (leads_to old q) (cond (some_and (bytes_eq q) (view_holding (get_or xs i d)).paragraph) (Some i) None)) → (q : List ℕ) → leads_to new q ≡ paragraph_at (map view_holding (take (i + 1) xs)) q
+paragraph_entered old new xs i d lt before enters q =
+    let x = get_or xs i d in
+    let is : x ≡ get_or xs i x = get_or_default xs i d x lt in
     let ls = map view_holding (take i xs) in
     let long : 0 + length ls ≡ i = omega (arith, length-map (take i xs) view_holding, length-take-le i xs (omega arith)) in
     enters q

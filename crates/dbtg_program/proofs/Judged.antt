@@ -1,10 +1,13 @@
 -- What is judged of the words of a sentence, of a line and of lines, one after another.
-use Rattle.std.proofs.Common.{◌≡◌, ℕ, zero, suc, ◌+◌, ◌<◌, ◌≤◌, Bool, true, false, cond, List, [], ◌∷◌, ◌++◌, Some, None, drop, length, map, refl, ap, subst, sym, ◌∙◌, arith}
-use Rattle.std.specs.Prelude.{Option, if◌then◌else◌, nat_lt, option_map, slice_get}
+use Rattle.std.proofs.Common.{◌≡◌, ℕ, zero, suc, ◌+◌, ◌<◌, ◌≤◌, Bool, true, false, cond, ◌&&◌, List, [], ◌∷◌, ◌++◌, Some, None, drop, length, map, refl, ap, subst, sym, ◌∙◌, arith}
+use Rattle.std.specs.List.{flat_map, list_any}
+use Rattle.std.specs.Prelude.{Option, codes, if◌then◌else◌, nat_lt, option_map, slice_get}
 use Rattle.std.proofs.lemmas.Bool.Decides.{nat_tests}
 use Rattle.std.proofs.lemmas.List.{append-nil, append_assoc, length-append}
 use Rattle.dbtg_schema.specs.Lists.{Lists}
 use Rattle.dbtg_schema.specs.Lookups.{first}
+use Rattle.dbtg_schema.specs.Texts.Forms.{labels}
+use Rattle.dbtg_schema.specs.declared.shape.Item.{Item}
 use Rattle.dbtg_script.specs.Lines.{is_statement, lines, trimmed}
 use Rattle.dbtg_script.specs.declared.fault.Cause.{Cause}
 use Rattle.dbtg_script.specs.declared.fault.Cause.TheVariants.{TooMuch}
@@ -12,8 +15,9 @@ use Rattle.dbtg_script.specs.declared.fault.LineFault.{LineFault as ScriptFault}
 use Rattle.dbtg_script.specs.declared.fault.LineFault.TheVariants as script_fault
 use Rattle.dbtg_script.specs.Reading.{Refuses as RefusesLine, verdict}
 use Rattle.dbtg_script.specs.StatementFaults as script
-use Rattle.dbtg_script.specs.StatementGrammar.{statement}
-use Rattle.dbtg_script.specs.Tokens.{Token}
+use Rattle.dbtg_script.specs.StatementGrammar.{fits, statement}
+use Rattle.dbtg_script.specs.Statements.{statement_of}
+use Rattle.dbtg_script.specs.Tokens.{Token, plain, equals, literal}
 use Rattle.dbtg_program.specs.declared.fault.Fault.{Fault}
 use Rattle.dbtg_program.specs.declared.fault.LineFault.{LineFault}
 use Rattle.dbtg_program.specs.declared.fault.LineFault.TheVariants.{Refused, Memory}
@@ -22,11 +26,12 @@ use Rattle.dbtg_program.specs.declared.fault.ProgramCause.TheVariants.{AsInScrip
 use Rattle.dbtg_program.specs.declared.fault.ProgramFault.TheVariants as program_fault
 use Rattle.dbtg_program.specs.declared.program.Line.{Line}
 use Rattle.dbtg_program.specs.declared.program.Sentence.{Sentence}
+use Rattle.dbtg_program.specs.declared.program.Sentence.TheVariants.{Filled, Statement}
 use Rattle.dbtg_program.specs.declared.program.Word.{Word}
 use Rattle.dbtg_program.specs.Faults.{behind_line, line_faults, refusal, sentence_faults, too_long, unknown_word, whole_faults, words_at_first}
 use Rattle.dbtg_program.specs.Going.{said_word}
-use Rattle.dbtg_program.specs.Reading.{RefusesProgram, line_of, sentence_of}
-use Rattle.dbtg_program.specs.Sentences.{Holding, Text, cut, cut_lines, fields_in, marked, words_in}
+use Rattle.dbtg_program.specs.Reading.{RefusesProgram, line_of, sentence_of, statement_in}
+use Rattle.dbtg_program.specs.Sentences.{Holding, Text, as_it_is, cut, cut_lines, fields_in, is_equals, is_spelled, marked, marked_from, word_of, words_in}
 use Rattle.dbtg_program.specs.States.{ProgramState, beginning_with}
 use Rattle.dbtg_program.specs.Inside.Reading.{Refuses, Stands, as_in_script, at_line, line_said, line_verdict, lines_verdict, sentence_line, sentence_verdict, statement_verdict, text_of, unknown_verdict, whole_verdict, words_verdict}
 
@@ -115,6 +120,52 @@ pub at_first_is : (text : Text) (schema : Lists) (state : ProgramState) (words :
     → words_verdict text words ≡ option_map AsInScript (verdict schema [] statement (map (said_word state) words))
 unfolding words_verdict
 at_first_is text schema state words e f = rw (e, f) refl
+
+-- STATEMENTS WITHOUT FIELDS
+
+no_field : (text : Text) (ms : List (Token × Bool)) → list_any (λ m. m.1) ms ≡ false → flat_map (unknown_word text) ms ≡ []
+no_field text [] h = refl
+no_field text ((t, false) ∷ ms) h = no_field text ms h
+no_field text ((t, true) ∷ ms) h = absurd cc
+
+said_plainly : (state : ProgramState) (t : Token) → said_word state (as_it_is t) ≡ t
+said_plainly state (plain t) = refl
+said_plainly state equals = refl
+said_plainly state (literal t) = refl
+
+words_plainly : (fields : List Item) (ms : List (Token × Bool)) → list_any (λ m. m.1) ms ≡ false → map (said_word (beginning_with fields)) (map (word_of fields) ms) ≡ map (λ m. m.0) ms
+words_plainly fields [] h = refl
+words_plainly fields ((t, false) ∷ ms) h = λ i. said_plainly (beginning_with fields) t i ∷ words_plainly fields ms h i
+words_plainly fields ((t, true) ∷ ms) h = absurd cc
+
+unmarked_from : (here : Bool) (ws : List Token) → map (λ m. m.0) (marked_from here ws) ≡ ws
+unmarked_from here [] = refl
+unmarked_from here (w ∷ ws) = ap (λ (ts : List Token). w ∷ ts) (unmarked_from (is_equals w) ws)
+
+unmarked : (ws : List Token) → map (λ m. m.0) (marked ws) ≡ ws
+unmarked [] = refl
+unmarked (v ∷ []) = refl
+unmarked (v ∷ w ∷ ws) =
+    elim (is_spelled (codes "FIND") v && is_spelled (codes "SORTED") w) as (λ b. map (λ m. m.0) (cond b ((v, false) ∷ (w, false) ∷ marked_from true ws) (marked_from false (v ∷ w ∷ ws))) ≡ v ∷ w ∷ ws)
+    [ true ↦ ap (λ (ts : List Token). v ∷ w ∷ ts) (unmarked_from true ws) | false ↦ unmarked_from false (v ∷ w ∷ ws) ]
+
+-- they are the words of a script's line
+words_are : (text : Text) (ws : List Token) → list_any (λ m. m.1) (marked ws) ≡ false → words_at_first text ws ≡ ws
+words_are text ws h = words_plainly (fields_in text) (marked ws) h ∙ unmarked ws
+
+pub judged_plainly : (text : Text) (ws : List Token) → list_any (λ m. m.1) (marked ws) ≡ false → statement_verdict text ws ≡ option_map AsInScript (verdict text.schema [] statement ws)
+unfolding statement_verdict verdict
+judged_plainly text ws h =
+    ap (λ (cs : List ProgramCause). first (cs ++ map AsInScript (script.faults_from text.schema [] statement (words_at_first text ws)))) (no_field text (marked ws) h)
+    ∙ first_map AsInScript (script.faults_from text.schema [] statement (words_at_first text ws)) ∙ ap (λ (ts : List Token). option_map AsInScript (first (script.faults_from text.schema [] statement ts))) (words_are text ws h)
+
+pub said_in_script : (text : Text) (ws : List Token) → list_any (λ m. m.1) (marked ws) ≡ false → statement_in text ws ≡ Statement (statement_of text.schema (labels fits statement ws))
+said_in_script text ws h =
+    ap (λ b. cond b (Filled (words_in text ws)) (Statement (statement_of text.schema (labels fits statement (words_at_first text ws))))) h
+    ∙ ap (λ (ts : List Token). Statement (statement_of text.schema (labels fits statement ts))) (words_are text ws h)
+
+pub said_with_fields : (text : Text) (ws : List Token) → list_any (λ m. m.1) (marked ws) ≡ true → statement_in text ws ≡ Filled (words_in text ws)
+said_with_fields text ws h = ap (λ b. cond b (Filled (words_in text ws)) (Statement (statement_of text.schema (labels fits statement (words_at_first text ws))))) h
 
 -- LINES AND THEIR SENTENCES
 

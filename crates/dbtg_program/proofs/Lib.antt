@@ -1,6 +1,12 @@
+mod Alike
+mod Bare
+mod Digits
 mod Gathering
+mod Held
 mod Judged
+mod Kept
 mod Marks
 mod Parts
 mod Steps
+mod Stripped
 pub mod Rows

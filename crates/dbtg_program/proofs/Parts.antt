@@ -1,9 +1,7 @@
 -- A run of bytes that are no signs is one part of a word, and so is a sign.
-use Rattle.std.proofs.Common.{◌≡◌, None, ℕ, zero, suc, ◌<◌, ◌≤◌, Bool, true, false, cond, ◌||◌, List, [], ◌∷◌, length, get_or, take, drop, map, refl, sym, ap, ◌∙◌, arith}
+use Rattle.std.proofs.Common.{◌≡◌, None, ℕ, zero, suc, ◌<◌, ◌≤◌, Bool, true, false, cond, ◌||◌, List, [], ◌∷◌, length, get_or, take, drop, refl, sym, ap, ◌∙◌, arith}
 use Rattle.std.specs.List.{list_any}
-use Rattle.std.proofs.lemmas.List.{length-map}
-use Rattle.dbtg_script.specs.declared.token.Token as code
-use Rattle.dbtg_script.specs.Tokens.{Token, equals, literal, plain, view}
+use Rattle.dbtg_script.specs.Tokens.{Token, equals, literal, plain}
 use Rattle.dbtg_program.specs.Sentences.{is_sign, onto_part, paragraph_in, parts}
 
 sign_first : (b : ℕ) (bs : List ℕ) → is_sign b ≡ true → parts (b ∷ bs) ≡ (b ∷ []) ∷ parts bs
@@ -53,13 +51,12 @@ pub no_part : (bs : List ℕ) → length bs ≡ 0 → parts bs ≡ []
 no_part [] h = refl
 no_part (b ∷ bs) h = absurd (omega arith)
 
--- more than one word, or no period: no paragraph begins
-more_words : (has : Bool) (ws : List Token) (w : Token) (rest : List Token) → ws ≡ w ∷ rest → (length rest ≡ 0 → ⊥) → None ≡ paragraph_in has ws
-more_words has ws w [] is some = absurd (some refl)
-more_words true ws (plain t) (x ∷ rest) is some = rw is refl
-more_words true ws equals (x ∷ rest) is some = rw is refl
-more_words true ws (literal t) (x ∷ rest) is some = rw is refl
-more_words false ws w (x ∷ rest) is some = refl
+-- more than one word: no paragraph begins
+no_more : (has : Bool) (w x : Token) (us : List Token) → None ≡ paragraph_in has (w ∷ x ∷ us)
+no_more true (plain t) x us = refl
+no_more true equals x us = refl
+no_more true (literal t) x us = refl
+no_more false w x us = refl
 
-pub words_behind : (has : Bool) (ws : List code.Token) (w : code.Token) (rest : List code.Token) → ws ≡ w ∷ rest → (length rest ≡ 0 → ⊥) → None ≡ paragraph_in has (map view ws)
-words_behind has ws w rest is some = more_words has (map view ws) (view w) (map view rest) (ap (map view) is) (λ h. some (sym (length-map rest view) ∙ h))
+pub two_words : (has : Bool) (ws ts us : List Token) (w x : Token) → ws ≡ w ∷ ts → ts ≡ x ∷ us → None ≡ paragraph_in has ws
+two_words has ws ts us w x is more = no_more has w x us ∙ ap (paragraph_in has) (sym (is ∙ ap (λ (rest : List Token). w ∷ rest) more))

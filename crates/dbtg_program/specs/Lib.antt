@@ -8,4 +8,5 @@ pub mod Sentences
 pub mod Grammar
 pub mod Faults
 pub mod Reading
+pub mod Laws
 pub mod Inside

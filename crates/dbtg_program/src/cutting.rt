@@ -1,8 +1,8 @@
 //! The lines of a program that hold a sentence, cut into words.
 
-ghost use Rattle.dbtg_script.specs.Lines.{ends_with, lines, trimmed};
+ghost use Rattle.dbtg_script.specs.Lines.{ends_with, lines};
 ghost use Rattle.dbtg_script.specs.Tokens.{plain, tokens, view};
-ghost use Rattle.dbtg_program.specs.Sentences.{apart, cut, is_sign, paragraph_in, parts, sentences_of, with_signs};
+ghost use Rattle.dbtg_program.specs.Sentences.{apart, is_sign, paragraph_in, parts, sentences_of, with_signs};
 ghost use Rattle.dbtg_program.specs.Inside.Views.{view_holding};
 ghost use Rattle.std.specs.List.{flat_map};
 ghost use Rattle.std.specs.Prelude.{◌≡◌, ◌==◌, ◌&&◌, ◌<◌, ◌≤◌, ◌∷◌, ◌++◌, ℕ, [], IfOk, MatchOption, OnOk, OnSome, drop, false, true, length, map, option_map, slice_index, take};
@@ -12,12 +12,11 @@ use crate::word::{begins, is_own_name};
 use dbtg_script::{Lines, Token, Tokens, is_statement, trimmed, without_last};
 use std::alloc::{AllocError, Global};
 
-/// A line that holds a sentence: its number, the paragraph that begins in it, and its words.
+/// A line that holds a sentence, and its number. It is cut into words where they are wanted.
 #[derive(Drop)]
 pub struct Holding<'a> {
     pub number: u64,
-    pub paragraph: Option<&'a [u8]>,
-    pub words: Vec<Token<'a>>,
+    pub line: &'a [u8],
 }
 
 /// What is left of a word that is cut at its signs.
@@ -117,7 +116,7 @@ fn with_signs<'a>(alloc: Global, words: Vec<Token<'a>>) -> Result<Vec<Token<'a>>
 fn tokens_of<'a>(alloc: Global, line: &'a [u8]) -> Result<Vec<Token<'a>>, AllocError>
     ensures { IfOk result (λ v. map view v.items ≡ tokens false line.now) }
 {
-    let mut words = Vec::new(alloc);
+    let mut words = Vec::with_capacity(alloc, 8)?;
     let mut left = Tokens { rest: line };
     while let Some(token) = left.next() {
         words.push(token)?;
@@ -144,35 +143,39 @@ fn own_name(token: Token<'_>) -> Option<&[u8]>
 }
 
 /// The paragraph that begins here: one name alone, and a period ends the line.
-fn paragraph_in<'a>(has_period: bool, words: &[Token<'a>]) -> Option<&'a [u8]>
-    ensures { option_map (λ p. p.now) result ≡ paragraph_in has_period (map view words.now) }
+#[tactic(auto, using(crate::proofs::Parts::two_words))]
+fn paragraph_in(has_period: bool, line: &[u8]) -> Option<&[u8]>
+    ensures { option_map (λ p. p.now) result ≡ paragraph_in has_period (tokens false line.now) }
 {
-    match words.split_first() {
-        None => None,
-        Some((word, rest)) => {
-            if !has_period {
-                return None;
-            }
-            if rest.is_empty() {
-                return own_name(*word);
-            }
-            None
-        }
+    if !has_period {
+        return None;
+    }
+    let mut left = Tokens { rest: line };
+    let Some(word) = left.next() else {
+        return None;
+    };
+    match left.next() {
+        None => own_name(word),
+        Some(_) => None,
     }
 }
 
-/// A line, cut into words.
-fn cut<'a>(alloc: Global, number: u64, line: &'a [u8]) -> Result<Holding<'a>, AllocError>
-    ensures { IfOk result (λ h. view_holding h ≡ cut number line.now) }
-{
-    let words = tokens_of(alloc, trimmed(line))?;
-    let has_period = ends_with(without_last(line, b'\r'), b'.');
-    let paragraph = paragraph_in(has_period, words.as_slice());
-    Ok(Holding {
-        number,
-        paragraph,
-        words: with_signs(alloc, words)?,
-    })
+impl<'a> Holding<'a> {
+    /// The paragraph that begins in the line.
+    pub fn paragraph(&self) -> Option<&'a [u8]>
+        ensures { option_map (λ p. p.now) result ≡ (view_holding self.now).paragraph }
+    {
+        let has_period = ends_with(without_last(self.line, b'\r'), b'.');
+        paragraph_in(has_period, trimmed(self.line))
+    }
+
+    /// The words of the line.
+    pub fn words(&self, alloc: Global) -> Result<Vec<Token<'a>>, AllocError>
+        ensures { IfOk result (λ v. map view v.items ≡ (view_holding self.now).words) }
+    {
+        let words = tokens_of(alloc, trimmed(self.line))?;
+        with_signs(alloc, words)
+    }
 }
 
 /// The sentences of a text.
@@ -185,7 +188,7 @@ pub fn sentences_of<'a>(alloc: Global, text: &'a [u8]) -> Result<Vec<Holding<'a>
     let mut left = Lines { rest: text };
     while let Some(line) = left.next() {
         if is_statement(trimmed(line)) {
-            sentences.push(cut(alloc, number, line)?)?;
+            sentences.push(Holding { number, line })?;
         }
         number += 1;
     }

@@ -80,13 +80,26 @@ pub fn mark<'a>(alloc: Global, words: &[Token<'a>]) -> Result<Vec<Marked<'a>>, A
     Ok(marked)
 }
 
-/// Is one of the words a field word?
-pub fn has_field(words: &[Marked]) -> bool
-    ensures { result ≡ list_any (λ m. m.1) (map view_marked words.now) }
+/// Is one of these words a field word? The flag says that the first is in a value's place.
+fn has_field_from(here: bool, words: &[Token]) -> bool
+    ensures { result ≡ list_any (λ m. m.1) (marked_from here (map view words.now)) }
 {
     match words.split_first() {
         None => false,
-        Some((word, rest)) => word.is_field || has_field(rest),
+        Some((word, rest)) => {
+            (here && is_field_word(*word)) || has_field_from(is_equals(*word), rest)
+        }
+    }
+}
+
+/// Is one of the words of a statement a field word?
+pub fn has_field(words: &[Token]) -> bool
+    ensures { result ≡ list_any (λ m. m.1) (marked (map view words.now)) }
+{
+    if is_sorted(words) {
+        has_field_from(true, &words[2..])
+    } else {
+        has_field_from(false, words)
     }
 }
 

@@ -33,7 +33,7 @@ fn digits_of(alloc: Global, state: &State, word: &Word) -> Result<Row<u8>, Alloc
 fn digits_of_each(alloc: Global, state: &State, words: &[Word]) -> Result<Vec<Row<u8>>, AllocError>
     ensures { IfOk result (λ each. each.items ≡ map (digits_of state.now) words.now) }
 {
-    let mut each = Vec::new(alloc);
+    let mut each = Vec::with_capacity(alloc, words.len())?;
     for word in words {
         each.push(digits_of(alloc, state, word)?)?;
     }
@@ -66,7 +66,7 @@ fn tokens_of<'a>(
     requires { digits.now ≡ map (digits_of state.now) words.now }
     ensures { IfOk result (λ tokens. map view tokens.items ≡ map (said_word state.now) words.now) }
 {
-    let mut tokens = Vec::new(alloc);
+    let mut tokens = Vec::with_capacity(alloc, words.len())?;
     for (i, word) in words.iter().enumerate() {
         tokens.push(token_of(state, word, digits[i].as_slice()))?;
     }

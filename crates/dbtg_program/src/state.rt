@@ -41,17 +41,16 @@ fn empty_value(alloc: Global, picture: Picture) -> Value
 }
 
 /// How many bytes a text has without the spaces at its end.
+#[tactic(auto, using(crate::proofs::Stripped::stripped_on, crate::proofs::Stripped::stripped_end))]
 pub fn stripped_len(text: &[u8]) -> usize
     ensures within { result ≤ length text.now }
     ensures stripped { take result text.now ≡ stripped text.now }
 {
-    match text.split_first() {
-        None => 0,
-        Some((b, rest)) => {
-            let len = stripped_len(rest);
-            if len > 0 || *b != b' ' { len + 1 } else { 0 }
-        }
+    let mut len = text.len();
+    while len > 0 && text[len - 1] == b' ' {
+        len -= 1;
     }
+    len
 }
 
 /// A value of the database, as a field holds it.

@@ -8,23 +8,24 @@ ghost use Rattle.dbtg_script.specs.Tokens.{view};
 ghost use Rattle.dbtg_program.specs.Faults.{faults_from, when};
 ghost use Rattle.dbtg_program.specs.Grammar.{form};
 ghost use Rattle.dbtg_program.specs.Reading.{said_by, sentence_of, statement_in};
-ghost use Rattle.dbtg_program.specs.Sentences.{fields_in, is_word, paragraph_at, word_at, word_of};
-ghost use Rattle.dbtg_program.specs.Inside.Reading.{Refuses, as_in_script, at_first, said_with, sentence_verdict, statement_verdict, words_verdict};
-ghost use Rattle.dbtg_program.specs.Inside.Views.{view_holding, view_marked};
-ghost use Rattle.std.specs.Prelude.{◌≡◌, IfErr, IfOk, None, OnOk, if◌then◌else◌, map, nat_lt};
+ghost use Rattle.dbtg_program.specs.Sentences.{is_word, marked, paragraph_at, word_at};
+ghost use Rattle.dbtg_program.specs.Inside.Reading.{Refuses, as_in_script, at_first, sentence_verdict, statement_verdict, words_verdict};
+ghost use Rattle.dbtg_program.specs.Inside.Views.{view_holding};
+ghost use Rattle.std.specs.List.{list_any};
+ghost use Rattle.std.specs.Prelude.{◌≡◌, IfErr, IfOk, None, OnOk, false, map, nat_lt, true};
 
 use crate::cutting::Holding;
 use crate::fault::{LineFault, ProgramCause};
 use crate::grammar::{Keyword, form};
 use crate::judging::fault_from;
-use crate::marking::{Marked, has_field, mark, unknown_field, words_of};
+use crate::marking::{has_field, mark, unknown_field, words_of};
 use crate::program::{Sentence, Word};
 use crate::said::read_said;
 use crate::saying::said_by;
 use crate::text::Text;
 use crate::word::{is_word, verb_of, word_at};
 use dbtg_schema::Row;
-use dbtg_script::{LineFault as ScriptLineFault, Token};
+use dbtg_script::{LineFault as ScriptLineFault, Token, read_statement_words};
 use dbtg_unit::Statement;
 use std::alloc::Global;
 
@@ -50,31 +51,16 @@ fn read_at_first(alloc: Global, text: &Text, words: &[Word]) -> Result<Statement
     }
 }
 
-/// The sentence of a statement, with fields or without.
-fn filled_or_said(has_field: bool, words: Vec<Word>, statement: Statement) -> Sentence
-    ensures { result ≡ if has_field then Sentence.Filled words.items else Sentence.Statement statement }
+/// The sentence of these words, whatever they say at first.
+fn filled(words: Vec<Word>, _at_first: Statement) -> Sentence
+    ensures { result ≡ Sentence.Filled words.items }
 {
-    if has_field {
-        Sentence::Filled(Row::of(words))
-    } else {
-        Sentence::Statement(statement)
-    }
+    Sentence::Filled(Row::of(words))
 }
 
-/// The same for words whose fields are known.
-fn read_marked(alloc: Global, text: &Text, marked: &[Marked]) -> Result<Sentence, LineFault>
-    ensures accepted { OnOk result (words_verdict text.now (map (word_of (fields_in text.now)) (map view_marked marked.now)) ≡ None) }
-    ensures sentence { IfOk result (λ s. s ≡ said_with text.now (map view_marked marked.now)) }
-    ensures refused { IfErr result (λ e. Refuses e (words_verdict text.now (map (word_of (fields_in text.now)) (map view_marked marked.now)))) }
-{
-    let words = words_of(alloc, text, marked)?;
-    match read_at_first(alloc, text, words.as_slice()) {
-        Ok(statement) => Ok(filled_or_said(has_field(marked), words, statement)),
-        Err(fault) => Err(fault),
-    }
-}
-
-fn read_statement(alloc: Global, text: &Text, words: &[Token]) -> Result<Sentence, LineFault>
+/// A statement with fields.
+fn read_filled(alloc: Global, text: &Text, words: &[Token]) -> Result<Sentence, LineFault>
+    requires { list_any (λ m. m.1) (marked (map view words.now)) ≡ true }
     ensures accepted { OnOk result (statement_verdict text.now (map view words.now) ≡ None) }
     ensures sentence { IfOk result (λ s. s ≡ statement_in text.now (map view words.now)) }
     ensures refused { IfErr result (λ e. Refuses e (statement_verdict text.now (map view words.now))) }
@@ -83,7 +69,36 @@ fn read_statement(alloc: Global, text: &Text, words: &[Token]) -> Result<Sentenc
     if let Some(cause) = unknown_field(text, marked.as_slice()) {
         return Err(LineFault::Refused(cause));
     }
-    read_marked(alloc, text, marked.as_slice())
+    let words = words_of(alloc, text, marked.as_slice())?;
+    match read_at_first(alloc, text, words.as_slice()) {
+        Ok(at_first) => Ok(filled(words, at_first)),
+        Err(fault) => Err(fault),
+    }
+}
+
+/// A statement without fields, which is one of a script.
+fn read_plain(alloc: Global, text: &Text, words: &[Token]) -> Result<Sentence, LineFault>
+    requires { list_any (λ m. m.1) (marked (map view words.now)) ≡ false }
+    ensures accepted { OnOk result (statement_verdict text.now (map view words.now) ≡ None) }
+    ensures sentence { IfOk result (λ s. s ≡ statement_in text.now (map view words.now)) }
+    ensures refused { IfErr result (λ e. Refuses e (statement_verdict text.now (map view words.now))) }
+{
+    match read_statement_words(alloc, text.schema(), words) {
+        Ok(statement) => Ok(Sentence::Statement(statement)),
+        Err(fault) => Err(as_in_script(fault)),
+    }
+}
+
+fn read_statement(alloc: Global, text: &Text, words: &[Token]) -> Result<Sentence, LineFault>
+    ensures accepted { OnOk result (statement_verdict text.now (map view words.now) ≡ None) }
+    ensures sentence { IfOk result (λ s. s ≡ statement_in text.now (map view words.now)) }
+    ensures refused { IfErr result (λ e. Refuses e (statement_verdict text.now (map view words.now))) }
+{
+    if has_field(words) {
+        read_filled(alloc, text, words)
+    } else {
+        read_plain(alloc, text, words)
+    }
 }
 
 /// The sentence with which this paragraph begins.
@@ -129,12 +144,12 @@ pub fn read_sentence(
     ensures sentence { IfOk result (λ s. s ≡ sentence_of text.now (view_holding holding.now)) }
     ensures refused { IfErr result (λ e. Refuses e (sentence_verdict text.now at (view_holding holding.now))) }
 {
-    if let Some(name) = holding.paragraph {
+    if let Some(name) = holding.paragraph() {
         return read_heading(text, at, name);
     }
-    let words = holding.words.as_slice();
-    match verb_of(words) {
-        Some(verb) => read_verb(alloc, text, at, words, verb),
-        None => read_statement(alloc, text, words),
+    let words = holding.words(alloc)?;
+    match verb_of(words.as_slice()) {
+        Some(verb) => read_verb(alloc, text, at, words.as_slice(), verb),
+        None => read_statement(alloc, text, words.as_slice()),
     }
 }

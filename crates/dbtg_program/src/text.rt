@@ -59,7 +59,7 @@ fn enter_paragraph(
 ) -> Result<(), AllocError>
     ensures { OnOk result ((q : List ℕ) → leads_to places.new q ≡ option_or (leads_to places.old q) (cond (some_and (bytes_eq q) (view_holding sentence.now).paragraph) (Some at) None)) }
 {
-    match sentence.paragraph {
+    match sentence.paragraph() {
         None => Ok(()),
         Some(name) => places.enter(alloc, name, at),
     }
@@ -106,11 +106,11 @@ fn counters_of(alloc: Global, sentences: &[Holding]) -> Result<Vec<Item>, AllocE
 {
     let mut counters = Vec::new(alloc);
     for sentence in sentences {
-        let words = sentence.words.as_slice();
-        if !begins(words, Keyword::Level) {
+        let words = sentence.words(alloc)?;
+        if !begins(words.as_slice(), Keyword::Level) {
             return Ok(counters);
         }
-        counters.push(counter_of(alloc, words)?)?;
+        counters.push(counter_of(alloc, words.as_slice())?)?;
     }
     Ok(counters)
 }

@@ -2,30 +2,19 @@
 
 ghost use Rattle.dbtg_schema.specs.Texts.Spelling.{among};
 ghost use Rattle.dbtg_script.specs.Tokens.{view};
-ghost use Rattle.dbtg_program.specs.Sentences.{begins, is_equals, is_field_word, is_own_name, is_spelled, is_two_parts, is_word, plain_text, spelling, text_in, verb_of, word_at};
+ghost use Rattle.dbtg_program.specs.Sentences.{begins, is_equals, is_field_word, is_own_name, is_spelled, is_two_parts, is_word, plain_text, spelling, text_in, verb_of, verbs, word_at};
 ghost use Rattle.std.specs.List.{find};
 ghost use Rattle.std.specs.Prelude.{◌≡◌, map, option_map};
+ghost use Rattle.std.specs.Str.{bytes_eq};
 
 use crate::grammar::Keyword;
 use dbtg_schema::is_name;
-use dbtg_script::{Token, behind, has_byte, in_front};
+use dbtg_script::{Token, behind, has_byte, in_front, is_number};
 
 /// The words that cannot name paragraphs and counters: TO, STATUS, and those that begin a sentence that scripts do not have.
 const NO_NAMES: [Keyword; 10] = [
     Keyword::To,
     Keyword::Status,
-    Keyword::Level,
-    Keyword::Move,
-    Keyword::Add,
-    Keyword::Subtract,
-    Keyword::Go,
-    Keyword::If,
-    Keyword::Assert,
-    Keyword::Stop,
-];
-
-/// The words that begin a sentence that scripts do not have.
-const VERBS: [Keyword; 8] = [
     Keyword::Level,
     Keyword::Move,
     Keyword::Add,
@@ -113,12 +102,13 @@ fn is_two_parts(word: &[u8]) -> bool
     !in_front(word, b'.').is_empty() && !item.is_empty() && !has_byte(item, b'.')
 }
 
-/// Is it a field, in a value's place?
+/// Is it a field, in a value's place? Most words there are numbers, which are told at once.
+#[tactic(auto, using(crate::proofs::Digits::number_no_field))]
 pub fn is_field_word(token: Token) -> bool
     ensures { result ≡ is_field_word (view token.entry) }
 {
     match token {
-        Token::Plain(text) => is_own_name(text) || is_two_parts(text),
+        Token::Plain(text) => !is_number(text) && (is_own_name(text) || is_two_parts(text)),
         Token::Equals => false,
         Token::Literal(_) => false,
     }
@@ -141,19 +131,28 @@ pub fn begins(words: &[Token], keyword: Keyword) -> bool
     is_word(word_at(words, 0), keyword)
 }
 
-/// The first of these with which the words begin.
-fn beginning(words: &[Token], keywords: &[Keyword]) -> Option<Keyword>
-    ensures { result ≡ find (λ k. begins k (map view words.now)) keywords.now }
+/// The verb that is spelled like this.
+fn verb_in(word: &[u8]) -> Option<Keyword>
+    ensures { result ≡ find (λ k. bytes_eq word.now (spelling k)) verbs }
 {
-    match keywords.split_first() {
-        None => None,
-        Some((keyword, rest)) => {
-            if begins(words, *keyword) {
-                Some(*keyword)
-            } else {
-                beginning(words, rest)
-            }
-        }
+    if word == b"01".as_slice() {
+        Some(Keyword::Level)
+    } else if word == b"MOVE".as_slice() {
+        Some(Keyword::Move)
+    } else if word == b"ADD".as_slice() {
+        Some(Keyword::Add)
+    } else if word == b"SUBTRACT".as_slice() {
+        Some(Keyword::Subtract)
+    } else if word == b"GO".as_slice() {
+        Some(Keyword::Go)
+    } else if word == b"IF".as_slice() {
+        Some(Keyword::If)
+    } else if word == b"ASSERT".as_slice() {
+        Some(Keyword::Assert)
+    } else if word == b"STOP".as_slice() {
+        Some(Keyword::Stop)
+    } else {
+        None
     }
 }
 
@@ -161,5 +160,9 @@ fn beginning(words: &[Token], keywords: &[Keyword]) -> Option<Keyword>
 pub fn verb_of(words: &[Token]) -> Option<Keyword>
     ensures { result ≡ verb_of (map view words.now) }
 {
-    beginning(words, &VERBS)
+    match word_at(words, 0) {
+        Token::Plain(word) => verb_in(word),
+        Token::Equals => None,
+        Token::Literal(_) => None,
+    }
 }

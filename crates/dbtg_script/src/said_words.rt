@@ -9,9 +9,11 @@ ghost use Rattle.std.specs.Prelude.{◌≡◌, [], IfErr, IfOk, None, OnOk, map}
 
 use crate::automaton::State;
 use crate::fault::LineFault;
+use crate::left::Left;
 use crate::reader::{end_of, take};
 use crate::statement::statement_of;
 use crate::token::Token;
+use crate::usual::by_words;
 use crate::words::Words;
 use dbtg_schema::Schema;
 use dbtg_unit::Statement;
@@ -45,6 +47,9 @@ pub fn read_statement_words<'a>(
     ensures statement { IfOk result (λ s. s ≡ statement_of schema.now (labels fits statement (map view tokens.now))) }
     ensures refused { IfErr result (λ e. Refuses e (verdict schema.now [] statement (map view tokens.now))) }
 {
+    if let Some(statement) = by_words(alloc, schema, &mut Left::List(tokens))? {
+        return Ok(statement);
+    }
     let mut words = Words::new(alloc, schema);
     match take_each(&mut words, tokens) {
         Err(fault) => Err(fault),

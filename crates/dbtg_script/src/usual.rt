@@ -1,18 +1,20 @@
-//! Lines of usual forms, read directly into their statements, without a list of their words. Any other line, and any line with a
-//! fault, is left to the reader of all lines.
+//! Words of usual forms, read directly into their statements, without a list of their roles. Any other words, and any with a fault,
+//! are left to the reader of all lines.
 
+ghost use Rattle.dbtg_schema.specs.Lists.{Lists};
 ghost use Rattle.dbtg_schema.specs.Structure.{calc_of, item_list};
 ghost use Rattle.dbtg_script.specs.Inside.Known.{Says};
 ghost use Rattle.dbtg_script.specs.Inside.Reading.{MayTakeMemory};
 ghost use Rattle.dbtg_script.specs.Lookups.{item_named};
 ghost use Rattle.dbtg_script.specs.Reading.{first_word_faults};
 ghost use Rattle.dbtg_script.specs.StatementGrammar.{fits, value};
-ghost use Rattle.dbtg_script.specs.Tokens.{equals, plain, tokens, view};
-ghost use Rattle.dbtg_script.specs.Inside.Usual.{AreAssigned, AreSaid, IsAssigned, IsCalcType, IsGiven, IsOfSet, IsOnlyGiven, calc_items, nothing};
+ghost use Rattle.dbtg_script.specs.Tokens.{equals, plain, view};
+ghost use Rattle.dbtg_script.specs.Inside.Usual.{AreAssigned, AreSaid, IsAssigned, IsCalcType, IsGiven, IsOfSet, IsOnlyGiven, calc_items, nothing, words_left};
 ghost use Rattle.std.specs.Prelude.{◌≡◌, ◌<◌, ◌∷◌, ℕ, [], IfOk, IfSome, OnErr, Some, codes, false, is_err, true};
 
 use crate::automaton::Kind;
 use crate::checks::{is_sorted, key_fault, without_minus};
+use crate::left::Left;
 use crate::line::{ends_in_text, is_allowed, is_statement};
 use crate::lookups::sort_picture;
 use crate::spelling::{is_key, is_signed, number};
@@ -25,8 +27,8 @@ use dbtg_unit::{Change, Form, MOST_STATEMENTS, Statement, Suppress, Which};
 use std::alloc::{AllocError, Global};
 
 /// The next word, if it is a plain one.
-fn plain_word<'a>(left: &mut Tokens<'a>) -> Option<&'a [u8]>
-    ensures { IfSome result (λ t. tokens false left.old.rest.now ≡ plain t.now ∷ tokens false left.new.rest.now) }
+fn plain_word<'a>(left: &mut Left<'a>) -> Option<&'a [u8]>
+    ensures { IfSome result (λ t. words_left left.old ≡ plain t.now ∷ words_left left.new) }
 {
     match left.next() {
         Some(Token::Plain(text)) => Some(text),
@@ -35,8 +37,8 @@ fn plain_word<'a>(left: &mut Tokens<'a>) -> Option<&'a [u8]>
 }
 
 /// Is the next word this one?
-fn takes(left: &mut Tokens, word: &[u8]) -> bool
-    ensures { result ≡ true → tokens false left.old.rest.now ≡ plain word.now ∷ tokens false left.new.rest.now }
+fn takes(left: &mut Left, word: &[u8]) -> bool
+    ensures { result ≡ true → words_left left.old ≡ plain word.now ∷ words_left left.new }
 {
     match plain_word(left) {
         Some(text) => text == word,
@@ -45,8 +47,8 @@ fn takes(left: &mut Tokens, word: &[u8]) -> bool
 }
 
 /// Is no word left?
-fn ends(left: &mut Tokens) -> bool
-    ensures { result ≡ true → tokens false left.old.rest.now ≡ [] }
+fn ends(left: &mut Left) -> bool
+    ensures { result ≡ true → words_left left.old ≡ [] }
 {
     left.next().is_none()
 }
@@ -65,8 +67,8 @@ fn find(form: Form) -> Statement
 }
 
 /// The set of `OF s SET`, if these are the last words.
-fn of_set(schema: &Schema, left: &mut Tokens) -> Option<SetNo>
-    ensures { IfSome result (λ s. IsOfSet schema.now (tokens false left.old.rest.now) s) }
+fn of_set(schema: &Schema, left: &mut Left) -> Option<SetNo>
+    ensures { IfSome result (λ s. IsOfSet schema.now (words_left left.old) s) }
 {
     if !takes(left, b"OF") {
         return None;
@@ -82,8 +84,8 @@ fn of_set(schema: &Schema, left: &mut Tokens) -> Option<SetNo>
 }
 
 /// FIND KEY k
-fn by_key(schema: &Schema, left: &mut Tokens) -> Option<Statement>
-    ensures { IfSome result (λ s. AreSaid schema.now (plain (codes "FIND") ∷ plain (codes "KEY") ∷ tokens false left.old.rest.now) s) }
+fn by_key(schema: &Schema, left: &mut Left) -> Option<Statement>
+    ensures { IfSome result (λ s. AreSaid schema.now (plain (codes "FIND") ∷ plain (codes "KEY") ∷ words_left left.old) s) }
 {
     let text = plain_word(left)?;
     if !ends(left) {
@@ -99,8 +101,8 @@ fn by_key(schema: &Schema, left: &mut Tokens) -> Option<Statement>
 }
 
 /// FIND n OF s SET
-fn nth(schema: &Schema, word: &[u8], left: &mut Tokens) -> Option<Statement>
-    ensures { IfSome result (λ s. AreSaid schema.now (plain (codes "FIND") ∷ plain word.now ∷ tokens false left.old.rest.now) s) }
+fn nth(schema: &Schema, word: &[u8], left: &mut Left) -> Option<Statement>
+    ensures { IfSome result (λ s. AreSaid schema.now (plain (codes "FIND") ∷ plain word.now ∷ words_left left.old) s) }
 {
     if !is_signed(word) {
         return None;
@@ -120,9 +122,9 @@ fn nth(schema: &Schema, word: &[u8], left: &mut Tokens) -> Option<Statement>
 fn by_sort_key(
     alloc: Global,
     schema: &Schema,
-    left: &mut Tokens,
+    left: &mut Left,
 ) -> Result<Option<Statement>, AllocError>
-    ensures { IfOk result (λ found. IfSome found (λ s. AreSaid schema.now (plain (codes "FIND") ∷ plain (codes "SORTED") ∷ tokens false left.old.rest.now) s)) }
+    ensures { IfOk result (λ found. IfSome found (λ s. AreSaid schema.now (plain (codes "FIND") ∷ plain (codes "SORTED") ∷ words_left left.old) s)) }
 {
     let Some(token) = left.next() else {
         return Ok(None);
@@ -150,9 +152,9 @@ fn only_change(
     alloc: Global,
     schema: &Schema,
     rtype: RecordNo,
-    left: &mut Tokens,
+    left: &mut Left,
 ) -> Result<Option<Change>, AllocError>
-    ensures { IfOk result (λ found. IfSome found (λ c. IsOnlyGiven schema.now rtype (tokens false left.old.rest.now) c.item c.value)) }
+    ensures { IfOk result (λ found. IfSome found (λ c. IsOnlyGiven schema.now rtype (words_left left.old) c.item c.value)) }
 {
     let Some(name) = plain_word(left) else {
         return Ok(None);
@@ -176,8 +178,8 @@ fn only_change(
 }
 
 /// The record type of `r RECORD USING`.
-fn calc_type(schema: &Schema, left: &mut Tokens) -> Option<RecordNo>
-    ensures { IfSome result (λ r. IsCalcType schema.now r (tokens false left.old.rest.now) (tokens false left.new.rest.now)) }
+fn calc_type(schema: &Schema, left: &mut Left) -> Option<RecordNo>
+    ensures { IfSome result (λ r. IsCalcType schema.now r (words_left left.old) (words_left left.new)) }
 {
     let name = plain_word(left)?;
     if !takes(left, b"RECORD") {
@@ -201,12 +203,8 @@ fn only_calc_item(schema: &Schema, rtype: RecordNo) -> Option<ItemNo>
 }
 
 /// FIND CALC r RECORD USING i = v
-fn by_calc(
-    alloc: Global,
-    schema: &Schema,
-    left: &mut Tokens,
-) -> Result<Option<Statement>, AllocError>
-    ensures { IfOk result (λ found. IfSome found (λ s. AreSaid schema.now (plain (codes "FIND") ∷ plain (codes "CALC") ∷ tokens false left.old.rest.now) s)) }
+fn by_calc(alloc: Global, schema: &Schema, left: &mut Left) -> Result<Option<Statement>, AllocError>
+    ensures { IfOk result (λ found. IfSome found (λ s. AreSaid schema.now (plain (codes "FIND") ∷ plain (codes "CALC") ∷ words_left left.old) s)) }
 {
     let Some(rtype) = calc_type(schema, left) else {
         return Ok(None);
@@ -234,9 +232,9 @@ fn by_calc(
 fn usual_find(
     alloc: Global,
     schema: &Schema,
-    left: &mut Tokens,
+    left: &mut Left,
 ) -> Result<Option<Statement>, AllocError>
-    ensures { IfOk result (λ found. IfSome found (λ s. AreSaid schema.now (plain (codes "FIND") ∷ tokens false left.old.rest.now) s)) }
+    ensures { IfOk result (λ found. IfSome found (λ s. AreSaid schema.now (plain (codes "FIND") ∷ words_left left.old) s)) }
 {
     let Some(word) = plain_word(left) else {
         return Ok(None);
@@ -253,8 +251,8 @@ fn usual_find(
 }
 
 /// The word after `=`, if it can be a value.
-fn value_word<'a>(left: &mut Tokens<'a>) -> Option<Token<'a>>
-    ensures words { IfSome result (λ t. tokens false left.old.rest.now ≡ equals ∷ view t ∷ tokens false left.new.rest.now) }
+fn value_word<'a>(left: &mut Left<'a>) -> Option<Token<'a>>
+    ensures words { IfSome result (λ t. words_left left.old ≡ equals ∷ view t ∷ words_left left.new) }
     ensures fitting { IfSome result (λ t. fits value (view t) ≡ true) }
 {
     match left.next() {
@@ -270,8 +268,8 @@ fn value_word<'a>(left: &mut Tokens<'a>) -> Option<Token<'a>>
 }
 
 /// The value of an item that was named last, by `= v`; none if this is not a value of it.
-fn value_behind(alloc: Global, left: &mut Tokens, item: &Item) -> Result<Option<Value>, AllocError>
-    ensures { IfOk result (λ found. IfSome found (λ v. IsGiven item.now (plain item.now.name ∷ tokens false left.old.rest.now) (tokens false left.new.rest.now) v)) }
+fn value_behind(alloc: Global, left: &mut Left, item: &Item) -> Result<Option<Value>, AllocError>
+    ensures { IfOk result (λ found. IfSome found (λ v. IsGiven item.now (plain item.now.name ∷ words_left left.old) (words_left left.new) v)) }
 {
     if item.name.as_slice() == b"SUPPRESS".as_slice() {
         return Ok(None);
@@ -283,8 +281,8 @@ fn value_behind(alloc: Global, left: &mut Tokens, item: &Item) -> Result<Option<
 }
 
 /// The value of an item; its blank if the item is not named next; none if it is named and its value is wrong.
-fn next_value(alloc: Global, left: &mut Tokens, item: &Item) -> Result<Option<Value>, AllocError>
-    ensures { IfOk result (λ found. IfSome found (λ v. IsAssigned item.now (tokens false left.old.rest.now) (tokens false left.new.rest.now) v)) }
+fn next_value(alloc: Global, left: &mut Left, item: &Item) -> Result<Option<Value>, AllocError>
+    ensures { IfOk result (λ found. IfSome found (λ v. IsAssigned item.now (words_left left.old) (words_left left.new) v)) }
 {
     let mut ahead = *left;
     if !takes(&mut ahead, item.name.as_slice()) {
@@ -312,9 +310,9 @@ fn usual_values(
     alloc: Global,
     schema: &Schema,
     rtype: RecordNo,
-    left: &mut Tokens,
+    left: &mut Left,
 ) -> Result<Option<Vec<Value>>, AllocError>
-    ensures { IfOk result (λ found. IfSome found (λ vs. AreAssigned schema.now rtype 0 (item_list schema.now rtype) (tokens false left.old.rest.now) vs.items)) }
+    ensures { IfOk result (λ found. IfSome found (λ vs. AreAssigned schema.now rtype 0 (item_list schema.now rtype) (words_left left.old) vs.items)) }
 {
     let items = schema.items(rtype);
     let mut values = Vec::with_capacity(alloc, items.len())?;
@@ -338,9 +336,9 @@ fn usual_values(
 fn usual_store(
     alloc: Global,
     schema: &Schema,
-    left: &mut Tokens,
+    left: &mut Left,
 ) -> Result<Option<Statement>, AllocError>
-    ensures { IfOk result (λ found. IfSome found (λ s. AreSaid schema.now (plain (codes "STORE") ∷ tokens false left.old.rest.now) s)) }
+    ensures { IfOk result (λ found. IfSome found (λ s. AreSaid schema.now (plain (codes "STORE") ∷ words_left left.old) s)) }
 {
     let Some(name) = plain_word(left) else {
         return Ok(None);
@@ -371,9 +369,9 @@ fn usual_store(
 fn usual_modify(
     alloc: Global,
     schema: &Schema,
-    left: &mut Tokens,
+    left: &mut Left,
 ) -> Result<Option<Statement>, AllocError>
-    ensures { IfOk result (λ found. IfSome found (λ s. AreSaid schema.now (plain (codes "MODIFY") ∷ tokens false left.old.rest.now) s)) }
+    ensures { IfOk result (λ found. IfSome found (λ s. AreSaid schema.now (plain (codes "MODIFY") ∷ words_left left.old) s)) }
 {
     let Some(name) = plain_word(left) else {
         return Ok(None);
@@ -394,13 +392,26 @@ fn usual_modify(
     }
 }
 
-fn by_words(
+/// GET, of whatever record is current
+#[tactic(auto, using(crate::proofs::Reading::UsualLines::get_said))]
+fn usual_get(left: &mut Left) -> Option<Statement>
+    ensures { IfSome result (λ s. (schema : Lists) → AreSaid schema (plain (codes "GET") ∷ words_left left.old) s) }
+{
+    if ends(left) {
+        Some(Statement::Get(None))
+    } else {
+        None
+    }
+}
+
+/// The statement that words of a usual form say; none for some such words.
+pub fn by_words(
     alloc: Global,
     schema: &Schema,
-    left: &mut Tokens,
+    left: &mut Left,
 ) -> Result<Option<Statement>, AllocError>
-    ensures said { IfOk result (λ found. IfSome found (λ s. AreSaid schema.now (tokens false left.old.rest.now) s)) }
-    ensures wanted { is_err result ≡ true → first_word_faults schema.now (tokens false left.old.rest.now) ≡ [] }
+    ensures said { IfOk result (λ found. IfSome found (λ s. AreSaid schema.now (words_left left.old) s)) }
+    ensures wanted { is_err result ≡ true → first_word_faults schema.now (words_left left.old) ≡ [] }
 {
     let Some(word) = plain_word(left) else {
         return Ok(None);
@@ -411,6 +422,8 @@ fn by_words(
         usual_find(alloc, schema, left)
     } else if word == b"MODIFY".as_slice() {
         usual_modify(alloc, schema, left)
+    } else if word == b"GET".as_slice() {
+        Ok(usual_get(left))
     } else {
         Ok(None)
     }
@@ -434,5 +447,5 @@ pub fn usual_statement(
     if ends_in_text(line) {
         return Ok(None);
     }
-    by_words(alloc, schema, &mut Tokens { rest: line })
+    by_words(alloc, schema, &mut Left::Line(Tokens { rest: line }))
 }

@@ -1,15 +1,13 @@
 -- Words beside `Faults` and `Reading` that private functions and lemmas use.
 use Rattle.std.specs.Prelude.{◌≡◌, ℕ, Bool, List, [], ◌∷◌, ◌++◌, map, Option, Some, if◌then◌else◌, option_map, slice_get}
-use Rattle.std.specs.List.{flat_map, list_any}
+use Rattle.std.specs.List.{flat_map}
 use Rattle.dbtg_schema.specs.Lists.{Lists}
 use Rattle.dbtg_schema.specs.Lookups.{first}
-use Rattle.dbtg_schema.specs.Texts.Forms.{labels}
 use Rattle.dbtg_script.specs.declared.fault.LineFault.{LineFault as ScriptFault}
 use Rattle.dbtg_script.specs.declared.fault.LineFault.TheVariants as script_fault
 use Rattle.dbtg_script.specs.Lines.{is_statement}
 use Rattle.dbtg_script.specs.Reading.{verdict}
 use Rattle.dbtg_script.specs.StatementGrammar as script
-use Rattle.dbtg_script.specs.Statements.{statement_of}
 use Rattle.dbtg_script.specs.Tokens.{Token}
 use Rattle.dbtg_program.specs.declared.fault.Fault.{Fault}
 use Rattle.dbtg_program.specs.declared.fault.LineFault.{LineFault}
@@ -19,12 +17,10 @@ use Rattle.dbtg_program.specs.declared.fault.ProgramCause.TheVariants.{AsInScrip
 use Rattle.dbtg_program.specs.declared.fault.ProgramFault.{ProgramFault}
 use Rattle.dbtg_program.specs.declared.fault.ProgramFault.TheVariants as program
 use Rattle.dbtg_program.specs.declared.program.Line.{Line}
-use Rattle.dbtg_program.specs.declared.program.Sentence.{Sentence}
-use Rattle.dbtg_program.specs.declared.program.Sentence.TheVariants.{Filled, Statement}
 use Rattle.dbtg_program.specs.declared.program.Word.{Word}
 use Rattle.dbtg_program.specs.Going.{said_word}
 use Rattle.dbtg_program.specs.States.{beginning_with}
-use Rattle.dbtg_program.specs.Sentences.{Holding, Text, fields_in, sentences_of, word_of}
+use Rattle.dbtg_program.specs.Sentences.{Holding, Text, fields_in, sentences_of}
 use Rattle.dbtg_program.specs.Faults.{lines_faults, sentence_faults, statement_faults, unknown_word, whole_faults}
 use Rattle.dbtg_program.specs.Reading.{line_of}
 
@@ -43,12 +39,6 @@ unknown_verdict text ms = first (flat_map (unknown_word text) ms)
 -- the first fault of a statement
 unfoldable pub statement_verdict : Text → List Token → Option ProgramCause
 statement_verdict text ws = first (statement_faults text ws)
-
--- the statement that words say, with fields or without
-abbrev pub said_with : Text → List (Token × Bool) → Sentence
-said_with text ms =
-    if list_any (λ m. m.1) ms then Filled (map (word_of (fields_in text)) ms)
-    else Statement (statement_of text.schema (labels script.fits script.statement (at_first text (map (word_of (fields_in text)) ms))))
 
 -- the first fault of sentence number `at`
 unfoldable pub sentence_verdict : Text → ℕ → Holding → Option ProgramCause

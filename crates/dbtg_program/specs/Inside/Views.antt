@@ -1,5 +1,5 @@
 -- The spec-level view of values, words and steps: the code's values without their references.
-use Rattle.std.specs.Prelude.{◌≡◌, ℕ, ◌<◌, Bool, List, [], decimal, length, map, option_map}
+use Rattle.std.specs.Prelude.{◌≡◌, ℕ, ◌<◌, Bool, List, [], decimal, length}
 use Rattle.dbtg_cells.specs.declared.key.Value.{Value}
 use Rattle.dbtg_cells.specs.declared.key.Value.TheVariants.{Num, Text}
 use Rattle.dbtg_script.specs.Tokens as words
@@ -13,7 +13,7 @@ use Rattle.dbtg_program.specs.declared.marking.Marked.{Marked}
 use Rattle.dbtg_program.specs.declared.program.Program.{Program}
 use Rattle.dbtg_program.specs.declared.program.Word.{Word}
 use Rattle.dbtg_program.specs.declared.program.Word.TheVariants as word
-use Rattle.dbtg_program.specs.Sentences.{Holding}
+use Rattle.dbtg_program.specs.Sentences.{Holding, cut}
 use Rattle.dbtg_program.specs.Conditions.{field_value}
 use Rattle.dbtg_program.specs.States.{ProgramState}
 use Rattle.dbtg_program.specs.Going.{Step, ends, goes, makes}
@@ -48,9 +48,9 @@ digits_of state word.Equals = []
 digits_of state (word.Literal t) = []
 digits_of state (word.Field f) = digits (field_value state f)
 
--- a line of the code that holds a sentence
+-- a line of the code that holds a sentence, cut into words
 abbrev pub view_holding : cutting.Holding → Holding
-view_holding h = record { number = h.number; paragraph = option_map (λ p. p.now) h.paragraph; words = map words.view h.words.items }
+view_holding h = cut h.number h.line.now
 
 -- a word of a statement, and whether it is a field word
 abbrev pub view_marked : Marked → Token × Bool

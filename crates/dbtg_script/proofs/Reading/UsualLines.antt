@@ -64,6 +64,12 @@ what_is_said_is_so schema line (Err e) one allowed closed h = tt
 what_is_said_is_so schema line (Ok None) one allowed closed h = tt
 what_is_said_is_so schema line (Ok (Some s)) one allowed closed h = line_says schema line s one allowed closed h
 
+-- GET
+
+pub get_said : (schema : Lists) (ts : List Token) → ts ≡ [] → AreSaid schema (plain (codes "GET") ∷ ts) (statement.Get None)
+unfolding verdict
+get_said schema ts none = record { faultless = rw none refl; said = rw none refl }
+
 -- FIND KEY k
 
 pub key_said : (schema : Lists) (t : List ℕ) → is_key t ≡ true → first (key_faults schema t) ≡ None

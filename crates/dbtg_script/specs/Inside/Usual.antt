@@ -1,5 +1,5 @@
--- Lines of usual forms, which are read without a list of their words.
-use Rattle.std.specs.Prelude.{◌≡◌, ℕ, ◌+◌, true, false, List, [], ◌∷◌, Option, Some, None, codes, ◌⊎◌}
+-- Words of usual forms, which are read without a list of their roles.
+use Rattle.std.specs.Prelude.{◌≡◌, ℕ, ◌+◌, true, false, List, [], ◌∷◌, map, Option, Some, None, codes, ◌⊎◌}
 use Rattle.std.specs.Str.{bytes_eq}
 use Rattle.dbtg_schema.specs.Lists.{Lists}
 use Rattle.dbtg_schema.specs.Texts.Forms.{labels}
@@ -10,12 +10,19 @@ use Rattle.dbtg_schema.specs.Structure.{picture_of}
 use Rattle.dbtg_cells.specs.declared.key.Value.{Value}
 use Rattle.dbtg_unit.specs.declared.statement.Statement.{Statement}
 use Rattle.dbtg_unit.specs.declared.statement.Suppress.{Suppress}
+use Rattle.dbtg_script.specs.declared.left.Left.{Left}
+use Rattle.dbtg_script.specs.declared.left.Left.TheVariants as left
 use Rattle.dbtg_script.specs.Lookups.{item_named, set_named, type_named}
 use Rattle.dbtg_script.specs.Reading.{verdict}
 use Rattle.dbtg_script.specs.StatementGrammar.{fits, statement, value}
 use Rattle.dbtg_script.specs.Statements.{statement_of}
-use Rattle.dbtg_script.specs.Tokens.{Token, plain, equals}
+use Rattle.dbtg_script.specs.Tokens.{Token, plain, equals, tokens, view}
 use Rattle.dbtg_script.specs.Values.{blank, spelled}
+
+-- the words that are left, of a line or of a list
+abbrev pub words_left : Left → List Token
+words_left (left.Line line) = tokens false line.rest.now
+words_left (left.List words) = map view words.now
 
 -- the words say this statement, without a fault
 pub record AreSaid (schema : Lists) (ts : List Token) (s : Statement) : Type 0 where

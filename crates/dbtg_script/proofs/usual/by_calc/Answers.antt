@@ -2,8 +2,7 @@ use Rattle.std.proofs.Common.{◌≡◌, ◌∙◌, ℕ, [], ◌∷◌, ◌++◌
 use Rattle.dbtg_cells.specs.declared.key.Value.{Value}
 use Rattle.dbtg_unit.specs.declared.statement.Statement.TheVariants as statement
 use Rattle.dbtg_unit.specs.declared.statement.Form.TheVariants as form
-use Rattle.dbtg_script.specs.Tokens.{tokens}
-use Rattle.dbtg_script.specs.Inside.Usual.{IsOnlyGiven, nothing}
+use Rattle.dbtg_script.specs.Inside.Usual.{IsOnlyGiven, nothing, words_left}
 use Rattle.dbtg_script.proofs.Reading.UsualLines.{find_calc_said}
 use Rattle.dbtg_script.proofs.usual.by_calc.Goals as goal
 
@@ -14,7 +13,7 @@ returns-in_ok-push-in-Some-2 c =
     let item = c.in-Some-only_calc_item.item in
     let value = c.in-Some-2.change.value in
     let same : c.in-Some-2.change.item ≡ item = omega (arith, c.if-index.false, c.index.ensures, c.index-in-Some-2.ensures) in
-    let given = subst (λ (i : ℕ). IsOnlyGiven schema r (tokens false c.calc_type.new.left.rest.now) i value) same (rw c.in-Some-2.is at c.in_ok-only_change.ensures) in
+    let given = subst (λ (i : ℕ). IsOnlyGiven schema r (words_left c.calc_type.new.left) i value) same (rw c.in-Some-2.is at c.in_ok-only_change.ensures) in
     let values : c.of.result ≡ value ∷ [] = c.of.ensures ∙ c.in_ok-push-in-Some-2.ensures.items ∙ ap (λ (vs : List Value). vs ++ value ∷ []) c.in_ok-values-in-Some-2.ensures.items in
     let is : c.find.result ≡ statement.Find (form.Calc r (value ∷ [])) nothing = c.find.ensures ∙ ap (λ (vs : List Value). statement.Find (form.Calc r vs) nothing) values in
-    rw is (find_calc_said schema (tokens false c.args.left.now.rest.now) (tokens false c.calc_type.new.left.rest.now) r item value c.in-Some.ensures c.in-Some-only_calc_item.ensures given)
+    rw is (find_calc_said schema (words_left c.args.left.now) (words_left c.calc_type.new.left) r item value c.in-Some.ensures c.in-Some-only_calc_item.ensures given)

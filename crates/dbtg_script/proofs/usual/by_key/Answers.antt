@@ -1,17 +1,17 @@
-use Rattle.std.proofs.Common.{rules, ◌≡◌, [], ◌∷◌, true, false, sym}
+use Rattle.std.proofs.Common.{rules, ◌≡◌, [], ◌∷◌, true, sym}
 use Rattle.dbtg_unit.specs.declared.statement.Statement.TheVariants as statement
 use Rattle.dbtg_unit.specs.declared.statement.Form.TheVariants as form
 use Rattle.dbtg_script.specs.Printing.Spelling.{is_key}
 use Rattle.dbtg_script.specs.Statements.{key_of}
-use Rattle.dbtg_script.specs.Tokens.{plain, tokens}
-use Rattle.dbtg_script.specs.Inside.Usual.{nothing}
+use Rattle.dbtg_script.specs.Tokens.{plain}
+use Rattle.dbtg_script.specs.Inside.Usual.{nothing, words_left}
 use Rattle.dbtg_script.proofs.Reading.UsualLines.{key_said}
 use Rattle.dbtg_script.proofs.usual.by_key.Goals as goal
 
 pub returns-in-None : goal.returns-in-None
 returns-in-None c =
     let t = c.in_ok-text.text.now in
-    let words : tokens false c.args.left.now.rest.now ≡ plain t ∷ [] = search rules in
+    let words : words_left c.args.left.now ≡ plain t ∷ [] = search rules in
     let key : is_key t ≡ true = search rules in
     let is : c.find.result ≡ statement.Find (form.Key (key_of c.args.schema.now t)) nothing = search rules in
     rw (words, is) (key_said c.args.schema.now t key (sym c.in-None.ensures))

@@ -14,5 +14,5 @@ returns-in-Some-2 c =
     let fitting : fits value t ≡ true = search rules in
     let order : is_sorted (order_of c.args.schema.now set) ≡ true = search rules in
     let said : spelled c.in-Some-sort_picture.picture t ≡ Some c.in-Some-2.value = sym c.in_ok-spelled.ensures ∙ c.in-Some-2.is in
-    rw (c.in-Some.ensures.found, c.find.ensures)
+    rw (c.in-Some.ensures, c.find.ensures)
     (sorted_said c.args.schema.now t _ set c.in-Some-sort_picture.picture c.in-Some-2.value fitting c.in-Some-of_set.ensures order (sym c.in-Some-sort_picture.ensures) said)
