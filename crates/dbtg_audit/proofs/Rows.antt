@@ -143,7 +143,7 @@ nothing_is_said_of_the_load = refl
 
 -- EVERY LINE
 
--- of two lines the one that differs is told
+-- the one of two lines that differs is told
 the_second_is_told : differences_text false card (line 4 1 (Get None) (with_key 0 (customer_key 1)) ∷ line 7 1 (Get None) (status 413) ∷ []) (got ∷ got ∷ []) ≡ difference_text card 7 (status 413) got ++ []
 the_second_is_told = refl
 

@@ -6,4 +6,5 @@ mod UnitsOfTurns
 mod SameRun
 mod MovesOfTurns
 mod MadeAgain
+mod ReadBack
 pub mod Public

@@ -2,3 +2,4 @@ pub mod Ordering
 pub mod Explaining
 pub mod Replaying
 pub mod ByTurns
+pub mod Laws

@@ -4,6 +4,7 @@
 
 mod explaining;
 mod first;
+mod laws;
 mod ordering;
 pub mod replay;
 mod scripts;
@@ -11,6 +12,7 @@ mod turns;
 
 pub use explaining::said_of_run;
 pub use first::refusals_of_first;
+pub use laws::a_printed_replay_is_read_back;
 pub use ordering::{
     AllMoves, behind, first_turns, moves_behind_first, moves_of_turns, serial_turns,
     turns_behind_first, units_in_turn,

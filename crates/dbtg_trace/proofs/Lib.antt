@@ -8,3 +8,4 @@ mod TraceSteps
 mod PrintedSteps
 mod ReadBack
 mod Rows
+pub mod Public

@@ -6,4 +6,5 @@ pub mod Words
 pub mod Spelled
 pub mod Said
 pub mod Lines
+pub mod Sayable
 pub mod Scripts

@@ -12,7 +12,8 @@ use Rattle.dbtg_cells.specs.declared.key.Value.{Value}
 use Rattle.dbtg_unit.specs.Database.Statements.Codes.{status_code}
 use Rattle.dbtg_unit.specs.Database.Statements.Fits.{values_fit}
 use Rattle.dbtg_unit.specs.declared.unit.Entry.{Entry}
-use Rattle.dbtg_script.specs.Laws.{BeginScripts, HaveScripts, IsKeyOf}
+use Rattle.dbtg_unit.specs.Database.Laws.Replay.{AnswersHold, IsHistoryOf, opening_state}
+use Rattle.dbtg_script.specs.Laws.{BeginScripts, IsKeyOf}
 use Rattle.dbtg_script.specs.StatementFaults.{line_faults, refusal as script_refusal}
 use Rattle.dbtg_script.specs.Statements.{line_statement}
 use Rattle.dbtg_trace.specs.declared.traced.Traced.{Traced}
@@ -31,7 +32,7 @@ IsSayable schema None items = items ≡ None
 IsSayable schema (Some k) None = IsWithin schema k
 IsSayable schema (Some k) (Some vs) = IsWithin schema k × (values_fit (pictures schema k.rtype) vs ≡ true)
 
--- the entry is of one of so many units, and the line is one of a script, has no fault and says its statement
+-- a unit of this number of units made the entry, and the line is one of a script, has no fault and says its statement
 pub record IsLineOf (schema : Lists) (units : ℕ) (line : List ℕ) (e : Entry) : Type 0 where
   pub unit : is_unit units e.unit ≡ true
   pub accepted : first (line_faults schema 0 line) ≡ None
@@ -54,24 +55,32 @@ abbrev pub all_said : ℕ → List Entry → List Traced
 all_said n [] = []
 all_said n (e ∷ es) = as_said n e ∷ all_said (n + 1) es
 
--- what is printed of so many entries is accepted as a trace, and says each of them in full
+-- what is printed of these entries is accepted as a trace, and says each of them in full
 abbrev pub PrintedTraceIsReadBack : Type 0
 PrintedTraceIsReadBack =
     (schema : Lists) → IsSound schema → IsNamed schema → (units : ℕ) → units ≤ 255 → (lines : List (List ℕ)) (history : List Entry) → AreLinesOf schema units lines history
     → length history ≤ 524280 → length (trace_lines schema lines history) ≤ 67108864
     → (refusal schema units (trace_lines schema lines history) ≡ None) × (trace schema units (trace_lines schema lines history) ≡ all_said 1 history)
 
--- the texts of scripts are accepted; each unit made the beginning of its script, and no other unit made anything; and each answer can be
--- said in a line
-pub record AreOfScripts (schema : Lists) (texts : List (List ℕ)) (history : List Entry) : Type 0 where
+-- each answer of a history of the sequential database has a key of the schema, and no items but of its record type; or neither
+abbrev pub AnswersCanBeSaid : Type 0
+AnswersCanBeSaid =
+    (schema : Lists) → IsSound schema → IsNamed schema → (capacity : ℕ) → capacity ≤ 999999 → (units : ℕ) (history : List Entry) → IsHistoryOf schema capacity units history
+    → AllByRecursion (λ e. IsSayable schema e.answer.key e.answer.items) history
+
+-- the texts of scripts are accepted; each unit made the beginning of its script; and the sequential database gives the answers
+pub record AreOfScripts (schema : Lists) (capacity : ℕ) (texts : List (List ℕ)) (history : List Entry) : Type 0 where
   pub accepted : AllByRecursion (λ text. script_refusal schema text ≡ None) texts
   pub begin : BeginScripts schema texts history
-  pub have : HaveScripts texts history
-  pub answers : AllByRecursion (λ e. IsSayable schema e.answer.key e.answer.items) history
+  pub answers : AnswersHold schema capacity (opening_state schema (length texts)) history
 
--- the same of a history of scripts, as their texts have the statements
+-- the trace of a history of so many units is accepted, and says each entry in full
+abbrev pub IsReadBack : Lists → List (List ℕ) → List Entry → Type 0
+IsReadBack schema texts history =
+    (refusal schema (length texts) (trace_text schema texts history) ≡ None) × (trace schema (length texts) (trace_text schema texts history) ≡ all_said 1 history)
+
+-- so is what is printed of a history of scripts, as their texts have the statements
 abbrev pub PrintedHistoryIsReadBack : Type 0
 PrintedHistoryIsReadBack =
-    (schema : Lists) → IsSound schema → IsNamed schema → (texts : List (List ℕ)) → length texts ≤ 255 → (history : List Entry) → AreOfScripts schema texts history
-    → length history ≤ 524280 → length (trace_text schema texts history) ≤ 67108864
-    → (refusal schema (length texts) (trace_text schema texts history) ≡ None) × (trace schema (length texts) (trace_text schema texts history) ≡ all_said 1 history)
+    (schema : Lists) → IsSound schema → IsNamed schema → (capacity : ℕ) → capacity ≤ 999999 → (texts : List (List ℕ)) → length texts ≤ 255 → (history : List Entry) → AreOfScripts schema capacity texts history
+    → length history ≤ 524280 → length (trace_text schema texts history) ≤ 67108864 → IsReadBack schema texts history

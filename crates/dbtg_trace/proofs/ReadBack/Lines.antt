@@ -58,7 +58,7 @@ without_end xs =
     let place : length (xs ++ 32 ∷ []) - 1 ≡ length xs = omega (arith, long) in
     ap (λ (b : Bool). if b then take (length (xs ++ 32 ∷ []) - 1) (xs ++ 32 ∷ []) else xs ++ 32 ∷ []) (ends_at xs 32 32) ∙ ap (λ (n : ℕ). take n (xs ++ 32 ∷ [])) place ∙ take_front xs (32 ∷ [])
 
-trimmed_well : (xs : List ℕ) → EndsWell xs → trimmed xs ≡ xs
+pub trimmed_well : (xs : List ℕ) → EndsWell xs → trimmed xs ≡ xs
 trimmed_well xs e =
     let no_return : ends_with 13 xs ≡ false = ap (ends_with 13) e.2 ∙ ends_at e.0 e.1 13 ∙ e.3 in
     let no_period : ends_with 46 xs ≡ false = ap (ends_with 46) e.2 ∙ ends_at e.0 e.1 46 ∙ e.4 in
@@ -91,15 +91,15 @@ holds_one schema st s e = by _ (is_statement st) e
     by x true q = refl
     by x false q = absurd cc
 
-not_so : {X : Type 0} (b : Bool) (x : X) → first (if not b then x ∷ [] else []) ≡ None → b ≡ true
+pub not_so : {X : Type 0} (b : Bool) (x : X) → first (if not b then x ∷ [] else []) ≡ None → b ≡ true
 not_so true x h = refl
 not_so false x h = absurd cc
 
-not_where : {X : Type 0} (b : Bool) (x : X) → first (if b then x ∷ [] else []) ≡ None → b ≡ false
+pub not_where : {X : Type 0} (b : Bool) (x : X) → first (if b then x ∷ [] else []) ≡ None → b ≡ false
 not_where true x h = absurd cc
 not_where false x h = refl
 
-ends_well : (schema : Lists) → IsNamed schema → (st : List ℕ) → is_statement st ≡ true → list_all shows st ≡ true → ends_in_text false st ≡ false → first (script.faults_from schema [] statement (tokens false st)) ≡ None → EndsWell st
+pub ends_well : (schema : Lists) → IsNamed schema → (st : List ℕ) → is_statement st ≡ true → list_all shows st ≡ true → ends_in_text false st ≡ false → first (script.faults_from schema [] statement (tokens false st)) ≡ None → EndsWell st
 ends_well schema named st one printable closed words = elim (last_of st) [
   | inl e ↦ absurd (true≢false (sym one ∙ ap is_statement e))
   | inr e ↦ (e.0, e.1, e.2, no_return e.0 e.1 e.2 (e.1 == 13) refl, no_stop e.0 e.1 e.2 (e.1 == 46) refl)

@@ -40,7 +40,7 @@ digit_shows b h = grind (arith, nat_tests, h)
 name_shows : (b : ℕ) → is_name_byte b ≡ true → shows b ≡ true
 name_shows b h = grind (arith, nat_tests, h)
 
-text_shows : (b : ℕ) → is_text_byte b ≡ true → shows b ≡ true
+pub text_shows : (b : ℕ) → is_text_byte b ≡ true → shows b ≡ true
 text_shows b h = (and_parts _ _ h).0
 
 -- THE LAST BYTE

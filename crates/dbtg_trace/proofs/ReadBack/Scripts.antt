@@ -1,35 +1,42 @@
 -- The lines beside the answers of a history are lines of accepted scripts.
 use Rattle.std.proofs.Common.{◌≡◌, ℕ, zero, suc, ◌+◌, ◌-◌, ◌<◌, ◌≤◌, Bool, true, false, cond, not, ◌&&◌, List, [], ◌∷◌, ◌++◌, filter, length, map, Option, Some, None, slice_get, refl, sym, ap, subst, ◌∙◌, arith}
-use Rattle.std.specs.Prelude.{if◌then◌else◌, nat_le, nat_lt, unwrap_or}
+use Rattle.std.specs.Prelude.{Ok, if◌then◌else◌, nat_le, nat_lt, unwrap_or}
 use Rattle.std.specs.List.{AllByRecursion, list_all}
 use Rattle.std.proofs.lemmas.Bool.{and_from, and_parts}
 use Rattle.std.proofs.lemmas.Bool.Decides.{nat_tests}
 use Rattle.dbtg_schema.specs.Lists.{Lists}
 use Rattle.dbtg_schema.specs.Lookups.{first}
+use Rattle.dbtg_schema.specs.Named.{IsNamed}
+use Rattle.dbtg_schema.specs.Sound.{IsSound}
 use Rattle.dbtg_unit.specs.declared.limits.TheConstants.{MOST_STATEMENTS}
 use Rattle.dbtg_unit.specs.declared.statement.Statement.{Statement}
 use Rattle.dbtg_unit.specs.declared.unit.Entry.{Entry}
+use Rattle.dbtg_unit.specs.Database.Laws.Replay.{AnswersHold, opening_state}
+use Rattle.dbtg_unit.specs.Database.Statements.Fits.{fits}
 use Rattle.dbtg_script.specs.declared.fault.Cause.{Cause}
 use Rattle.dbtg_script.specs.declared.fault.Cause.TheVariants as cause
 use Rattle.dbtg_script.specs.declared.fault.Fault.{Fault}
+use Rattle.dbtg_script.specs.Laws.{BeginScripts, HaveScripts}
 use Rattle.dbtg_script.specs.Lines.{is_allowed, is_statement, lines, statement_lines, trimmed}
 use Rattle.dbtg_script.specs.Printing.Echo.{line_beside, lines_beside}
 use Rattle.dbtg_script.specs.StatementFaults.{count_after, line_faults, lines_faults, refusal, statement_faults, too_long, when}
 use Rattle.dbtg_script.specs.Statements.{line_statement}
-use Rattle.dbtg_script.proofs.Public.{lines_say}
-use Rattle.dbtg_trace.specs.Laws.{AreLinesOf, AreOfScripts, IsSayable, PrintedHistoryIsReadBack}
+use Rattle.dbtg_script.proofs.Public.{line_read_fits, lines_say}
+use Rattle.dbtg_trace.specs.Laws.{AreLinesOf, IsReadBack, IsSayable, PrintedHistoryIsReadBack}
 use Rattle.dbtg_trace.specs.Parts.{is_unit}
+use Rattle.dbtg_trace.specs.Printing.{trace_text}
 use Rattle.dbtg_trace.proofs.ReadBack.Lines.{read_back}
+use Rattle.dbtg_trace.proofs.ReadBack.Sayable.{sayable, units_there}
 
 -- a line has no fault as the first of a script
-abbrev Clean : Lists → List ℕ → Type 0
+abbrev pub Clean : Lists → List ℕ → Type 0
 Clean schema l = first (line_faults schema 0 l) ≡ None
 
-none_in_front : {X : Type 0} (xs ys : List X) → first (xs ++ ys) ≡ None → first xs ≡ None
+pub none_in_front : {X : Type 0} (xs ys : List X) → first (xs ++ ys) ≡ None → first xs ≡ None
 none_in_front [] ys h = refl
 none_in_front (x ∷ xs) ys h = absurd cc
 
-none_after : {X : Type 0} (xs ys : List X) → first (xs ++ ys) ≡ None → first ys ≡ None
+pub none_after : {X : Type 0} (xs ys : List X) → first (xs ++ ys) ≡ None → first ys ≡ None
 none_after [] ys h = h
 none_after (x ∷ xs) ys h = absurd cc
 
@@ -63,7 +70,8 @@ clean_lines schema count number (l ∷ ls) h =
     (at_first schema count (trimmed l) (none_mapped number (line_faults schema count (trimmed l)) (none_in_front here later h)))
     (clean_lines schema (count_after count (trimmed l)) (number + 1) ls (none_after here later h))
 
-clean_scripts : (schema : Lists) (texts : List (List ℕ)) → AllByRecursion (λ text. refusal schema text ≡ None) texts → AllByRecursion (AllByRecursion (Clean schema)) (map statement_lines texts)
+-- so has none of the lines of accepted scripts
+pub clean_scripts : (schema : Lists) (texts : List (List ℕ)) → AllByRecursion (λ text. refusal schema text ≡ None) texts → AllByRecursion (AllByRecursion (Clean schema)) (map statement_lines texts)
 clean_scripts schema [] h = tt
 clean_scripts schema (text ∷ texts) h = (clean_lines schema 0 1 (lines text) (none_after (too_long text) (lines_faults schema 0 1 (lines text)) h.0), clean_scripts schema texts h.1)
 
@@ -113,8 +121,37 @@ are_lines schema units scripts before (e ∷ es) all says within answers =
       are_lines schema units scripts (before ++ e ∷ []) es all same.1 p.1 answers.1,
     )
 
+-- THE HISTORY
+
+-- what is so of a history in which each unit makes the beginning of a script whose lines have no fault
+module _ (schema : Lists) (sound : IsSound schema) (capacity : ℕ) (texts : List (List ℕ)) (history : List Entry) (clean : AllByRecursion (AllByRecursion (Clean schema)) (map statement_lines texts))
+    (begin : BeginScripts schema texts history) (answers : AnswersHold schema capacity (opening_state schema (length texts)) history) where
+  have : HaveScripts texts history
+  have = units_there schema capacity (length texts) history answers
+
+  said : map (line_statement schema) (lines_beside (map statement_lines texts) [] history) ≡ map (λ e. Some e.statement) history
+  said = lines_say schema texts history begin have
+
+  fit_along : (before es : List Entry) → map (line_statement schema) (lines_beside (map statement_lines texts) before es) ≡ map (λ e. Some e.statement) es → list_all (λ e. fits schema e.statement) es ≡ true
+  fit_along before [] says = refl
+  fit_along before (e ∷ es) says =
+      let line = line_beside (map statement_lines texts) before e in
+      let rest = lines_beside (map statement_lines texts) (before ++ e ∷ []) es in
+      let same = first_same (line_statement schema line) (Some e.statement) (map (line_statement schema) rest) (map (λ f. Some f.statement) es) says in
+      let faultless = beside schema (map statement_lines texts) before e (each_beside schema (map statement_lines texts) clean) e.statement same.0 in
+      and_from _ _ (line_read_fits schema sound 0 line (Ok (Some e.statement)) faultless (sym same.0)) (fit_along (before ++ e ∷ []) es same.1)
+
+  -- its statements fit the schema
+  pub statements_fit : list_all (λ e. fits schema e.statement) history ≡ true
+  statements_fit = fit_along [] history said
+
+  -- its trace is read back
+  pub lines_read_back : IsNamed schema → capacity ≤ 999999 → length texts ≤ 255 → length history ≤ 524280 → length (trace_text schema texts history) ≤ 67108864 → IsReadBack schema texts history
+  lines_read_back named small few room short =
+      let lines_are = are_lines schema (length texts) (map statement_lines texts) [] history (each_beside schema (map statement_lines texts) clean) said have
+      (sayable schema sound named capacity small (length texts) history statements_fit answers) in
+      read_back schema sound named (length texts) few (lines_beside (map statement_lines texts) [] history) history lines_are room short
+
 pub history_read_back : PrintedHistoryIsReadBack
-history_read_back schema sound named texts few history of room short =
-    let all = each_beside schema (map statement_lines texts) (clean_scripts schema texts of.accepted) in
-    let lines_are = are_lines schema (length texts) (map statement_lines texts) [] history all (lines_say schema texts history of.begin of.have) of.have of.answers in
-    read_back schema sound named (length texts) few (lines_beside (map statement_lines texts) [] history) history lines_are room short
+history_read_back schema sound named capacity small texts few history of room short =
+    lines_read_back schema sound capacity texts history (clean_scripts schema texts of.accepted) of.begin of.answers named small few room short
