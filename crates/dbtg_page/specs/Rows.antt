@@ -1,7 +1,7 @@
 -- The page of a run: what surrounds its data, and their rows. A row for the names of each part of the schema, one for the
 -- table of causes, one for the statements of each script, one for the opening database, one for each event, and after that of a ticket
 -- one for what the ticket leads to.
-use Rattle.std.specs.Prelude.{ℕ, ◌-◌, List, [], ◌∷◌, ◌++◌, Option, codes, decimal, length, map, option_and_then, option_map, slice_get, unwrap_or}
+use Rattle.std.specs.Prelude.{ℕ, ◌-◌, List, [], ◌∷◌, ◌++◌, codes, decimal, length, map, option_and_then, option_map, slice_get, unwrap_or}
 use Rattle.std.specs.List.{flat_map}
 use Rattle.dbtg_schema.specs.Lists.{Lists}
 use Rattle.dbtg_unit.specs.Database.State.Image.{Image, image_of}

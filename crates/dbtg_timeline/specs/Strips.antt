@@ -1,6 +1,6 @@
 -- A line is printed in strips, one below another: the letters are folded, and so is the text of the statement.
-use Rattle.std.specs.Prelude.{ℕ, zero, suc, ◌+◌, ◌-◌, ◌==◌, Bool, ◌&&◌, ◌||◌, nat_lt, List, [], ◌∷◌, ◌++◌, Option, Some, None, length, map, if◌then◌else◌, slice_get, slice_set, unwrap_or}
-use Rattle.std.specs.List.{flat_map, range_with_len}
+use Rattle.std.specs.Prelude.{ℕ, zero, suc, ◌+◌, ◌-◌, ◌==◌, Bool, false, not, ◌&&◌, ◌||◌, nat_le, nat_lt, List, [], ◌∷◌, ◌++◌, Option, Some, None, length, map, if◌then◌else◌, slice_get, slice_set, unwrap_or}
+use Rattle.std.specs.List.{flat_map, prefix_len, range_with_len}
 use Rattle.dbtg_timeline.specs.declared.lines.Line.{Line}
 use Rattle.dbtg_timeline.specs.declared.strips.Front.{Front}
 use Rattle.dbtg_timeline.specs.declared.strips.Strip.{Strip}
@@ -9,10 +9,14 @@ use Rattle.dbtg_timeline.specs.Marks.{is_begin}
 
 -- ---- folding
 
--- a part of this many bytes ends before the next: it is full; or what is left does not fit, the next is a space, and no more than 9
--- bytes would find room
-abbrev pub ends : ℕ → ℕ → ℕ → ℕ → Bool
-ends width count next left = count == width || (nat_lt (width - count) left && (next == 32 && nat_lt (width - 10) count))
+-- how many bytes come before the next space
+abbrev pub word_length : List ℕ → ℕ
+word_length text = prefix_len (λ b. not (b == 32)) text
+
+-- a part of this many bytes, which is not empty, ends before these: it is full, or they begin with a space and a word that does not fit
+abbrev pub ends : ℕ → ℕ → List ℕ → Bool
+ends width count [] = false
+ends width count (b ∷ bs) = count == width || (b == 32 && (nat_lt 0 count && nat_le (width - count) (word_length bs)))
 
 -- the last part, if it has anything
 abbrev pub last_part : List ℕ → List (List ℕ)
@@ -22,7 +26,7 @@ last_part (b ∷ bs) = (b ∷ bs) ∷ []
 -- the parts of a text, after the beginning of a part
 abbrev pub folded_from : ℕ → List ℕ → List ℕ → List (List ℕ)
 folded_from width part [] = last_part part
-folded_from width part (b ∷ bs) = if ends width (length part) b (length (b ∷ bs)) then part ∷ folded_from width (b ∷ []) bs else folded_from width (part ++ b ∷ []) bs
+folded_from width part (b ∷ bs) = if ends width (length part) (b ∷ bs) then part ∷ folded_from width (b ∷ []) bs else folded_from width (part ++ b ∷ []) bs
 
 -- the parts of a text, none of more bytes than this
 abbrev pub folded : ℕ → List ℕ → List (List ℕ)

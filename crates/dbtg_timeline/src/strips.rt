@@ -1,6 +1,6 @@
 //! A line is printed in strips, one below another: the letters are folded, and so is the text of the statement.
 ghost use Rattle.std.specs.Prelude.{◌≡◌, ◌++◌, IfOk, OnOk};
-ghost use Rattle.dbtg_timeline.specs.Strips.{ends, folded, front_of, larger, part_at, strip_at, strips, strips_by, strips_of, words_of};
+ghost use Rattle.dbtg_timeline.specs.Strips.{ends, folded, front_of, larger, part_at, strip_at, strips, strips_by, strips_of, word_length, words_of};
 
 use crate::event::is_begin;
 use crate::lines::{Drawn, Line, label};
@@ -26,12 +26,25 @@ pub struct Strip {
     pub words: Row<u8>,
 }
 
-// Does a part of this many bytes end before the next, if this many are left?
-fn ends(width: usize, count: usize, next: u8, left: usize) -> bool
-    ensures { result ≡ ends width count next left }
+// How many bytes come before the next space?
+fn word_length(text: &[u8]) -> usize
+    ensures { result ≡ word_length text.now }
 {
-    let is_over = width.saturating_sub(count) < left;
-    count == width || (is_over && (next == b' ' && width.saturating_sub(10) < count))
+    text.iter().take_while(|b| **b != b' ').count()
+}
+
+// Does a part of this many bytes end before those that are left?
+fn ends(width: usize, count: usize, left: &[u8]) -> bool
+    ensures { result ≡ ends width count left.now }
+{
+    match left.split_first() {
+        None => false,
+        Some((next, behind)) => {
+            count == width
+                || (*next == b' '
+                    && (0 < count && width.saturating_sub(count) <= word_length(behind)))
+        }
+    }
 }
 
 // The parts of a text, none of more bytes than this.
@@ -45,7 +58,7 @@ fn push_folded(
 {
     let mut part = Vec::new(alloc);
     for (i, byte) in text.iter().enumerate() {
-        if ends(width, part.len(), *byte, text.len() - i) {
+        if ends(width, part.len(), &text[i..]) {
             parts.push(Row::of(part))?;
             part = Vec::new(alloc);
         }

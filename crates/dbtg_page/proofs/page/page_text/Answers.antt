@@ -1,4 +1,4 @@
-use Rattle.std.proofs.Common.{◌≡◌, ℕ, List, ◌++◌, ap, ◌∙◌}
+use Rattle.std.proofs.Common.{ℕ, List, ◌++◌, ap, ◌∙◌}
 use Rattle.dbtg_page.specs.Rows.{front_rows, page_text, run_rows}
 use Rattle.dbtg_page.specs.declared.script.TheConstants.{SCRIPT}
 use Rattle.dbtg_timeline.specs.Watching.{opening_core}

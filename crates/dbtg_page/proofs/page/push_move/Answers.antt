@@ -1,4 +1,4 @@
-use Rattle.std.proofs.Common.{◌≡◌, ◌∙◌}
+use Rattle.std.proofs.Common.{◌∙◌}
 use Rattle.dbtg_page.proofs.CoreShown.{same_count, same_schema}
 use Rattle.dbtg_page.proofs.page.push_move.Goals as goal
 

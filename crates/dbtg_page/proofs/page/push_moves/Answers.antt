@@ -1,4 +1,4 @@
-use Rattle.std.proofs.Common.{◌≡◌, ◌+◌, drop, ◌∙◌}
+use Rattle.std.proofs.Common.{◌+◌, drop, ◌∙◌}
 use Rattle.std.proofs.lemmas.List.{drop_more}
 use Rattle.dbtg_step.specs.Core.Parts.{machine}
 use Rattle.dbtg_page.proofs.CoreShown.{move_shown, same_count, same_schema}

@@ -1,4 +1,4 @@
-use Rattle.std.proofs.Common.{rules, ◌≡◌, ◌+◌, ◌∙◌, arith}
+use Rattle.std.proofs.Common.{rules, ◌+◌, ◌∙◌, arith}
 use Rattle.dbtg_step.specs.Core.Core.{state_now}
 use Rattle.dbtg_page.proofs.UnitsShown.{as_many, printed_next}
 use Rattle.dbtg_page.proofs.page.units_of.Goals as goal
