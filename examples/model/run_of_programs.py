@@ -199,7 +199,7 @@ def asked(folder, words):
 
 
 def run(folder, words):
-    """What `run` with these words prints."""
+    """What `run` with these words prints. On threads the order of the tickets is open, but where one program alone meets no other."""
     options, flags, files = asked(folder, words)
     runs = Runs(Schema(files[0]), int(options.get("--capacity", 100)), files[1:])
     count = len(runs.programs)
@@ -217,4 +217,4 @@ def run(folder, words):
         runs.to_the_end(count)
     if "--echo" in flags:
         runs.echo()
-    return runs.text()
+    return runs.text() + "AUDIT EQUAL\n" * ("--threads" in flags)

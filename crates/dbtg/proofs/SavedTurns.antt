@@ -18,7 +18,8 @@ use Rattle.dbtg_command.proofs.Public.{all_accepted, read_texts}
 use Rattle.dbtg_replay.specs.declared.replay.AnswerForm.{AnswerForm}
 use Rattle.dbtg_replay.specs.Replaying.{IsShownReplay}
 use Rattle.dbtg_replay.proofs.Public.{made_again_behind}
-use Rattle.dbtg.specs.Threading.{IsHistoryOfAll, IsPrintedOnThreads, ThreadsHeld, audit_line}
+use Rattle.dbtg.specs.Threading.{IsHistoryOfAll, IsPrintedOnThreads, ThreadsHeld}
+use Rattle.dbtg_running.specs.Threading.{audit_line}
 
 begins : (lists : Lists) (capacity : ℕ) (scripts : List (List Statement)) (history : List Entry) (image : Image) (units : List Unit) → IsHistoryOfAll lists capacity scripts history image units
     → (u : ℕ) (script : List Statement) → unit_at scripts u ≡ Some script → (left : List Statement) × (map (λ (e : Entry). e.statement) (entries_of u history) ++ left ≡ script)

@@ -1,7 +1,7 @@
 -- What `threads` prints.
 -- lists is the schema that a text says; script k + 1 is that of the unit with number k + 1; first says whether the last of the scripts
 -- is made before all others, form what stands in front of the image, and texts are those of the scripts.
-use Rattle.std.specs.Prelude.{ℕ, ◌≡◌, ◌≤◌, ◌⊎◌, ◌+◌, Bool, true, false, List, [], ◌∷◌, ◌++◌, length, map, None, Some, slice_get, codes}
+use Rattle.std.specs.Prelude.{ℕ, ◌≡◌, ◌≤◌, ◌⊎◌, ◌+◌, Bool, true, false, List, [], ◌++◌, length, map, None, Some, slice_get}
 use Rattle.dbtg_schema.specs.Lists.{Lists}
 use Rattle.dbtg_unit.specs.declared.limits.TheConstants.{MOST_STATEMENTS}
 use Rattle.dbtg_unit.specs.declared.statement.Statement.{Statement}
@@ -22,6 +22,7 @@ use Rattle.dbtg_command.specs.Sources.{Texts}
 use Rattle.dbtg_replay.specs.Ordering.{first_turns}
 use Rattle.dbtg_replay.specs.declared.replay.AnswerForm.{AnswerForm}
 use Rattle.dbtg_replay.specs.Replaying.{IsShownReplay, shown_text}
+use Rattle.dbtg_running.specs.Threading.{audit_line}
 
 -- the entries are those of the script's statements, in order: of all, or of as many as a journal has room for
 pub record AreOf (script : List Statement) (entries : List Entry) : Type 0 where
@@ -34,10 +35,6 @@ pub record AreOf (script : List Statement) (entries : List Entry) : Type 0 where
 pub record IsHistoryOfAll (lists : Lists) (capacity : ℕ) (scripts : List (List Statement)) (history : List Entry) (image : Image) (units : List Unit) : Type 0 where
   pub leads : LeadsTo lists capacity (length scripts) history image units
   pub own : (k : ℕ) (script : List Statement) → slice_get scripts k ≡ Some script → AreOf script (entries_of (k + 1) history)
-
--- the line that says that the audit of the history gives the same image and units
-abbrev pub audit_line : List ℕ
-audit_line = codes "AUDIT EQUAL" ++ 10 ∷ []
 
 -- the text is what is shown of such a history, its image and its units, and the line of the audit. The units that made its entries
 -- are in turn that of the script that is made first, as often as this has statements, and then those of the turns

@@ -27,7 +27,9 @@ use dbtg_going::Around;
 use dbtg_outcomes::Wish;
 use dbtg_replay::replay::{AnswerForm, check_count, replay};
 use dbtg_replay::{moves_for_turns, refusals_of_first};
-use dbtg_running::{Printed, RunOptions, check_programs, run};
+use dbtg_running::{
+    Printed, PrintedOnThreads, RunOptions, check_programs, run, run_programs_on_threads,
+};
 use dbtg_schema::Schema;
 use dbtg_shell::{Broken, Session, converse, write_file};
 use outcomes::{ListingOptions, print_outcomes};
@@ -261,15 +263,24 @@ fn print_threads<R: Threads + Wait + Sync>(rt: &HostRuntime, threads: &R, call: 
     }
 }
 
-// Writes the turns into their file, if one is named, and then what is printed.
-fn print_saved(rt: &HostRuntime, said: &OnThreads, saved: Option<&str>) -> ExitCode {
+// Writes turns into their file, if one is named; false if that fails, and it is told.
+fn are_saved(rt: &HostRuntime, turns: &[u8], saved: Option<&str>) -> bool {
     if let Some(path) = saved {
-        if write_file(rt, path, said.turns.as_slice()).is_err() {
+        if write_file(rt, path, turns).is_err() {
             let _ = eprintln!(rt; "cannot write {path}");
-            return ExitCode::FAILURE;
+            return false;
         }
     }
-    print_text(rt, said.printed.as_slice())
+    true
+}
+
+// The turns, and then what is printed.
+fn print_saved(rt: &HostRuntime, said: &OnThreads, saved: Option<&str>) -> ExitCode {
+    if are_saved(rt, said.turns.as_slice(), saved) {
+        print_text(rt, said.printed.as_slice())
+    } else {
+        ExitCode::FAILURE
+    }
 }
 
 // Which programs run before and after all others.
@@ -280,18 +291,46 @@ fn around_of(call: &Call) -> Around {
     }
 }
 
-fn print_programs(rt: &HostRuntime, call: &Call) -> ExitCode {
+fn run_options(call: &Call) -> RunOptions {
+    RunOptions {
+        capacity: call.capacity,
+        around: around_of(call),
+        form: answer_form(call),
+    }
+}
+
+fn print_programs<R: Threads + Wait + Sync>(
+    rt: &HostRuntime,
+    threads: &R,
+    call: &Call,
+) -> ExitCode {
     let paths = paths_of(call.schema, call.scripts.as_slice(), call.order);
     let files = Files {
         reader: rt,
         paths: &paths,
     };
-    let options = RunOptions {
-        capacity: call.capacity,
-        around: around_of(call),
-        form: answer_form(call),
-    };
-    print_said(rt, run(rt.alloc(), &files, options), &paths, call)
+    let options = run_options(call);
+    if !call.threads {
+        return print_said(rt, run(rt.alloc(), &files, options), &paths, call);
+    }
+    match run_programs_on_threads(threads, rt.alloc(), &files, options) {
+        Ok(said) => print_programs_saved(rt, &said, call.saved),
+        Err(fault) => told_of(rt, &fault, &paths, call.explains),
+    }
+}
+
+// The turns of programs on threads, and then what is printed.
+fn print_programs_saved(
+    rt: &HostRuntime,
+    said: &PrintedOnThreads,
+    saved: Option<&str>,
+) -> ExitCode {
+    if are_saved(rt, said.turns.as_slice(), saved) {
+        let printed = &said.printed;
+        print_with(rt, printed.text.as_slice(), status_of_programs(printed))
+    } else {
+        ExitCode::FAILURE
+    }
 }
 
 fn tell_explored(rt: &HostRuntime, call: &Call) -> ExitCode {
@@ -518,7 +557,7 @@ fn carry_out<R: Threads + Wait + Sync>(rt: &HostRuntime, threads: &R, call: &Cal
         Named::Turns => print_turns(rt, call),
         Named::Outcomes => tell_outcomes(rt, call),
         Named::Threads => print_threads(rt, threads, call),
-        Named::Run => print_programs(rt, call),
+        Named::Run => print_programs(rt, threads, call),
         Named::Explore => tell_explored(rt, call),
         Named::Audit => print_audit(rt, call),
         Named::Explain => print_topic(rt, &call.topic),

@@ -62,6 +62,7 @@ pub record IsCall (asked : Named) (found : Found) (call : Call) : Type 0 where
   pub brief : IsFlag found (codes "brief") call.brief
   pub statuses : IsFlag found (codes "status") call.statuses
   pub programs : IsFlag found (codes "programs") call.programs
+  pub threads : IsFlag found (codes "threads") call.threads
   pub first : call.first ≡ is_some (first_value found (codes "first"))
   pub last : call.last ≡ is_some (first_value found (codes "then"))
   pub capacity : count_for 1000 (first_value found (codes "capacity")) ≡ Some call.capacity

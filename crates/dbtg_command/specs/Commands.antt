@@ -76,6 +76,10 @@ never = wish_option (codes "never")
 abbrev pub no_explain : Rule
 no_explain = flag (codes "no-explain")
 
+-- programs run on threads, which excludes turns
+abbrev pub on_threads : Rule
+on_threads = record (flag (codes "threads")) { is_free = false }
+
 -- the texts are programs
 abbrev pub programs : Rule
 programs = flag (codes "programs")
@@ -152,7 +156,7 @@ rules_for named.Outcomes = capacity ∷ first ∷ limit ∷ answers ∷ brief �
 rules_for named.Threads = capacity ∷ first ∷ save_turns ∷ trace_alone ∷ explain ∷ no_explain ∷ schema ∷ scripts ∷ []
 rules_for named.Audit = capacity ∷ first ∷ units ∷ status ∷ all ∷ explain ∷ no_explain ∷ schema ∷ trace ∷ []
 rules_for named.Draw = explain ∷ no_explain ∷ schema ∷ []
-rules_for named.Run = capacity ∷ first ∷ turns_alone ∷ last ∷ echo ∷ trace_option ∷ explain ∷ no_explain ∷ schema ∷ scripts ∷ []
+rules_for named.Run = capacity ∷ first ∷ turns_alone ∷ on_threads ∷ save_turns ∷ last ∷ echo ∷ trace_option ∷ explain ∷ no_explain ∷ schema ∷ scripts ∷ []
 rules_for named.Explore = capacity ∷ first ∷ turns_alone ∷ last ∷ limit_of_programs ∷ brief ∷ explain ∷ no_explain ∷ schema ∷ scripts ∷ []
 rules_for named.Explain = topic ∷ []
 rules_for named.Shell = capacity ∷ units ∷ schema ∷ []

@@ -14,6 +14,7 @@ use Rattle.dbtg_schema.specs.Lookups.{first, some_and}
 use Rattle.dbtg_script.specs.Lines.{trimmed}
 use Rattle.dbtg_script.specs.Moves.{cause_number as moves_cause_number}
 use Rattle.dbtg_script.specs.Printing.Causes.{cause_number as script_cause_number}
+use Rattle.dbtg_script.specs.Printing.Spelling.{has_byte, in_front, is_number}
 use Rattle.dbtg_script.specs.StatementFaults.{line_faults}
 use Rattle.dbtg_script.specs.StatementGrammar.{fits, statement}
 use Rattle.dbtg_script.specs.Tokens.{plain}
@@ -38,9 +39,13 @@ place_of path mark number = ((path ++ mark) ++ decimal number) ++ codes ": "
 abbrev pub told_at : List ℕ → List ℕ → List ℕ → List ℕ → List ℕ
 told_at place word meaning other = (place ++ (if length word == 0 || not (length other == 0) then meaning else word)) ++ other
 
--- a file with this path is not read again: it is standard input, or the reader gave nothing
+-- a file with this path is not read again up to this many bytes: it is standard input, or the reader gave nothing
+abbrev pub IsNotReadTo : (List ℕ → ℕ → Type 0) → ℕ → List ℕ → Type 0
+IsNotReadTo lacks most path = bytes_eq path (codes "-") ≡ false → lacks path most
+
+-- the same of a schema, a script or a program
 abbrev pub IsNotRead : (List ℕ → ℕ → Type 0) → List ℕ → Type 0
-IsNotRead lacks path = bytes_eq path (codes "-") ≡ false → lacks path 1048577
+IsNotRead lacks path = IsNotReadTo lacks 1048577 path
 
 -- nor is a script if the schema is standard input
 abbrev pub IsScriptNotRead : (List ℕ → ℕ → Type 0) → List ℕ → List ℕ → Type 0
@@ -119,9 +124,26 @@ abbrev pub IsToldOfProgram : (List ℕ → Type 0) → List ℕ → ℕ → ℕ 
 IsToldOfProgram Says path line number out =
     (said : List ℕ) × Says said × (out ≡ told_at (place_of path (codes ":") line) said (fault_field (kind_with number) number 1) [])
 
--- this is said of a fault in a line of a trace
-abbrev pub IsToldOfTrace : List ℕ → ℕ → ℕ → List ℕ → Type 0
-IsToldOfTrace path line number out = out ≡ told_at (place_of path (codes ":") line) [] (fault_field (kind_with number) number 1) []
+-- why a line of a trace names none of the units
+abbrev pub no_unit : List ℕ → List ℕ
+no_unit line =
+    if not (has_byte 58 line) then codes "no unit: no colon"
+    else (if not (is_number (in_front 58 line)) then codes "no unit: other bytes than digits before the first colon"
+    else codes "no unit: a unit that is not from 1 to the number of units")
+
+-- what is said of a line of a trace with this fault: why it has no unit, and nothing of other faults
+abbrev pub said_of_unit : ℕ → ℕ → List ℕ → List ℕ
+said_of_unit number line text = if number == 31 then no_unit (line_at line text) else []
+
+-- this is said of a line of the trace that is in the file with this path
+abbrev pub SaysOfTrace : (List ℕ → ℕ → List ℕ → Type 0) → (List ℕ → ℕ → Type 0) → List ℕ → ℕ → ℕ → List ℕ → Type 0
+SaysOfTrace has lacks path line number said =
+    (IsNotReadTo lacks 67108865 path × (said ≡ [])) ⊎ ((text : List ℕ) × has path 67108865 text × (said ≡ said_of_unit number line text))
+
+-- this is said of a fault in a line of a trace, given what `Says` allows for the line
+abbrev pub IsToldOfTrace : (List ℕ → Type 0) → List ℕ → ℕ → ℕ → List ℕ → Type 0
+IsToldOfTrace Says path line number out =
+    (said : List ℕ) × Says said × (out ≡ told_at (place_of path (codes ":") line) said (fault_field (kind_with number) number 1) [])
 
 -- a file that could not be read is named with its path, and the reason
 abbrev pub IsUnreadLine : List ℕ → List ℕ → Type 0
@@ -149,7 +171,10 @@ IsReason has lacks schema scripts order (Script n line cause) out =
 IsReason has lacks schema scripts order (Moves word cause) out = IsToldOfOrder kind.Moves (order_path order) word (moves_cause_number cause) out
 IsReason has lacks schema scripts order (Turns word cause) out = IsToldOfOrder kind.Turns (order_path order) word (moves_cause_number cause) out
 IsReason has lacks schema scripts order (Unreadable path) out = IsUnreadLine (string_bytes path) out
-IsReason has lacks schema scripts order (Trace line cause) out = IsToldOfTrace (script_path scripts 1) line (trace_cause_number cause) out
+IsReason has lacks schema scripts order (Trace line cause) out =
+    let number = trace_cause_number cause in
+    let path = script_path scripts 1 in
+    IsToldOfTrace (SaysOfTrace has lacks path line number) path line number out
 IsReason has lacks schema scripts order (Program n line cause) out =
     let number = program_cause_number cause in
     let path = script_path scripts n in

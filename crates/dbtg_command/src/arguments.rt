@@ -1,6 +1,6 @@
 //! The arguments of commands: options, files and other words, as `clap` is given them.
 ghost use Rattle.std.specs.Prelude.{IfOk};
-ghost use Rattle.dbtg_command.specs.Commands.{all, answers, capacity, echo, explain, file_option, file_word, first, flag, last, limit, limit_of_programs, moves, no_explain, number_option, programs, save_turns, topic, turns_file, turns_option, units, words, status, trace, trace_alone, trace_option, always, brief, never, wish_option, turns_alone};
+ghost use Rattle.dbtg_command.specs.Commands.{all, answers, capacity, echo, explain, file_option, file_word, first, flag, last, limit, limit_of_programs, moves, no_explain, number_option, on_threads, programs, save_turns, topic, turns_file, turns_option, units, words, status, trace, trace_alone, trace_option, always, brief, never, wish_option, turns_alone};
 ghost use Rattle.dbtg_command.specs.Inside.Commands.{IsArg, rule_for};
 
 use clap::{Arg, ArgAction};
@@ -24,6 +24,7 @@ pub enum Word<'a> {
     Moves,
     Never,
     NoExplain,
+    OnThreads,
     Programs,
     ProgramFiles(&'a str),
     SaveTurns,
@@ -242,6 +243,17 @@ fn no_explain_option<'a>(alloc: Global) -> Arg<'a>
     flag(alloc, "no-explain", help)
 }
 
+fn on_threads_option<'a>(alloc: Global) -> Result<Arg<'a>, AllocError>
+    ensures { IfOk result (IsArg on_threads) }
+{
+    flag(
+        alloc,
+        "threads",
+        "Runs each program on a thread of its own [default: one after another]; not with --turns",
+    )
+    .conflicts_with("turns")
+}
+
 fn programs_option<'a>(alloc: Global) -> Arg<'a>
     ensures { IsArg programs result }
 {
@@ -255,7 +267,7 @@ fn save_turns_option<'a>(alloc: Global) -> Arg<'a>
     file_option(
         alloc,
         "save-turns",
-        "Writes the turns, for replay --turns, to a file [default: does not]",
+        "Writes the turns, as --turns reads them, to a file [default: does not]",
     )
 }
 
@@ -365,6 +377,7 @@ pub fn arg_of<'a>(alloc: Global, word: Word<'a>) -> Result<Arg<'a>, AllocError>
         Word::Moves => Ok(moves_option(alloc)),
         Word::Never => Ok(never_option(alloc)),
         Word::NoExplain => Ok(no_explain_option(alloc)),
+        Word::OnThreads => on_threads_option(alloc),
         Word::Programs => Ok(programs_option(alloc)),
         Word::ProgramFiles(help) => Ok(words(alloc, "scripts", "PROGRAM", help)),
         Word::SaveTurns => Ok(save_turns_option(alloc)),

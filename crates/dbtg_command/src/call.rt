@@ -45,6 +45,8 @@ pub struct Call<'a> {
     pub statuses: bool,
     /// The texts are programs.
     pub programs: bool,
+    /// Each program runs on a thread of its own.
+    pub threads: bool,
     /// The last script, or the one before it if there is one that is made last, is made before all others.
     pub first: bool,
     /// The last script is made after all others have ended.
@@ -218,6 +220,7 @@ fn given_call<'a>(alloc: Global, named: Named, given: &ArgMatches<'a>) -> Result
         brief: given.get_flag("brief"),
         statuses: given.get_flag("status"),
         programs: given.get_flag("programs"),
+        threads: given.get_flag("threads"),
         first: given.get_str("first").is_some(),
         last: given.get_str("then").is_some(),
         capacity: capacity as u16,
@@ -257,7 +260,7 @@ fn reads_again(call: &Call) -> bool {
         && (is_input(call.schema) || call.scripts.iter().any(|path| is_input(*path)))
 }
 
-// What is wrong with the paths, if anything is.
+// What is wrong with the paths, or with words that need others, if anything is.
 fn misused_input(call: &Call) -> Option<&'static str> {
     if reads_twice(call) {
         Some("the argument '-' cannot be used twice: standard input is one file")
@@ -266,6 +269,10 @@ fn misused_input(call: &Call) -> Option<&'static str> {
     } else if matches!(call.saved, Some("-")) {
         Some(
             "the argument '-' cannot be used with '--save-turns <FILE>': turns are written to a file",
+        )
+    } else if matches!(call.named, Named::Run) && call.saved.is_some() && !call.threads {
+        Some(
+            "the argument '--save-turns <FILE>' cannot be used without '--threads': the turns are those of threads",
         )
     } else if matches!(call.named, Named::Shell) && is_input(call.schema) {
         Some("the argument '-' cannot be used: the shell reads statements from standard input")

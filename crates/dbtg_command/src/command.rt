@@ -272,6 +272,8 @@ fn run_command<'a>(alloc: Global, name: &'a str) -> Result<Command<'a>, AllocErr
             Word::Capacity,
             Word::First(FIRST_PROGRAM),
             Word::TurnsAlone,
+            Word::OnThreads,
+            Word::SaveTurns,
             Word::Last,
             Word::Echo,
             Word::TraceOption,

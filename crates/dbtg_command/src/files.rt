@@ -18,7 +18,7 @@ const SCHEMA_BYTES: u64 = 65_537;
 
 pub const SCRIPT_BYTES: u64 = 1_048_577;
 
-const TRACE_BYTES: u64 = 67_108_865;
+pub const TRACE_BYTES: u64 = 67_108_865;
 // Moves and turns may be of any length.
 const MOVES_BYTES: u64 = u64::MAX;
 

@@ -2,18 +2,18 @@
 ghost use Rattle.std.specs.Char.{is_ascii_alphabetic};
 ghost use Rattle.std.specs.List.{prefix_len};
 ghost use Rattle.std.specs.Prelude.{◌≡◌, ◌≤◌, [], IfOk, MatchOption, length, map, string_bytes};
-ghost use Rattle.dbtg_command.specs.Reasons.{HasNoReason, IsNotRead, IsReason, IsReasonLine, IsToldIn, IsToldOfOrder, IsScriptNotRead, IsUnreadLine, SaysOfFile, SaysOfLine, SaysOfSchema, SaysOfScript, begins_statement, first_letters, order_path, other_kind, place_of, script_path, told_at, IsToldOfProgram, IsToldOfTrace, has_script_fault, kind_with, said_in_text};
+ghost use Rattle.dbtg_command.specs.Reasons.{HasNoReason, IsNotRead, IsNotReadTo, IsReason, IsReasonLine, IsToldIn, IsToldOfOrder, IsScriptNotRead, IsUnreadLine, SaysOfFile, SaysOfLine, SaysOfSchema, SaysOfScript, begins_statement, first_letters, order_path, other_kind, place_of, script_path, told_at, IsToldOfProgram, IsToldOfTrace, SaysOfTrace, has_script_fault, kind_with, no_unit, said_in_text, said_of_unit};
 ghost use Rattle.dbtg_command.specs.Sources.{order_map};
 ghost use Rattle.dbtg_command.specs.declared.explain.Kind.TheVariants as text_kind;
 ghost use Rattle.dbtg_command.specs.declared.fault.Fault.TheVariants.{Memory};
 
 use crate::explain::{Kind, line_at, meaning_of, said_of_schema_word, said_of_word};
 use crate::fault::Fault;
-use crate::files::{FileReader, Files, Paths, SCRIPT_BYTES, STANDARD_INPUT};
+use crate::files::{FileReader, Files, Paths, SCRIPT_BYTES, STANDARD_INPUT, TRACE_BYTES};
 use crate::order::Order;
 use crate::texts::read_schema;
 use dbtg_schema::Schema;
-use dbtg_script::{LineFault, push_number, read_script_line};
+use dbtg_script::{LineFault, has_byte, in_front, is_number, push_number, read_script_line};
 use std::alloc::{AllocError, Global};
 use std::io;
 
@@ -90,17 +90,24 @@ fn unread_line<F: FileReader>(
     Ok(out)
 }
 
-/// The text of a file that is read again; standard input cannot be.
-fn read_again<F: FileReader>(files: &Files<F>, path: &str) -> Option<Vec<u8>>
-    ensures { MatchOption result (IsNotRead (F.lacks files.now.reader.now) path.now) (λ text. F.has files.now.reader.now path.now 1048577 text.items) }
+/// The text of a file that is read again, up to this many bytes; standard input cannot be.
+fn read_up_to<F: FileReader>(files: &Files<F>, path: &str, most: u64) -> Option<Vec<u8>>
+    ensures { MatchOption result (IsNotReadTo (F.lacks files.now.reader.now) most path.now) (λ text. F.has files.now.reader.now path.now most text.items) }
 {
     if path == STANDARD_INPUT {
         return None;
     }
-    match files.reader.read(path, SCRIPT_BYTES) {
+    match files.reader.read(path, most) {
         Ok(text) => Some(text),
         Err(_) => None,
     }
+}
+
+/// The text of a schema, a script or a program that is read again.
+fn read_again<F: FileReader>(files: &Files<F>, path: &str) -> Option<Vec<u8>>
+    ensures { MatchOption result (IsNotRead (F.lacks files.now.reader.now) path.now) (λ text. F.has files.now.reader.now path.now 1048577 text.items) }
+{
+    read_up_to(files, path, SCRIPT_BYTES)
 }
 
 /// The text of a script that is read again; it is of no use if the schema cannot be read.
@@ -340,13 +347,54 @@ fn program_reason<F: FileReader>(
     told_at(alloc, place.as_slice(), said.as_slice(), meaning, "")
 }
 
+/// What is wrong with the unit of a trace's line that names none of the units.
+fn no_unit(line: &[u8]) -> &'static str
+    ensures { result.now ≡ no_unit line.now }
+{
+    if !has_byte(line, b':') {
+        "no unit: no colon"
+    } else if !is_number(in_front(line, b':')) {
+        "no unit: other bytes than digits before the first colon"
+    } else {
+        "no unit: a unit that is not from 1 to the number of units"
+    }
+}
+
+/// What is said of a line of a trace with this fault: what is wrong with its unit, and nothing of other faults.
+fn said_of_unit(text: &[u8], line: u64, number: u8) -> &'static str
+    ensures { result.now ≡ said_of_unit number line text.now }
+{
+    if number == 31 {
+        no_unit(line_at(text, line))
+    } else {
+        ""
+    }
+}
+
+/// The same of the file that is read again; nothing if it is not.
+fn said_in_trace<F: FileReader>(files: &Files<F>, path: &str, line: u64, number: u8) -> &'static str
+    ensures { SaysOfTrace (F.has files.now.reader.now) (F.lacks files.now.reader.now) path.now line number result.now }
+{
+    match read_up_to(files, path, TRACE_BYTES) {
+        Some(text) => said_of_unit(text.as_slice(), line, number),
+        None => "",
+    }
+}
+
 /// The second line for a fault of a trace.
-fn trace_reason(alloc: Global, path: &str, line: u64, number: u8) -> Result<Vec<u8>, AllocError>
-    ensures { IfOk result (λ out. IsToldOfTrace path.now line number out.items) }
+fn trace_reason<F: FileReader>(
+    alloc: Global,
+    files: &Files<F>,
+    path: &str,
+    line: u64,
+    number: u8,
+) -> Result<Vec<u8>, AllocError>
+    ensures { IfOk result (λ out. IsToldOfTrace (SaysOfTrace (F.has files.now.reader.now) (F.lacks files.now.reader.now) path.now line number) path.now line number out.items) }
 {
     let place = place_of(alloc, path, ":", line)?;
     let meaning = meaning_of(kind_with(number), number);
-    told_at(alloc, place.as_slice(), &[], meaning, "")
+    let said = said_in_trace(files, path, line, number);
+    told_at(alloc, place.as_slice(), said.as_bytes(), meaning, "")
 }
 
 fn order_path<'a>(paths: &Paths<'a>) -> &'a str
@@ -415,7 +463,8 @@ fn told_of<F: FileReader>(
         }
         Fault::Trace { line, cause } => {
             let path = script_path(paths, 1);
-            Ok(Some(trace_reason(alloc, path, *line, cause.number())?))
+            let told = trace_reason(alloc, files, path, *line, cause.number())?;
+            Ok(Some(told))
         }
         Fault::Unreadable { path } => Ok(Some(unread_line(alloc, files, path.as_str())?)),
         _ => Ok(None),

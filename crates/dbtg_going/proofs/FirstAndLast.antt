@@ -10,8 +10,9 @@ use Rattle.dbtg_step.specs.Core.Whole.{IsMadeRun, Making}
 use Rattle.dbtg_going.specs.declared.around.Around.{Around}
 use Rattle.dbtg_going.specs.declared.member.Member.{Member}
 use Rattle.dbtg_going.specs.declared.going.ProgramRun.{ProgramRun}
+use Rattle.dbtg_going.specs.Goings.{reached_by}
 use Rattle.dbtg_going.specs.Turns.{IsRunOf, after_turns, first_turns, have_ended, is_heard, last_turns, other_turns, others, to_the_end, turns_before, turns_of}
-use Rattle.dbtg_going.specs.Inside.Members.{HaveTurned, IsUnderWay, reached_by}
+use Rattle.dbtg_going.specs.Inside.Members.{HaveTurned, IsUnderWay}
 use Rattle.dbtg_going.proofs.Turning.{not_turned, turned_on, turned_to}
 use Rattle.dbtg_going.proofs.Together.{handed}
 

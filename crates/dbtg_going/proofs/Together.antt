@@ -21,8 +21,8 @@ use Rattle.dbtg_going.specs.declared.member.Going.{Going}
 use Rattle.dbtg_going.specs.declared.member.Member.{Member}
 use Rattle.dbtg_going.specs.declared.going.ProgramRun.{ProgramRun}
 use Rattle.dbtg_going.specs.Turns.{IsRunOf, comes, making_by, one_by_one, reached, standing, state_in, to_the_end}
-use Rattle.dbtg_going.specs.Goings.{AreAfter, AreGoing}
-use Rattle.dbtg_going.specs.Inside.Members.{AreAt, HaveTurned, IsAt, IsUnderWay, reached_by}
+use Rattle.dbtg_going.specs.Goings.{AreAfter, AreGoing, IsAt, reached_by}
+use Rattle.dbtg_going.specs.Inside.Members.{AreAt, HaveTurned, IsUnderWay}
 use Rattle.dbtg_going.proofs.Turning.{turned_on, turned_to}
 
 -- EACH BEFORE ITS FIRST STATEMENT
@@ -85,7 +85,8 @@ state_kept : (state : ProgramState) (d : code.Due) → state ≡ state_in (view_
 state_kept state (code_due.Statement s) = refl
 state_kept state (code_due.End how) = refl
 
-reached_there : (schema : Lists) (program : Program) (u : ℕ) (history : List Entry) (m : Member) → IsAt schema program (entries_of u history) m → reached_by m ≡ reached schema program u history
+-- a member is as far as its program is by definition
+pub reached_there : (schema : Lists) (program : Program) (u : ℕ) (history : List Entry) (m : Member) → IsAt schema program (entries_of u history) m → reached_by m ≡ reached schema program u history
 reached_there schema program u history m at = λ i. record { standing = standing (at.made i) (at.going.comes i); state = (state_kept m.going.state m.going.due ∙ ap state_in at.going.comes) i }
 
 module _ (schema : Lists) (capacity : ℕ) (programs : List Program) (turns : List ℕ) (made : Making) (members : List Member) (given : ProgramRun) where

@@ -19,10 +19,10 @@ use Rattle.dbtg_step.specs.Machine.SequentialDatabase.{unit_at, with_unit_at}
 use Rattle.dbtg_step.proofs.Public.{length_with, set_at, set_elsewhere}
 use Rattle.dbtg_going.specs.declared.member.Going.{Going}
 use Rattle.dbtg_going.specs.declared.member.Member.{Member}
-use Rattle.dbtg_going.specs.Goings.{AreEach, IsGoing, comes_of}
+use Rattle.dbtg_going.specs.Goings.{AreEach, IsAt, IsGoing, comes_of}
 use Rattle.dbtg_going.specs.Turns.{after_turn, after_turns, comes, due_after, made, statement_due, statement_of, to_the_end, with_outcome}
 use Rattle.dbtg_unit.specs.declared.limits.TheConstants.{MOST_STATEMENTS}
-use Rattle.dbtg_going.specs.Inside.Members.{AreAt, HaveTurned, IsAt, IsUnderWay}
+use Rattle.dbtg_going.specs.Inside.Members.{AreAt, HaveTurned, IsUnderWay}
 
 same_or_not : (m n : ℕ) → (m ≡ n) ⊎ (m ≢ n)
 same_or_not zero zero = inl refl

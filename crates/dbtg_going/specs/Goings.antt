@@ -10,7 +10,9 @@ use Rattle.dbtg_program.specs.Views.{Stands, view_due}
 use Rattle.dbtg_step.specs.Core.Whole.{Making}
 use Rattle.dbtg_step.specs.Machine.SequentialDatabase.{unit_at}
 use Rattle.dbtg_going.specs.declared.member.Going.{Going}
-use Rattle.dbtg_going.specs.Turns.{making_by}
+use Rattle.dbtg_going.specs.declared.member.Member.{Member}
+use Rattle.dbtg_going.specs.declared.member.Reached.{Reached}
+use Rattle.dbtg_going.specs.Turns.{making_by, standing}
 
 -- what is due in it
 abbrev pub comes_of : Going → Due
@@ -21,6 +23,15 @@ pub record IsGoing (schema : Lists) (program : Program) (entries : List Entry) (
   pub comes : comes_of g ≡ next schema program (state_after schema program (beginning program) entries)
   pub stands : Stands program g.state g.due
   pub are_of : AreOf schema program entries
+
+-- how far a member is
+abbrev pub reached_by : Member → Reached
+reached_by m = record { standing = standing m.made (comes_of m.going); state = m.going.state }
+
+-- the member is where these entries have led its program
+pub record IsAt (schema : Lists) (program : Program) (entries : List Entry) (m : Member) : Type 0 where
+  pub made : m.made ≡ length entries
+  pub going : IsGoing schema program entries m.going
 
 -- there is one for each program, and `Is` holds for it after the entries of the program's unit
 pub record AreEach {X : Type 0} (Is : Program → List Entry → X → Type 0) (programs : List Program) (history : List Entry) (xs : List X) : Type 0 where

@@ -1,7 +1,7 @@
 //! Programs that run together: by turns, or one after the other, possibly with a first and a last one.
 
-ghost use Rattle.dbtg_going.specs.Goings.{AreAfter};
-ghost use Rattle.dbtg_going.specs.Inside.Members.{AreAt, HaveTurned, IsUnderWay, reached_by};
+ghost use Rattle.dbtg_going.specs.Goings.{AreAfter, reached_by};
+ghost use Rattle.dbtg_going.specs.Inside.Members.{AreAt, HaveTurned, IsUnderWay};
 ghost use Rattle.dbtg_going.specs.Turns.{IsRunOf, first_turns, have_ended, is_heard, last_turns, one_by_one, other_turns, others, statement_of, to_the_end, turns_of};
 ghost use Rattle.dbtg_step.specs.Core.Whole.{IsMadeRun};
 ghost use Rattle.dbtg_schema.specs.Sound.{IsSound};

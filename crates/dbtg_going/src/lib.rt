@@ -8,5 +8,5 @@ mod text;
 
 pub use around::Around;
 pub use going::{ProgramRun, programs_after, run_programs};
-pub use member::{Going, Reached, Standing};
+pub use member::{Going, Member, Reached, Standing};
 pub use text::{push_end, push_programs, run_text};

@@ -1,7 +1,6 @@
 //! The program of one unit, which is at a statement or has ended; and the same with the count of its unit's statements, which has a limit.
 
-ghost use Rattle.dbtg_going.specs.Goings.{IsGoing, comes_of};
-ghost use Rattle.dbtg_going.specs.Inside.Members.{IsAt, reached_by};
+ghost use Rattle.dbtg_going.specs.Goings.{IsAt, IsGoing, comes_of, reached_by};
 ghost use Rattle.dbtg_going.specs.Turns.{due_after, statement_due};
 ghost use Rattle.dbtg_going.specs.declared.member.Reached.{Reached};
 ghost use Rattle.dbtg_program.specs.declared.going.Due.TheVariants as due;

@@ -34,10 +34,10 @@ pub record Ran (script : List Statement) (before after : UnitView) : Type 0 wher
 abbrev pub IsWhole : List Statement → UnitView → UnitView → Type 0
 IsWhole script before after = (length after.journal ≡ length before.journal + length script) ⊎ (MOST_STATEMENTS ≤ length after.journal)
 
--- the same for each script, the unit to which it was given, and that unit afterwards; all three are at one place
-pub record AtEach (P : List Statement → UnitView → UnitView → Type 0) (scripts : List (List Statement)) (before after : List UnitView) : Type 0 where
+-- the same for each script, or what else is made, the unit to which it was given, and that unit afterwards; all three are at one place
+pub record AtEach {S : Type 0} (P : S → UnitView → UnitView → Type 0) (scripts : List S) (before after : List UnitView) : Type 0 where
   pub count : length after ≡ length before
-  pub each : (k : ℕ) (s : List Statement) (u v : UnitView) → k < length before → P (get_or scripts k s) (get_or before k u) (get_or after k v)
+  pub each : (k : ℕ) (s : S) (u v : UnitView) → k < length before → P (get_or scripts k s) (get_or before k u) (get_or after k v)
 
 -- each unit made the first statements of its script
 abbrev pub HaveRun : List (List Statement) → List UnitView → List UnitView → Type 0

@@ -2,3 +2,4 @@ mod ProgramsRead
 mod Echoed
 pub mod Rows
 mod Shown
+mod ReadBack

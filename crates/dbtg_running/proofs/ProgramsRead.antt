@@ -1,7 +1,9 @@
 -- Programs that are read one after another, and what is then true of all.
-use Rattle.std.proofs.Common.{◌≡◌, ℕ, suc, ◌+◌, ◌<◌, List, [], ◌∷◌, ◌++◌, length, map, None, Some, inl, inr, refl, sym, ap, ◌∙◌, subst, true, arith}
-use Rattle.std.specs.Prelude.{Option}
+use Rattle.std.proofs.Common.{◌≡◌, ℕ, suc, ◌+◌, ◌<◌, ◌≤◌, List, [], ◌∷◌, ◌++◌, length, map, None, Some, inl, inr, refl, sym, ap, ◌∙◌, subst, true, arith}
+use Rattle.std.specs.Prelude.{Option, nat_le}
 use Rattle.std.specs.List.{list_any}
+use Rattle.std.proofs.lemmas.Bool.{and_parts}
+use Rattle.std.proofs.lemmas.Bool.Decides.{nat_tests}
 use Rattle.std.proofs.lemmas.List.{length-append, length-map, map_push}
 use Rattle.dbtg_schema.specs.Lists.{Lists}
 use Rattle.dbtg_program.specs.declared.program.Program.{Program}
@@ -9,6 +11,7 @@ use Rattle.dbtg_program.specs.Faults.{refusal as program_refusal}
 use Rattle.dbtg_program.specs.Reading.{program}
 use Rattle.dbtg_going.specs.declared.going.ProgramRun.{ProgramRun}
 use Rattle.dbtg_going.specs.Turns.{IsRunOf, turns_of}
+use Rattle.dbtg_threading.specs.Threading.{IsRunOnThreads}
 use Rattle.dbtg_command.specs.declared.order.OrderKind.{OrderKind}
 use Rattle.dbtg_command.specs.declared.place.TextPlace.{TextPlace}
 use Rattle.dbtg_command.specs.declared.place.TextPlace.TheVariants.{Script}
@@ -18,7 +21,9 @@ use Rattle.dbtg_command.proofs.Public.{held_behind}
 use Rattle.dbtg_running.specs.declared.command.Printed.{Printed}
 use Rattle.dbtg_running.specs.declared.command.RunOptions.{RunOptions}
 use Rattle.dbtg_running.specs.Reading.{AllAccepted, ReadPrograms}
+use Rattle.dbtg_running.specs.declared.threads.PrintedOnThreads.{PrintedOnThreads}
 use Rattle.dbtg_running.specs.Running.{ReadsTurns, RunsHeld, failed, run_text}
+use Rattle.dbtg_running.specs.Threading.{IsPrintedOf, RunsOnThreads}
 
 accepted_behind : (lists : Lists) (front : List (List ℕ)) (text : List ℕ) → AllAccepted lists front → program_refusal lists text ≡ None → AllAccepted lists (front ++ text ∷ [])
 accepted_behind lists [] text all one = (one, tt)
@@ -58,4 +63,32 @@ runs holds lists count which options programs texts turns given printed right sc
       is_run = subst (λ ps. IsRunOf lists options.capacity ps (turns_of lists options.capacity ps options.around turns) given) read.1 run;
       text = text ∙ ap (λ ts. run_text lists options.form ts given) read.2;
       failed_is = failed_is;
+    }
+
+-- 1 to 8 programs were read
+pub few_programs : (holds : TextPlace → List ℕ → Type 0) (lists : Lists) (count : ℕ) (programs : List Program) (texts : List (List ℕ)) → is_count count ≡ true
+    → (read : ReadPrograms holds lists count) × (programs ≡ map (program lists) read.texts) × (texts ≡ read.texts) → (1 ≤ length programs) × (length programs ≤ 8) × (length texts ≤ 8)
+few_programs holds lists count programs texts right read =
+    let parts = and_parts (nat_le 1 count) (nat_le count 8) right in
+    let low : 1 ≤ count = grind (arith, nat_tests, parts.0) in
+    let high : count ≤ 8 = grind (arith, nat_tests, parts.1) in
+    let many = read.0.many in
+    let long = ap length read.1 ∙ length-map read.0.texts (program lists) in
+    let as_long = ap length read.2 in
+    (omega (arith, low, many, long), omega (arith, high, many, long), omega (arith, high, many, as_long))
+
+-- a run of the programs that were read on threads, as it is printed
+pub runs_on_threads : (holds : TextPlace → List ℕ → Type 0) (lists : Lists) (count : ℕ) (options : RunOptions) (programs : List Program) (texts : List (List ℕ)) (turns : List ℕ) (given : ProgramRun) (said : PrintedOnThreads)
+    → is_count count ≡ true → ReadSchema holds lists → (read : ReadPrograms holds lists count) × (programs ≡ map (program lists) read.texts) × (texts ≡ read.texts)
+    → IsRunOnThreads lists options.capacity programs options.around turns given → IsPrintedOf lists options texts turns given said → RunsOnThreads holds count options said
+runs_on_threads holds lists count options programs texts turns given said right schema read run printed =
+    record {
+      counted = right;
+      lists = lists;
+      schema = schema;
+      programs = read.0;
+      turns = turns;
+      given = given;
+      is_run = subst (λ ps. IsRunOnThreads lists options.capacity ps options.around turns given) read.1 run;
+      printed = subst (λ ts. IsPrintedOf lists options ts turns given said) read.2 printed;
     }

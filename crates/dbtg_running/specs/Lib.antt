@@ -1,4 +1,6 @@
 pub mod Reading
 pub mod Echoing
 pub mod Running
+pub mod Threading
 pub mod Checking
+pub mod Laws

@@ -93,8 +93,8 @@ fn text_with_statements(
     Ok(out)
 }
 
-// What is printed of a run of these programs.
-fn print_run(
+/// What is printed of a run of these programs.
+pub fn print_run(
     alloc: Global,
     schema: &Schema,
     programs: &Programs,

@@ -16,7 +16,7 @@ both = record { first = true; last = true }
 abbrev pub only_last : Around
 only_last = record { first = false; last = true }
 
--- of four programs two are others
+-- two of four programs are others
 two_others : others both 4 ≡ 2
 two_others = refl
 

@@ -5,18 +5,8 @@ use Rattle.dbtg_unit.specs.declared.unit.Entry.{Entry}
 use Rattle.dbtg_program.specs.declared.program.Program.{Program}
 use Rattle.dbtg_step.specs.Core.Whole.{Making}
 use Rattle.dbtg_going.specs.declared.member.Member.{Member}
-use Rattle.dbtg_going.specs.declared.member.Reached.{Reached}
-use Rattle.dbtg_going.specs.Goings.{AreEach, IsGoing, comes_of}
-use Rattle.dbtg_going.specs.Turns.{after_turns, standing}
-
--- how far a member is
-abbrev pub reached_by : Member → Reached
-reached_by m = record { standing = standing m.made (comes_of m.going); state = m.going.state }
-
--- the member is where these entries have led its program
-pub record IsAt (schema : Lists) (program : Program) (entries : List Entry) (m : Member) : Type 0 where
-  pub made : m.made ≡ length entries
-  pub going : IsGoing schema program entries m.going
+use Rattle.dbtg_going.specs.Goings.{AreEach, IsAt}
+use Rattle.dbtg_going.specs.Turns.{after_turns}
 
 -- the same for each of these members
 abbrev pub AreAt : Lists → List Program → List Entry → List Member → Type 0

@@ -25,9 +25,9 @@ all_more P xs x all last k d below = ⊎_elim
     (last_or_not k (length xs) (let l = length-append xs (x ∷ []) in omega arith))
 
 -- and of one script more, with its unit
-pub at_more : (P : List Statement → UnitView → UnitView → Type 0) (scripts : List (List Statement)) (before after : List UnitView) (s : List Statement) (u v : UnitView)
-    → ((d : List Statement) → get_or scripts (length before) d ≡ s) → AtEach P scripts before after → P s u v → AtEach P scripts (before ++ u ∷ []) (after ++ v ∷ [])
-at_more P scripts before after s u v at A last = record {
+pub at_more : {S : Type 0} (P : S → UnitView → UnitView → Type 0) (scripts : List S) (before after : List UnitView) (s : S) (u v : UnitView)
+    → ((d : S) → get_or scripts (length before) d ≡ s) → AtEach P scripts before after → P s u v → AtEach P scripts (before ++ u ∷ []) (after ++ v ∷ [])
+at_more {S} P scripts before after s u v at A last = record {
   count = length-append after (v ∷ []) ∙ (ap (λ n. n + 1) A.count ∙ sym (length-append before (u ∷ [])));
   each = λ k d e f below. ⊎_elim
       (λ (l : k < length before). first k d e f l)
@@ -35,13 +35,13 @@ at_more P scripts before after s u v at A last = record {
       (last_or_not k (length before) (let l = length-append before (u ∷ []) in omega arith));
 }
   where
-    first : (k : ℕ) (d : List Statement) (e f : UnitView) → k < length before → P (get_or scripts k d) (get_or (before ++ u ∷ []) k e) (get_or (after ++ v ∷ []) k f)
+    first : (k : ℕ) (d : S) (e f : UnitView) → k < length before → P (get_or scripts k d) (get_or (before ++ u ∷ []) k e) (get_or (after ++ v ∷ []) k f)
     first k d e f l =
         let c = A.count in
         subst (λ y. P (get_or scripts k d) (get_or (before ++ u ∷ []) k e) y) (sym (get_or_append_left after (v ∷ []) f k (omega arith)))
         (subst (λ y. P (get_or scripts k d) y (get_or after k f)) (sym (get_or_append_left before (u ∷ []) e k l)) (A.each k d e f l))
 
-    end : (k : ℕ) (d : List Statement) (e f : UnitView) → k ≡ length before → P (get_or scripts k d) (get_or (before ++ u ∷ []) k e) (get_or (after ++ v ∷ []) k f)
+    end : (k : ℕ) (d : S) (e f : UnitView) → k ≡ length before → P (get_or scripts k d) (get_or (before ++ u ∷ []) k e) (get_or (after ++ v ∷ []) k f)
     end k d e f is =
         let c = A.count in
         subst (λ y. P y (get_or (before ++ u ∷ []) k e) (get_or (after ++ v ∷ []) k f)) (sym (ap (λ n. get_or scripts n d) is ∙ at d))
@@ -49,12 +49,12 @@ at_more P scripts before after s u v at A last = record {
         (subst (λ y. P s u y) (sym (at_last after v f k (is ∙ sym c))) last))
 
 -- the script at the end of what is left, whatever stands for a script that is not there
-pub script_at : (scripts : List (List Statement)) (k n : ℕ) (s : List Statement) → k ≡ n → n < length scripts → s ≡ get_or scripts k s → (d : List Statement) → get_or scripts n d ≡ s
+pub script_at : {S : Type 0} (scripts : List S) (k n : ℕ) (s : S) → k ≡ n → n < length scripts → s ≡ get_or scripts k s → (d : S) → get_or scripts n d ≡ s
 script_at scripts k n s same below is d = get_or_from_slice_get scripts n s d (slice_get_read scripts (length scripts) n s refl below (is ∙ ap (λ i. get_or scripts i s) same))
 
 -- the units that are left came back, and after them the last
-pub all_back : (P : List Statement → UnitView → UnitView → Type 0) (scripts : List (List Statement)) (units left came back : List UnitView) (s : List Statement) (u v : UnitView)
-    → units ≡ left ++ u ∷ [] → back ≡ came ++ v ∷ [] → ((d : List Statement) → get_or scripts (length left) d ≡ s) → AtEach P scripts left came → P s u v → AtEach P scripts units back
+pub all_back : {S : Type 0} (P : S → UnitView → UnitView → Type 0) (scripts : List S) (units left came back : List UnitView) (s : S) (u v : UnitView)
+    → units ≡ left ++ u ∷ [] → back ≡ came ++ v ∷ [] → ((d : S) → get_or scripts (length left) d ≡ s) → AtEach P scripts left came → P s u v → AtEach P scripts units back
 all_back P scripts units left came back s u v units_are back_is at A last =
     subst (λ us. AtEach P scripts us back) (sym units_are) (subst (λ us. AtEach P scripts (left ++ u ∷ []) us) (sym back_is) (at_more P scripts left came s u v at A last))
 

@@ -14,3 +14,8 @@ pub returns-in_ok-told-in-Program : goal.returns-in_ok-told-in-Program
 returns-in_ok-told-in-Program g c =
     let told = rw (c.script_path-path-in-Program.ensures, c.number-in-Program.ensures) at c.in_ok-told-in-Program.ensures in
     rw c.in-Program.is told
+
+pub returns-in_ok-told-in-Trace : goal.returns-in_ok-told-in-Trace
+returns-in_ok-told-in-Trace g c =
+    let told = rw (c.script_path-path-in-Trace.ensures, c.number-in-Trace.ensures) at c.in_ok-told-in-Trace.ensures in
+    rw c.in-Trace.is told

@@ -1,6 +1,6 @@
 use Rattle.std.proofs.Common.{◌≡◌, ◌++◌, map}
 use Rattle.std.specs.Vec.Iter.{into_iter_items}
-use Rattle.dbtg_going.specs.Inside.Members.{reached_by}
+use Rattle.dbtg_going.specs.Goings.{reached_by}
 use Rattle.dbtg_going.proofs.going.reached_by_each.Given as goal
 
 -- what is said and what is left to be said is all

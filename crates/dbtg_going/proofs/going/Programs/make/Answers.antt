@@ -3,7 +3,8 @@ use Rattle.std.proofs.lemmas.Bool.Decides.{nat_tests}
 use Rattle.dbtg_unit.specs.Database.Laws.Replay.{entries_of}
 use Rattle.dbtg_program.specs.declared.going.Due.TheVariants as due
 use Rattle.dbtg_unit.specs.declared.limits.TheConstants.{MOST_STATEMENTS}
-use Rattle.dbtg_going.specs.Inside.Members.{HaveTurned, IsAt}
+use Rattle.dbtg_going.specs.Goings.{IsAt}
+use Rattle.dbtg_going.specs.Inside.Members.{HaveTurned}
 use Rattle.dbtg_going.proofs.Turning.{awaits, entry, history_is, index_at, last_is, on_ok, turn_made, written}
 use Rattle.dbtg_going.proofs.going.Programs.make.Goals as goal
 

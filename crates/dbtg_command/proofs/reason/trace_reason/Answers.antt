@@ -1,0 +1,13 @@
+use Rattle.std.proofs.lemmas.Result.{IfOk-weaker}
+use Rattle.dbtg_command.specs.Reasons.{IsToldOfTrace, SaysOfTrace}
+use Rattle.dbtg_command.proofs.reason.trace_reason.Goals as goal
+
+pub returns : goal.returns
+returns g c =
+    let files = c.args.files.now in
+    let has = g.F.FileReader.has files.reader.now in
+    let lacks = g.F.FileReader.lacks files.reader.now in
+    let Says = SaysOfTrace has lacks c.args.path.now c.args.line c.args.number in
+    IfOk-weaker c.told_at.result _ (λ out. IsToldOfTrace Says c.args.path.now c.args.line c.args.number out.items)
+    (λ out is. (c.said_in_trace-said.result.now, c.said_in_trace-said.ensures, rw (c.as_slice.ensures.value, c.in_ok-place.ensures, c.as_bytes.ensures.value, c.meaning_of-meaning.ensures, c.kind_with.ensures) at is))
+    c.told_at.ensures

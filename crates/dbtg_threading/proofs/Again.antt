@@ -1,0 +1,97 @@
+-- A history in which units have gone by programs is that of its turns.
+-- es are entries, u is a unit.
+use Rattle.std.proofs.Common.{◌≡◌, refl, sym, ◌∙◌, ap, subst, ℕ, zero, suc, ◌+◌, ◌-◌, ◌<◌, ◌≤◌, true, List, [], ◌∷◌, ◌++◌, length, map, Option, Some, None, arith, append-nil, append_assoc, slice_get, slice_set}
+use Rattle.std.specs.Prelude.{◌==◌, if◌then◌else◌, option_and_then, option_map}
+use Rattle.std.specs.List.{range_with_len}
+use Rattle.std.proofs.lemmas.List.{length-append}
+use Rattle.std.proofs.lemmas.List.Elements.{filter-append}
+use Rattle.dbtg_schema.specs.Lists.{Lists}
+use Rattle.dbtg_unit.specs.declared.statement.Statement.{Statement}
+use Rattle.dbtg_unit.specs.declared.unit.Answer.{Answer}
+use Rattle.dbtg_unit.specs.declared.unit.Entry.{Entry}
+use Rattle.dbtg_unit.specs.declared.unit.Unit as unit
+use Rattle.dbtg_unit.specs.Database.Statements.Effect.{Outcome, effect}
+use Rattle.dbtg_unit.specs.Database.Laws.Replay.{AnswersHold, IsHistoryOf, State, after_entry, after_outcome, entries_of, opening_state, outcome_of, replay}
+use Rattle.dbtg_unit.proofs.Public.{opening_length, replays_one_more}
+use Rattle.dbtg_program.specs.declared.program.Program.{Program}
+use Rattle.dbtg_going.specs.Turns.{after_turn, after_turns, made, statement_of, with_outcome}
+use Rattle.dbtg_going.proofs.Turning.{numbered_one}
+use Rattle.dbtg_threading.specs.Inside.Gone.{HaveMade, statement_after}
+
+-- UNITS BY NUMBER
+
+set_length : {X : Type 0} (xs : List X) (n : ℕ) (x : X) → length (slice_set xs n x) ≡ length xs
+set_length [] n x = refl
+set_length (y ∷ ys) zero x = refl
+set_length (y ∷ ys) (suc n) x = ap suc (set_length ys n x)
+
+as_many : (state : State) (number : ℕ) (o : Option Outcome) → length (after_outcome state number o).units ≡ length state.units
+as_many state number None = refl
+as_many state number (Some o) = set_length state.units (number - 1) o.unit
+
+unit_below : (f : unit.Unit → Outcome) (answer : Answer) (units : List unit.Unit) (n : ℕ) → option_map (λ (o : Outcome). o.answer) (option_map f (slice_get units n)) ≡ Some answer → suc n ≤ length units
+unit_below f answer [] n h = absurd (cc)
+unit_below f answer (u ∷ us) zero h = omega arith
+unit_below f answer (u ∷ us) (suc n) h = let rest = unit_below f answer us n h in omega (arith, rest)
+
+mine : (e : Entry) (rest : List Entry) → entries_of e.unit (e ∷ rest) ≡ e ∷ entries_of e.unit rest
+mine e rest =
+    let same : (e.unit == e.unit) ≡ true = grind arith in
+    ap (λ b. if b then e ∷ entries_of e.unit rest else entries_of e.unit rest) same
+
+module _ (schema : Lists) (capacity : ℕ) (programs : List Program) where
+  -- the sequential database after a history
+  abbrev now : List Entry → State
+  now es = replay schema capacity (opening_state schema (length programs)) es
+
+  unit_there : (state : State) (u : ℕ) (x : Statement) (answer : Answer) → option_map (λ (o : Outcome). o.answer) (outcome_of schema capacity state u x) ≡ Some answer → (0 < u) × (u ≤ length state.units)
+  unit_there state zero x answer h = absurd (cc)
+  unit_there state (suc n) x answer h = (omega arith, unit_below (λ unit. effect schema capacity state.database unit x) answer state.units n h)
+
+  still_as_many : (state : State) (es : List Entry) → length (replay schema capacity state es).units ≡ length state.units
+  unfolding replay
+  still_as_many state [] = refl
+  still_as_many state (e ∷ es) = still_as_many (after_entry schema capacity state e) es ∙ as_many state e.unit (outcome_of schema capacity state e.unit e.statement)
+
+  units_are : (es : List Entry) → length (now es).units ≡ length programs
+  units_are es = still_as_many (opening_state schema (length programs)) es ∙ opening_length schema (length programs)
+
+  -- ONE ENTRY
+
+  -- each entry has the statement of its unit's turn
+  in_turn : (history before behind : List Entry) (e : Entry) → HaveMade schema programs history → history ≡ before ++ e ∷ behind → 0 < e.unit → e.unit ≤ length programs → statement_of schema programs before e.unit ≡ Some e.statement
+  in_turn history before behind e all is some within =
+      let program = numbered_one programs e.unit some within in
+      let own : entries_of e.unit history ≡ entries_of e.unit before ++ e ∷ entries_of e.unit behind
+      = ap (entries_of e.unit) is ∙ filter-append (λ (f : Entry). f.unit == e.unit) before (e ∷ behind) ∙ ap (λ es. entries_of e.unit before ++ es) (mine e behind) in
+      ap (option_and_then (λ (p : Program). statement_after schema p (entries_of e.unit before))) program.1 ∙ (all e.unit program.0 program.1).in_turn (entries_of e.unit before) e (entries_of e.unit behind) own
+
+  with_answer : (before : List Entry) (e : Entry) (o : Option Outcome) → option_map (λ (o : Outcome). o.answer) o ≡ Some e.answer → length before ≡ e.ticket → with_outcome before e.unit e.statement o ≡ before ++ e ∷ []
+  with_answer before e None h ticket = absurd cc
+  with_answer before e (Some o) h ticket =
+      let answer : o.answer ≡ e.answer = cc in
+      λ i. before ++ record { ticket = ticket i; unit = e.unit; statement = e.statement; answer = answer i } ∷ []
+
+  -- ALL ENTRIES
+
+  along : (history before rest : List Entry) → HaveMade schema programs history → history ≡ before ++ rest → AnswersHold schema capacity (now before) rest → map (λ (e : Entry). e.ticket) rest ≡ range_with_len (length before) (length rest)
+      → after_turns schema capacity programs before (map (λ (e : Entry). e.unit) rest) ≡ before ++ rest
+  unfolding AnswersHold after_turns
+  along history before [] all is answers tickets = sym (append-nil before)
+  along history before (e ∷ rest) all is answers tickets =
+      let there = unit_there (now before) e.unit e.statement e.answer answers.0 in
+      let number = units_are before in
+      let said = in_turn history before rest e all is there.0 (omega (arith, there.1, number)) in
+      let ticket : length before ≡ e.ticket = cc (tickets) in
+      let turn : after_turn schema capacity programs before e.unit ≡ before ++ e ∷ []
+      = ap (made schema capacity (length programs) before e.unit) said ∙ with_answer before e (outcome_of schema capacity (now before) e.unit e.statement) answers.0 ticket in
+      let tail : map (λ (f : Entry). f.ticket) rest ≡ range_with_len (length before + 1) (length rest) = cc (tickets) in
+      ap (λ es. after_turns schema capacity programs es (map (λ (f : Entry). f.unit) rest)) turn
+      ∙ along history (before ++ e ∷ []) rest all (is ∙ sym (append_assoc before (e ∷ []) rest))
+      (subst (λ s. AnswersHold schema capacity s rest) (sym (replays_one_more schema capacity (opening_state schema (length programs)) before e).state_is) answers.1)
+      (tail ∙ ap (λ k. range_with_len k (length rest)) (sym (length-append before (e ∷ []))))
+      ∙ append_assoc before (e ∷ []) rest
+
+  pub made_again : (history : List Entry) → HaveMade schema programs history → IsHistoryOf schema capacity (length programs) history → after_turns schema capacity programs [] (map (λ (e : Entry). e.unit) history) ≡ history
+  unfolding replay
+  made_again history all of = along history [] history all refl of.answers_hold of.tickets

@@ -1,0 +1,4 @@
+pub mod Gone
+pub mod Crosses
+pub mod Again
+pub mod Around
