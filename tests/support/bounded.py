@@ -11,7 +11,7 @@ from dataclasses import dataclass, field
 from kit import ROOT
 
 # The options that have no word behind them.
-ALONE = ("--all", "--answers", "--brief", "--echo", "--explain", "--no-explain", "--programs", "--status", "--svg", "--trace")
+ALONE = ("--all", "--answers", "--brief", "--echo", "--explain", "--no-explain", "--programs", "--status", "--svg", "--threads", "--trace")
 # What one run may take: seconds of a processor, bytes of memory, and seconds by the clock before it is ended.
 SECONDS = 2
 BYTES = 1 << 30
