@@ -32,6 +32,7 @@ use dbtg_running::{
 };
 use dbtg_schema::Schema;
 use dbtg_shell::{Broken, Session, converse, write_file};
+use dbtg_unit::LAST_UNIT;
 use outcomes::{ListingOptions, print_outcomes};
 use progress::Progress;
 use std::alloc::Global;
@@ -493,7 +494,7 @@ fn wish_of(wished: Wished) -> Wish
     ensures { result.status < 10000 }
 {
     Wish {
-        unit: wished.unit.min(255) as u8,
+        unit: wished.unit.min(LAST_UNIT.into()) as u8,
         place: wished.place as usize,
         status: wished.status.min(GREATEST_STATUS),
         never: wished.never,

@@ -19,7 +19,7 @@ use dbtg_replay::{
 use dbtg_schema::{Row, Schema};
 use dbtg_script::statement_lines;
 use dbtg_timeline::{Event, noted_events, timeline_svg, timeline_text, watch};
-use dbtg_unit::{Move, Statement};
+use dbtg_unit::{LAST_UNIT, Move, Statement};
 use std::alloc::{AllocError, Global};
 
 /// The form in which a run is shown. A picture can say below each refusal what is in its way.
@@ -68,7 +68,7 @@ fn events_shown(
     moves: &[Move],
 ) -> Result<Vec<Event>, AllocError>
     requires sound { IsSound schema.now }
-    requires units { length statements ≤ 255 }
+    requires units { length statements ≤ LAST_UNIT }
     requires fit { scripts_fit schema.now statements ≡ true }
     ensures { IfOk result (λ events. events.items ≡ events_shown explained schema.now capacity statements moves.now) }
 {
@@ -90,7 +90,7 @@ fn picture_of_moves(
     moves: &[Move],
 ) -> Result<Vec<u8>, AllocError>
     requires sound { IsSound schema.now }
-    requires units { length scripts.statements ≤ 255 }
+    requires units { length scripts.statements ≤ LAST_UNIT }
     requires fit { scripts_fit schema.now scripts.statements ≡ true }
     ensures { IfOk result (λ out. out.items ≡ picture form schema.now capacity scripts.statements scripts.texts moves.now) }
 {
@@ -124,7 +124,7 @@ fn picture_of_turns(
     turns: &[u8],
 ) -> Result<Vec<u8>, AllocError>
     requires sound { IsSound schema.now }
-    requires units { length scripts.statements ≤ 255 }
+    requires units { length scripts.statements ≤ LAST_UNIT }
     requires fit { scripts_fit schema.now scripts.statements ≡ true }
     ensures { IfOk result (λ out. IsPictured schema.now capacity scripts.statements scripts.texts form (StandFor schema.now capacity scripts.statements turns.now) out.items) }
 {

@@ -17,7 +17,7 @@ use crate::said::is_so;
 use dbtg_schema::{Row, Schema};
 use dbtg_step::{Run, WholeDatabase};
 use dbtg_trace::{Said, Traced};
-use dbtg_unit::{Entry, Statement};
+use dbtg_unit::{Entry, LAST_UNIT, Statement};
 use std::alloc::{AllocError, Global};
 
 /// What was recorded elsewhere: a trace and how many units it has, and perhaps a script that is made first, by another unit.
@@ -137,7 +137,7 @@ pub fn audit_trace(
     statuses: bool,
 ) -> Result<Audited, AllocError>
     requires sound { IsSound schema.now }
-    requires few { recorded.units < 255 }
+    requires few { recorded.units < LAST_UNIT }
     requires load { IfSome recorded.load (λ script. list_all (fits schema.now) script ≡ true) }
     requires fitting { list_all (λ t. fits schema.now t.statement) recorded.traced ≡ true }
     requires units { list_all (λ t. is_unit recorded.units t.unit) recorded.traced ≡ true }
@@ -184,7 +184,7 @@ pub fn audit_every_line(
     statuses: bool,
 ) -> Result<AllAudited, AllocError>
     requires sound { IsSound schema.now }
-    requires few { recorded.units < 255 }
+    requires few { recorded.units < LAST_UNIT }
     requires load { IfSome recorded.load (λ script. list_all (fits schema.now) script ≡ true) }
     requires fitting { list_all (λ t. fits schema.now t.statement) recorded.traced ≡ true }
     requires units { list_all (λ t. is_unit recorded.units t.unit) recorded.traced ≡ true }

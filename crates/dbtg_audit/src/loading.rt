@@ -8,7 +8,7 @@ ghost use Rattle.dbtg_audit.specs.Inside.Audits.{IsLoaded};
 
 use dbtg_schema::{Row, Schema};
 use dbtg_step::WholeDatabase;
-use dbtg_unit::Statement;
+use dbtg_unit::{LAST_UNIT, Statement};
 use std::alloc::{AllocError, Global};
 
 // The statements of a unit's script, one after another.
@@ -37,7 +37,7 @@ fn opened_with<'a>(
     script: Row<Statement>,
 ) -> Result<WholeDatabase<'a>, AllocError>
     requires sound { IsSound schema.now }
-    requires few { units < 255 }
+    requires few { units < LAST_UNIT }
     requires fitting { list_all (fits schema.now) script ≡ true }
     ensures { IfOk result (λ database. IsLoaded schema.now capacity units (Option.Some script) database) }
 {
@@ -60,7 +60,7 @@ pub fn loaded<'a>(
     load: Option<Row<Statement>>,
 ) -> Result<WholeDatabase<'a>, AllocError>
     requires sound { IsSound schema.now }
-    requires few { units < 255 }
+    requires few { units < LAST_UNIT }
     requires fitting { MatchOption load (Unit {0}) (λ script. list_all (fits schema.now) script ≡ true) }
     ensures { IfOk result (λ database. IsLoaded schema.now capacity units load database) }
 {

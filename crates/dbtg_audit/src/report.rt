@@ -18,7 +18,7 @@ use dbtg_command::{Fault, Source, TextPlace, read_schema, read_trace, take_scrip
 use dbtg_schema::{Row, Schema};
 use dbtg_script::{image_text, units_text};
 use dbtg_step::Run;
-use dbtg_unit::{Entry, Statement};
+use dbtg_unit::{Entry, LAST_UNIT, Statement};
 use std::alloc::{AllocError, Global};
 
 /// How a trace is audited: the capacity, the units that it has, whether only statuses are compared, and whether every line that
@@ -140,7 +140,7 @@ fn verdict_on(
     options: AuditOptions,
 ) -> Result<Verdict, AllocError>
     requires sound { IsSound known.now }
-    requires few { recorded.units < 255 }
+    requires few { recorded.units < LAST_UNIT }
     requires load { IfSome recorded.load (λ script. list_all (fits known.now) script ≡ true) }
     requires fitting { list_all (λ t. fits known.now t.statement) recorded.traced ≡ true }
     requires units { list_all (λ t. is_unit recorded.units t.unit) recorded.traced ≡ true }
@@ -168,7 +168,7 @@ fn audit_known<S: Source>(
 ) -> Result<Verdict, Fault>
     requires read { ReadSchema (S.holds source.now) known.now }
     requires sound { IsSound known.now }
-    requires few { options.units < 255 }
+    requires few { options.units < LAST_UNIT }
     ensures done { IfOk result (λ said. AuditHeld (S.holds source.now) (S.count source.now) options said) }
     ensures refused { IfErr result (λ fault. ToldOfRecorded (S.holds source.now) (S.fails source.now) fault known.now options.units (S.count source.now)) }
 {
@@ -185,7 +185,7 @@ fn audit_known<S: Source>(
 /// What `audit` prints of the schema and the trace that a source gives, or the first fault. A second script of the source is made
 /// first, by a unit after those of the trace. With statuses only, keys and items are not compared.
 pub fn audit<S: Source>(alloc: Global, source: &S, options: AuditOptions) -> Result<Verdict, Fault>
-    requires few { options.units < 255 }
+    requires few { options.units < LAST_UNIT }
     ensures done { IfOk result (λ said. AuditHeld (S.holds source.now) (S.count source.now) options said) }
     ensures refused { IfErr result (λ fault. ToldOfAudit (S.holds source.now) (S.fails source.now) fault options.units (S.count source.now)) }
 {

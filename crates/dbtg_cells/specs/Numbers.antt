@@ -4,6 +4,7 @@ use Rattle.dbtg_schema.specs.Lookups.{some_and}
 use Rattle.dbtg_cells.specs.declared.key.Value.{Value}
 use Rattle.dbtg_cells.specs.declared.extent.Number.{Number}
 use Rattle.dbtg_cells.specs.Keys.{values_eq}
+use Rattle.dbtg_cells.specs.declared.limits.TheConstants.{LAST_GENERATION}
 
 -- the numbers whose entries pass the test, ascending, where the first entry is of number n
 abbrev pub numbers_from : ℕ → (Number → Bool) → List Number → List ℕ
@@ -20,7 +21,7 @@ is_used e = is_some e.calc
 
 -- no record has the number, and a generation is left
 abbrev pub is_free : Number → Bool
-is_free e = is_none e.calc && nat_lt e.last 255
+is_free e = is_none e.calc && nat_lt e.last LAST_GENERATION
 
 -- the record of the number has these CALC values
 abbrev pub has_values : List Value → Number → Bool

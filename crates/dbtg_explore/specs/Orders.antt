@@ -6,6 +6,7 @@ use Rattle.dbtg_schema.specs.Lists.{Lists}
 use Rattle.dbtg_schema.specs.Sound.{IsSound}
 use Rattle.dbtg_unit.specs.declared.statement.Statement.{Statement}
 use Rattle.dbtg_unit.specs.declared.unit.Entry.{Entry}
+use Rattle.dbtg_unit.specs.declared.limits.TheConstants.{LAST_UNIT}
 use Rattle.dbtg_step.specs.Machine.SequentialDatabase.{unit_at}
 use Rattle.dbtg_program.specs.declared.program.Program.{Program}
 use Rattle.dbtg_going.specs.Turns.{after_turns, comes, made, statement_due}
@@ -21,7 +22,7 @@ pub record Meeting : Type 0 where
 -- the schema is sound, and each unit has a number
 pub record IsMeeting (m : Meeting) : Type 0 where
   pub sound : IsSound m.schema
-  pub few : length m.programs ≤ 255
+  pub few : length m.programs ≤ LAST_UNIT
 
 -- the statement that is due in the program of unit u after a history. How many the unit has made does not matter here
 abbrev pub due_of : Meeting → List Entry → ℕ → Option Statement

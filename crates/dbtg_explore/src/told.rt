@@ -12,6 +12,7 @@ use dbtg_program::Program;
 use dbtg_schema::Schema;
 use dbtg_script::push_run;
 use dbtg_step::Run;
+use dbtg_unit::LAST_UNIT;
 use std::alloc::{AllocError, Global};
 
 /// What is printed of a run and its programs behind `--`, but that the units that have an area open stand in the order of their numbers.
@@ -23,7 +24,7 @@ pub fn told_text(
     run: &mut Run,
     reached: &[Reached],
 ) -> Result<Vec<u8>, AllocError>
-    requires { length programs.now ≤ 255 }
+    requires { length programs.now ≤ LAST_UNIT }
     ensures { IfOk result (λ text. text.items ≡ run_text schema.now [] run.old.image.records run.old.image.lists run.old.image.next (map (by_unit (range_with_len 1 (length programs.now))) run.old.image.usage) run.old.units ++ programs_text 1 programs.now reached.now) }
 {
     let units = programs.len() as u8;

@@ -7,7 +7,7 @@ ghost use Rattle.std.specs.Prelude.{◌≡◌, ◌≤◌, ◌++◌, IfOk, OnOk, 
 
 use crate::setting::Setting;
 use dbtg_going::{Around, programs_after};
-use dbtg_unit::{Entry, MOST_STATEMENTS};
+use dbtg_unit::{Entry, LAST_UNIT, MOST_STATEMENTS};
 use std::alloc::{AllocError, Global};
 
 // The turns in which the first program goes to its end, if there is one.
@@ -64,7 +64,7 @@ fn units_of(alloc: Global, history: &[Entry]) -> Result<Vec<u8>, AllocError>
 /// state that is made anew would have them all.
 pub fn begun_turns(alloc: Global, setting: &Setting) -> Result<Vec<u8>, AllocError>
     requires sound { IsSound setting.now.schema.now }
-    requires few { length setting.now.programs.now ≤ 255 }
+    requires few { length setting.now.programs.now ≤ LAST_UNIT }
     ensures { IfOk result (λ begun. Begins setting.now.schema.now setting.now.programs.now setting.now.told.now setting.now.asked begun.items) }
 {
     let asked = setting.asked;

@@ -19,6 +19,7 @@ use dbtg_outcomes::{Stop, Watch};
 use dbtg_replay::replay::check_count;
 use dbtg_running::{Printed, read_programs, turns_wanted};
 use dbtg_schema::{Row, Schema};
+use dbtg_unit::LAST_UNIT;
 use std::alloc::Global;
 
 // Everything that programs can come to, unless there are too many states.
@@ -43,7 +44,7 @@ fn explored<W: Watch>(
 // What is printed of programs that meet.
 fn explore_setting<W: Watch>(alloc: Global, watch: &W, setting: &Setting) -> Result<Printed, Fault>
     requires sound { IsSound setting.now.schema.now }
-    requires few { length setting.now.programs.now ≤ 255 }
+    requires few { length setting.now.programs.now ≤ LAST_UNIT }
     ensures done { IfOk result (IsExploration setting.now.schema.now setting.now.programs.now setting.now.told.now setting.now.asked) }
     ensures refused { IfErr result (GivesUp setting.now.schema.now setting.now.programs.now setting.now.told.now setting.now.asked) }
 {

@@ -16,6 +16,7 @@ use dbtg_going::{ProgramRun, Reached, push_end, push_programs, run_programs, run
 use dbtg_outcomes::{Told, as_numbers, named, none_before, push_shown};
 use dbtg_schema::Row;
 use dbtg_script::{push_number, turns_text};
+use dbtg_unit::LAST_UNIT;
 use std::alloc::{AllocError, Global};
 
 // The words of a line after a space, without the end of the line.
@@ -134,7 +135,7 @@ impl<'a> Setting<'a> {
     // What tells a run of the programs from others. In the image of the run the units that have an area open then stand in the order of
     // their numbers.
     fn told(&self, alloc: Global, given: &mut ProgramRun) -> Result<Told, AllocError>
-        requires few { length self.now.programs.now ≤ 255 }
+        requires few { length self.now.programs.now ≤ LAST_UNIT }
         ensures { IfOk result (λ told. told ≡ told_of self.now.schema.now self.now.programs.now given.old) }
     {
         let mut facts = named(alloc, false, self.programs.len() as u8, &given.run)?;
@@ -164,7 +165,7 @@ impl<'a> Setting<'a> {
         before: &mut Option<Row<Told>>,
         given: &mut ProgramRun,
     ) -> Result<(), AllocError>
-        requires few { length self.now.programs.now ≤ 255 }
+        requires few { length self.now.programs.now ≤ LAST_UNIT }
         ensures text { OnOk result (out.new.items ≡ out.old.items ++ shown_text self.now.schema.now self.now.programs.now before.old given.old) }
         ensures behind { OnOk result (before.new ≡ and_told self.now.schema.now self.now.programs.now before.old given.old) }
     {
@@ -185,7 +186,7 @@ impl<'a> Setting<'a> {
         turns: &[u8],
     ) -> Result<(), AllocError>
         requires sound { IsSound self.now.schema.now }
-        requires few { length self.now.programs.now ≤ 255 }
+        requires few { length self.now.programs.now ≤ LAST_UNIT }
         ensures { OnOk result ((given : ProgramRun) × IsRunOf self.now.schema.now self.now.asked.capacity self.now.programs.now (turns_of self.now.schema.now self.now.asked.capacity self.now.programs.now self.now.asked.around (Some turns.now)) given × (out.new.items ≡ out.old.items ++ shown_text self.now.schema.now self.now.programs.now before.old given) × (before.new ≡ and_told self.now.schema.now self.now.programs.now before.old given)) }
     {
         let mut given = run_programs(
@@ -211,7 +212,7 @@ impl<'a> Setting<'a> {
         order: &[u8],
     ) -> Result<(), AllocError>
         requires sound { IsSound self.now.schema.now }
-        requires few { length self.now.programs.now ≤ 255 }
+        requires few { length self.now.programs.now ≤ LAST_UNIT }
         ensures { OnOk result (IsShown self.now.schema.now self.now.programs.now self.now.told.now self.now.asked number order.now out.old.items out.new.items before.old before.new) }
     {
         let turns = joined(alloc, self.told, order)?;
@@ -222,7 +223,7 @@ impl<'a> Setting<'a> {
     // The texts of all results.
     fn results_text(&self, alloc: Global, results: &[Row<u8>]) -> Result<Vec<u8>, AllocError>
         requires sound { IsSound self.now.schema.now }
-        requires few { length self.now.programs.now ≤ 255 }
+        requires few { length self.now.programs.now ≤ LAST_UNIT }
         ensures { IfOk result (λ text. (after : Option (List GivenTold)) × AreResultTexts self.now.schema.now self.now.programs.now self.now.told.now self.now.asked (none_before self.now.asked.brief) after 1 results.now text.items) }
     {
         let mut out = Vec::new(alloc);
@@ -238,7 +239,7 @@ impl<'a> Setting<'a> {
     /// The text of everything that the programs can come to.
     pub fn exploration_text(&self, alloc: Global, all: &Explored) -> Result<Vec<u8>, AllocError>
         requires sound { IsSound self.now.schema.now }
-        requires few { length self.now.programs.now ≤ 255 }
+        requires few { length self.now.programs.now ≤ LAST_UNIT }
         ensures { IfOk result (λ out. AreTold self.now.schema.now self.now.programs.now self.now.told.now self.now.asked all.now out.items) }
     {
         let results = self.results_text(alloc, all.results.as_slice())?;

@@ -13,7 +13,7 @@ use crate::member::{Going, Member, Reached};
 use dbtg_program::Program;
 use dbtg_schema::{Row, Schema};
 use dbtg_step::{Run, WholeDatabase};
-use dbtg_unit::{MOST_STATEMENTS, Statement};
+use dbtg_unit::{LAST_UNIT, MOST_STATEMENTS, Statement};
 use std::alloc::{AllocError, Global};
 
 /// The result of a run of programs: the run, whose moves have no results, and how far each program is.
@@ -102,7 +102,7 @@ impl<'a> Programs<'a> {
         members: &mut [Member],
         unit: u8,
     ) -> Result<(), AllocError>
-        requires few { length self.now.list.now ≤ 255 }
+        requires few { length self.now.list.now ≤ LAST_UNIT }
         requires under_way { IsUnderWay self.now.schema.now self.now.list.now database.old members.old }
         ensures { OnOk result (HaveTurned self.now.schema.now self.now.list.now database.old (filter (is_heard self.now.around (length self.now.list.now)) (unit ∷ [])) database.new members.new) }
     {
@@ -119,7 +119,7 @@ impl<'a> Programs<'a> {
         members: &mut [Member],
         turns: &[u8],
     ) -> Result<(), AllocError>
-        requires few { length self.now.list.now ≤ 255 }
+        requires few { length self.now.list.now ≤ LAST_UNIT }
         requires under_way { IsUnderWay self.now.schema.now self.now.list.now database.old members.old }
         ensures { OnOk result (HaveTurned self.now.schema.now self.now.list.now database.old (filter (is_heard self.now.around (length self.now.list.now)) turns.now) database.new members.new) }
     {
@@ -169,7 +169,7 @@ impl<'a> Programs<'a> {
         database: &mut WholeDatabase<'_>,
         members: &mut [Member],
     ) -> Result<(), AllocError>
-        requires few { length self.now.list.now ≤ 255 }
+        requires few { length self.now.list.now ≤ LAST_UNIT }
         requires under_way { IsUnderWay self.now.schema.now self.now.list.now database.old members.old }
         ensures { OnOk result (HaveTurned self.now.schema.now self.now.list.now database.old (first_turns self.now.around (length self.now.list.now)) database.new members.new) }
     {
@@ -187,7 +187,7 @@ impl<'a> Programs<'a> {
         members: &mut [Member],
         turns: Option<&[u8]>,
     ) -> Result<(), AllocError>
-        requires few { length self.now.list.now ≤ 255 }
+        requires few { length self.now.list.now ≤ LAST_UNIT }
         requires under_way { IsUnderWay self.now.schema.now self.now.list.now database.old members.old }
         ensures { OnOk result (HaveTurned self.now.schema.now self.now.list.now database.old (other_turns self.now.around (length self.now.list.now) (option_map (λ t. t.now) turns.entry)) database.new members.new) }
     {
@@ -211,7 +211,7 @@ impl<'a> Programs<'a> {
 
     // Can no unit except the last make a statement?
     fn have_ended(&self, members: &[Member]) -> bool
-        requires few { length self.now.list.now ≤ 255 }
+        requires few { length self.now.list.now ≤ LAST_UNIT }
         requires count { length members.now ≡ length self.now.list.now }
         ensures { (making : SaidMaking) → IsUnderWay self.now.schema.now self.now.list.now making members.now → result ≡ have_ended self.now.schema.now self.now.list.now making.history }
     {
@@ -230,7 +230,7 @@ impl<'a> Programs<'a> {
         database: &mut WholeDatabase<'_>,
         members: &mut [Member],
     ) -> Result<(), AllocError>
-        requires few { length self.now.list.now ≤ 255 }
+        requires few { length self.now.list.now ≤ LAST_UNIT }
         requires under_way { IsUnderWay self.now.schema.now self.now.list.now database.old members.old }
         ensures { OnOk result (HaveTurned self.now.schema.now self.now.list.now database.old (last_turns self.now.schema.now self.now.list.now self.now.around database.old.history) database.new members.new) }
     {
@@ -247,7 +247,7 @@ impl<'a> Programs<'a> {
         members: &mut [Member],
         turns: Option<&[u8]>,
     ) -> Result<(), AllocError>
-        requires few { length self.now.list.now ≤ 255 }
+        requires few { length self.now.list.now ≤ LAST_UNIT }
         requires under_way { IsUnderWay self.now.schema.now self.now.list.now database.old members.old }
         requires opening { database.old.history ≡ [] }
         ensures { OnOk result (HaveTurned self.now.schema.now self.now.list.now database.old (turns_of self.now.schema.now database.old.capacity self.now.list.now self.now.around (option_map (λ t. t.now) turns.entry)) database.new members.new) }
@@ -264,7 +264,7 @@ impl<'a> Programs<'a> {
         members: &mut Vec<Member>,
         turns: &[u8],
     ) -> Result<(), AllocError>
-        requires few { length self.now.list.now ≤ 255 }
+        requires few { length self.now.list.now ≤ LAST_UNIT }
         requires under_way { IsUnderWay self.now.schema.now self.now.list.now database.old members.old.items }
         ensures { OnOk result (HaveTurned self.now.schema.now self.now.list.now database.old (filter (is_heard self.now.around (length self.now.list.now)) turns.now) database.new members.new.items) }
     {
@@ -278,7 +278,7 @@ impl<'a> Programs<'a> {
         members: &mut Vec<Member>,
         turns: Option<&[u8]>,
     ) -> Result<(), AllocError>
-        requires few { length self.now.list.now ≤ 255 }
+        requires few { length self.now.list.now ≤ LAST_UNIT }
         requires under_way { IsUnderWay self.now.schema.now self.now.list.now database.old members.old.items }
         requires opening { database.old.history ≡ [] }
         ensures { OnOk result (HaveTurned self.now.schema.now self.now.list.now database.old (turns_of self.now.schema.now database.old.capacity self.now.list.now self.now.around (option_map (λ t. t.now) turns.entry)) database.new members.new.items) }
@@ -332,7 +332,7 @@ pub fn run_programs(
     turns: Option<&[u8]>,
 ) -> Result<ProgramRun, AllocError>
     requires sound { IsSound schema.now }
-    requires units { length programs.now ≤ 255 }
+    requires units { length programs.now ≤ LAST_UNIT }
     ensures { IfOk result (λ given. IsRunOf schema.now capacity programs.now (turns_of schema.now capacity programs.now around (option_map (λ t. t.now) turns.entry)) given) }
 {
     let together = Programs {
@@ -391,7 +391,7 @@ pub fn programs_after<'a>(
     turns: &[u8],
 ) -> Result<(WholeDatabase<'a>, Vec<Going>), AllocError>
     requires sound { IsSound schema.now }
-    requires units { length programs.now ≤ 255 }
+    requires units { length programs.now ≤ LAST_UNIT }
     ensures { IfOk result (λ after. AreAfter schema.now capacity programs.now turns.now after.0 after.1.items) }
 {
     let together = Programs {

@@ -7,6 +7,7 @@ use Rattle.dbtg_unit.specs.declared.statement.Statement.{Statement}
 use Rattle.dbtg_unit.specs.Database.Statements.Codes.{status_code}
 use Rattle.dbtg_unit.specs.Database.Statements.Effect.{Outcome}
 use Rattle.dbtg_unit.specs.Database.Laws.Replay.{outcome_of}
+use Rattle.dbtg_unit.specs.declared.limits.TheConstants.{LAST_UNIT}
 use Rattle.dbtg_step.specs.Laws.{scripts_fit}
 use Rattle.dbtg_outcomes.specs.declared.answered.Answered.{Answered}
 use Rattle.dbtg_outcomes.specs.declared.outcomes.OneResult.{OneResult}
@@ -19,7 +20,7 @@ use Rattle.dbtg_outcomes.specs.Results.{Meeting, result_text, state_key, state_o
 -- scripts of a sound schema, few enough that each unit has a number
 pub record IsMeeting (m : Meeting) : Type 0 where
   pub sound : IsSound m.schema
-  pub few : length m.scripts ≤ 255
+  pub few : length m.scripts ≤ LAST_UNIT
   pub fit : scripts_fit m.schema m.scripts ≡ true
 
 -- a group of orders as a result: the turns of the first, and how many they are

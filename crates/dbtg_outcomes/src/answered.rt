@@ -4,7 +4,7 @@ ghost use Rattle.dbtg_outcomes.specs.Inside.Statuses.{AreAllAnswered, AreAnswere
 
 use crate::notes::Note;
 use dbtg_schema::Row;
-use dbtg_unit::Statement;
+use dbtg_unit::{LAST_UNIT, Statement};
 use std::alloc::{AllocError, Global};
 
 /// A statement by its unit and its place in the unit's script, both from 1, with the statuses that it can have, in rising order.
@@ -108,7 +108,7 @@ pub fn answered_by(
     scripts: &[Row<Statement>],
     notes: &[Note],
 ) -> Result<Vec<Answered>, AllocError>
-    requires { length scripts.now ≤ 255 }
+    requires { length scripts.now ≤ LAST_UNIT }
     ensures { IfOk result (λ all. AreAllAnswered notes.now scripts.now all.items) }
 {
     let mut all = Vec::new(alloc);

@@ -21,7 +21,7 @@ use dbtg_schema::{Area, RecordType, Row, Schema, SetType};
 use dbtg_script::{image_text, push_answer, push_unit};
 use dbtg_step::Core;
 use dbtg_timeline::{Event, Mark, area_name, letter, push_cell, watch_move};
-use dbtg_unit::{Entry, Image, Move, Statement};
+use dbtg_unit::{Entry, Image, LAST_UNIT, Move, Statement};
 use itoa::Buffer;
 use std::alloc::{AllocError, Global};
 
@@ -300,7 +300,7 @@ fn push_whole_run(
 ) -> Result<(), AllocError>
     requires sound { IsSound known.now.schema.now }
     requires units { length statements ≡ known.now.units }
-    requires few { length statements ≤ 255 }
+    requires few { length statements ≤ LAST_UNIT }
     requires fit { scripts_fit known.now.schema.now statements ≡ true }
     ensures { OnOk result (out.new.items ≡ out.old.items ++ run_rows (opening_core known.now.schema.now capacity statements) moves.now) }
 {
@@ -321,7 +321,7 @@ pub fn page_text(
     moves: &[Move],
 ) -> Result<Vec<u8>, AllocError>
     requires sound { IsSound schema.now }
-    requires units { length statements ≤ 255 }
+    requires units { length statements ≤ LAST_UNIT }
     requires fit { scripts_fit schema.now statements ≡ true }
     ensures { IfOk result (λ text. text.items ≡ page_text schema.now capacity statements told.now.scripts.now told.now.causes.now moves.now) }
 {

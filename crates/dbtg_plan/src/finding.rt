@@ -21,7 +21,7 @@ use crate::joining::current_owner;
 use crate::missing::{missing, missing_ring, missing_slot};
 use crate::outcomes::{done, refusal};
 use dbtg_cells::{CellName, DbKey};
-use dbtg_schema::Schema;
+use dbtg_schema::{MOST_SETS, Schema};
 use dbtg_unit::{
     Answer, Cause, Form, Held, Owners, Prepared, Status, Suppress, Unit, UnitEdit, refused, stored,
 };
@@ -119,7 +119,7 @@ pub(crate) fn next_cell_of_find(
 
 // The owners of a record that is held, by set.
 fn owners_of(held: &Held, key: &DbKey) -> Owners
-    ensures { result ≡ take 16 (owners_in held.now key.now) }
+    ensures { result ≡ take MOST_SETS (owners_in held.now key.now) }
 {
     match stored(held, key) {
         Some(stored) => Owners::of(stored.owners.as_slice()),

@@ -1,4 +1,3 @@
-mod FirstNumber
 mod FirstElement
 mod FoundInLists
 mod ImageView

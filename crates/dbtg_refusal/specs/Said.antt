@@ -18,11 +18,11 @@ said_with schema capacity state e (Refused why) =
 abbrev pub said_in : Lists → ℕ → State → Entry → List ℕ
 said_in schema capacity state e = said_with schema capacity state e e.answer.status
 
--- of each of these entries, in the state before it; the first is made in this one
+-- for these entries, each in the state before it; the first is made in this one
 abbrev pub said_from : Lists → ℕ → State → List Entry → List (List ℕ)
 said_from schema capacity state [] = []
 said_from schema capacity state (e ∷ es) = said_in schema capacity state e ∷ said_from schema capacity (after_entry schema capacity state e) es
 
--- of each entry of a history of so many units
+-- for the entries of a history
 abbrev pub said_of_history : Lists → ℕ → ℕ → List Entry → List (List ℕ)
 said_of_history schema capacity units = said_from schema capacity (opening_state schema units)

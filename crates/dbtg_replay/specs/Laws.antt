@@ -5,6 +5,7 @@ use Rattle.dbtg_schema.specs.Sound.{IsSound}
 use Rattle.dbtg_schema.specs.Lists.{Lists}
 use Rattle.dbtg_unit.specs.declared.unit.Entry.{Entry}
 use Rattle.dbtg_unit.specs.Database.Laws.Replay.{IsHistoryOf}
+use Rattle.dbtg_unit.specs.declared.limits.TheConstants.{LAST_UNIT}
 use Rattle.dbtg_trace.specs.Laws.{IsReadBack}
 use Rattle.dbtg_trace.specs.Printing.{trace_text}
 use Rattle.dbtg_command.specs.declared.order.Order.{Order}
@@ -21,5 +22,5 @@ pub record IsTraced (schema : Lists) (capacity : ℕ) (scripts : List (List ℕ)
 abbrev pub PrintedReplayIsTraced : Type 0
 PrintedReplayIsTraced =
     (first : Bool) (text : List ℕ) (scripts : List (List ℕ)) (order : Order (List ℕ)) (capacity : ℕ) (out : List ℕ)
-    → IsSound (schema_in text) → IsNamed (schema_in text) → length scripts ≤ 255 → capacity ≤ 999999
+    → IsSound (schema_in text) → IsNamed (schema_in text) → length scripts ≤ LAST_UNIT → capacity ≤ 999999
     → (shown : IsShownReplay first Trace text scripts order capacity out) → IsTraced (schema_in text) capacity scripts shown.run.given.history

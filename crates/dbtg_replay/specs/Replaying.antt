@@ -7,6 +7,7 @@ use Rattle.dbtg_schema.specs.Sound.{IsSound}
 use Rattle.dbtg_unit.specs.declared.statement.Statement.{Statement}
 use Rattle.dbtg_step.specs.declared.results.Run.{Run}
 use Rattle.dbtg_unit.specs.declared.moves.Move.{Move}
+use Rattle.dbtg_unit.specs.declared.limits.TheConstants.{LAST_UNIT}
 use Rattle.dbtg_step.specs.Machine.Headline.{RunIs}
 use Rattle.dbtg_step.specs.Core.Audit.{MayBeHistory}
 use Rattle.dbtg_step.specs.Core.Serial.{SerialRunIs}
@@ -64,7 +65,7 @@ shown_text lists Trace texts given = text_behind (trace_text lists texts given.h
 
 -- what is explained is made again, so it has to be what can be made
 abbrev pub CanShow : Lists → AnswerForm → Run → Type 0
-CanShow lists (Explained capacity) given = IsSound lists × (length given.units ≤ 255) × MayBeHistory lists (length given.units) given.history
+CanShow lists (Explained capacity) given = IsSound lists × (length given.units ≤ LAST_UNIT) × MayBeHistory lists (length given.units) given.history
 CanShow lists form given = ⊤
 
 -- with moves, the line of their results comes before it

@@ -9,7 +9,7 @@ use dbtg_command::copy_scripts;
 use dbtg_refusal::said_of_history;
 use dbtg_schema::{Row, Schema};
 use dbtg_step::{Run, run};
-use dbtg_unit::{Move, Statement};
+use dbtg_unit::{LAST_UNIT, Move, Statement};
 use std::alloc::{AllocError, Global};
 
 // The same of a run that was made.
@@ -22,7 +22,7 @@ fn said_of_given(
     given: &Run,
 ) -> Result<Vec<Row<u8>>, AllocError>
     requires sound { IsSound schema.now }
-    requires units { length statements.now ≤ 255 }
+    requires units { length statements.now ≤ LAST_UNIT }
     requires fit { scripts_fit schema.now statements.now ≡ true }
     requires is_run { RunIs schema.now capacity statements.now moves.now given.now }
     ensures { IfOk result (λ said. said.items ≡ said_of_run schema.now capacity statements.now moves.now) }
@@ -41,7 +41,7 @@ pub fn said_of_run(
     moves: &[Move],
 ) -> Result<Vec<Row<u8>>, AllocError>
     requires sound { IsSound schema.now }
-    requires units { length statements.now ≤ 255 }
+    requires units { length statements.now ≤ LAST_UNIT }
     requires fit { scripts_fit schema.now statements.now ≡ true }
     ensures { IfOk result (λ said. said.items ≡ said_of_run schema.now capacity statements.now moves.now) }
 {

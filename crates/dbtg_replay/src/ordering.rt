@@ -8,7 +8,7 @@ ghost use Rattle.dbtg_replay.specs.Ordering.{AreFirstMoves, StandFor, first_turn
 use dbtg_command::copy_scripts;
 use dbtg_schema::{Row, Schema};
 use dbtg_step::run_turns;
-use dbtg_unit::{Entry, Move, Statement};
+use dbtg_unit::{Entry, LAST_UNIT, Move, Statement};
 use std::alloc::{AllocError, Global};
 
 /// The moves of a run, and how many of them, at the beginning, make the script that is made first.
@@ -36,7 +36,7 @@ fn push_turns(turns: &mut Vec<u8>, unit: u8, count: usize) -> Result<(), AllocEr
 
 /// The turns by which one script is made after the other.
 pub fn serial_turns(alloc: Global, scripts: &[Row<Statement>]) -> Result<Vec<u8>, AllocError>
-    requires { length scripts.now ≤ 255 }
+    requires { length scripts.now ≤ LAST_UNIT }
     ensures { IfOk result (λ turns. turns.items ≡ serial_turns 1 scripts.now) }
 {
     let mut turns = Vec::new(alloc);
@@ -61,7 +61,7 @@ pub fn first_turns(
     first: bool,
     scripts: &[Row<Statement>],
 ) -> Result<Vec<u8>, AllocError>
-    requires { length scripts.now ≤ 255 }
+    requires { length scripts.now ≤ LAST_UNIT }
     ensures { IfOk result (λ turns. turns.items ≡ first_turns first scripts.now) }
 {
     let mut turns = Vec::new(alloc);
@@ -81,7 +81,7 @@ pub fn turns_behind_first(
     scripts: &[Row<Statement>],
     turns: &[u8],
 ) -> Result<Vec<u8>, AllocError>
-    requires { length scripts.now ≤ 255 }
+    requires { length scripts.now ≤ LAST_UNIT }
     ensures { IfOk result (λ all. all.items ≡ first_turns first scripts.now ++ turns.now) }
 {
     let mut all = first_turns(alloc, first, scripts)?;
@@ -98,7 +98,7 @@ pub fn moves_of_turns(
     turns: &[u8],
 ) -> Result<Row<Move>, AllocError>
     requires sound { IsSound schema.now }
-    requires units { length scripts ≤ 255 }
+    requires units { length scripts ≤ LAST_UNIT }
     requires fit { scripts_fit schema.now scripts ≡ true }
     ensures { IfOk result (λ moves. StandFor schema.now capacity scripts turns.now moves) }
 {
@@ -119,7 +119,7 @@ pub fn moves_behind_first(
     moves: Vec<Move>,
 ) -> Result<AllMoves, AllocError>
     requires sound { IsSound schema.now }
-    requires units { length scripts.now ≤ 255 }
+    requires units { length scripts.now ≤ LAST_UNIT }
     requires fit { scripts_fit schema.now scripts.now ≡ true }
     ensures { IfOk result (λ all. (before : List Move) × AreFirstMoves first schema.now capacity scripts.now before × (all.moves.items ≡ before ++ moves.items) × (all.before ≡ length before)) }
 {

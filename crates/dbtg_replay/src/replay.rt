@@ -21,7 +21,7 @@ use dbtg_schema::{Row, Schema};
 use dbtg_script::{Beside, moves_text, push_echoed_run, push_run};
 use dbtg_step::{Run, run, run_serial, run_turns};
 use dbtg_trace::push_traced_run;
-use dbtg_unit::Statement;
+use dbtg_unit::{LAST_UNIT, Statement};
 use std::alloc::{AllocError, Global};
 
 /// What comes before the image: the answers, the answers with the statement of each before it, or a trace.
@@ -154,7 +154,7 @@ fn serial_text(
     shown: Shown,
 ) -> Result<Vec<u8>, AllocError>
     requires sound { IsSound schema.now }
-    requires units { length scripts ≤ 255 }
+    requires units { length scripts ≤ LAST_UNIT }
     requires fit { scripts_fit schema.now scripts ≡ true }
     ensures { IfOk result (λ out. IsPrinted (SerialRunIs schema.now capacity scripts) (shown_text schema.now shown.entry.form shown.entry.texts.now) out.items) }
 {
@@ -174,7 +174,7 @@ fn moved_text(
     shown: Shown,
 ) -> Result<Vec<u8>, AllocError>
     requires sound { IsSound schema.now }
-    requires units { length scripts ≤ 255 }
+    requires units { length scripts ≤ LAST_UNIT }
     requires fit { scripts_fit schema.now scripts ≡ true }
     ensures { IfOk result (λ out. IsPrinted (RunIs schema.now capacity scripts all.now.moves.items) (λ given. moves_text (drop all.now.before given.results) ++ shown_text schema.now shown.entry.form shown.entry.texts.now given) out.items) }
 {
@@ -194,7 +194,7 @@ fn turned_text(
     shown: Shown,
 ) -> Result<Vec<u8>, AllocError>
     requires sound { IsSound schema.now }
-    requires units { length scripts ≤ 255 }
+    requires units { length scripts ≤ LAST_UNIT }
     requires fit { scripts_fit schema.now scripts ≡ true }
     ensures { IfOk result (λ out. IsPrinted (RunByTurnsIs schema.now capacity scripts turns.now) (shown_text schema.now shown.entry.form shown.entry.texts.now) out.items) }
 {
@@ -214,7 +214,7 @@ fn in_turn_text(
     shown: Shown,
 ) -> Result<Vec<u8>, AllocError>
     requires sound { IsSound schema.now }
-    requires units { length scripts ≤ 255 }
+    requires units { length scripts ≤ LAST_UNIT }
     requires fit { scripts_fit schema.now scripts ≡ true }
     ensures { IfOk result (λ out. IsPrinted (InTurnIs first schema.now capacity scripts) (shown_text schema.now shown.entry.form shown.entry.texts.now) out.items) }
 {

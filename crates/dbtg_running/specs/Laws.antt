@@ -11,6 +11,7 @@ use Rattle.dbtg_script.specs.Lines.{statement_lines}
 use Rattle.dbtg_trace.specs.Laws.{IsReadBack}
 use Rattle.dbtg_trace.specs.Printing.{trace_text}
 use Rattle.dbtg_unit.specs.declared.unit.Entry.{Entry}
+use Rattle.dbtg_unit.specs.declared.limits.TheConstants.{LAST_UNIT}
 use Rattle.dbtg_running.specs.Echoing.{scripts_made}
 use Rattle.dbtg_running.specs.Reading.{AllAccepted}
 
@@ -22,11 +23,11 @@ scripts_of schema texts history = scripts_made schema true 1 texts history
 abbrev pub AreShort : List (List ℕ) → Type 0
 AreShort = AllByRecursion (λ text. AllByRecursion (λ line. length line ≤ 1000) (statement_lines text))
 
--- of each run of accepted programs, by any turns, the trace is accepted, and says each entry of its history in full, where it is within
--- the limits of traces
+-- the trace of a run of accepted programs, by any turns, is accepted and says each entry of the history in full, if it is within the
+-- limits of traces
 abbrev pub PrintedRunIsReadBack : Type 0
 PrintedRunIsReadBack =
-    (schema : Lists) → IsSound schema → IsNamed schema → (capacity : ℕ) → capacity ≤ 999999 → (texts : List (List ℕ)) → length texts ≤ 255 → AllAccepted schema texts
+    (schema : Lists) → IsSound schema → IsNamed schema → (capacity : ℕ) → capacity ≤ 999999 → (texts : List (List ℕ)) → length texts ≤ LAST_UNIT → AllAccepted schema texts
     → (turns : List ℕ) (given : ProgramRun) → IsRunOf schema capacity (map (program schema) texts) turns given
     → AreShort (scripts_of schema texts given.run.history) → length given.run.history ≤ 524280 → length (trace_text schema (scripts_of schema texts given.run.history) given.run.history) ≤ 67108864
     → IsReadBack schema (scripts_of schema texts given.run.history) given.run.history

@@ -17,6 +17,7 @@ use dbtg_going::{Around, ProgramRun, Reached, Standing, push_programs, run_progr
 use dbtg_program::{End, Program};
 use dbtg_replay::replay::{AnswerForm, Shown, check_count, push_given};
 use dbtg_schema::{Row, Schema};
+use dbtg_unit::LAST_UNIT;
 use std::alloc::{AllocError, Global};
 
 /// How programs are run, and what is printed.
@@ -75,7 +76,7 @@ fn text_with_statements(
     form: AnswerForm,
     given: &ProgramRun,
 ) -> Result<Vec<u8>, AllocError>
-    requires few { length programs.now.texts.items ≤ 255 }
+    requires few { length programs.now.texts.items ≤ LAST_UNIT }
     requires are { programs.now.list.items ≡ map (program schema.now) programs.now.texts.items }
     ensures { IfOk result (λ out. out.items ≡ said_text schema.now form programs.now.texts.items given.now) }
 {
@@ -101,7 +102,7 @@ pub fn print_run(
     form: AnswerForm,
     given: &ProgramRun,
 ) -> Result<Printed, AllocError>
-    requires few { length programs.now.texts.items ≤ 255 }
+    requires few { length programs.now.texts.items ≤ LAST_UNIT }
     requires are { programs.now.list.items ≡ map (program schema.now) programs.now.texts.items }
     ensures text { IfOk result (λ printed. printed.text.items ≡ said_text schema.now form programs.now.texts.items given.now) }
     ensures failed { IfOk result (λ printed. printed.failed ≡ list_any (λ r. failed r.standing) given.now.programs) }
@@ -137,7 +138,7 @@ fn run_wanted(
     options: RunOptions,
 ) -> Result<ProgramRun, AllocError>
     requires sound { IsSound schema.now }
-    requires units { length programs.now ≤ 255 }
+    requires units { length programs.now ≤ LAST_UNIT }
     ensures { IfOk result (λ given. IsRunOf schema.now options.capacity programs.now (turns_of schema.now options.capacity programs.now options.around turns.now) given) }
 {
     let RunOptions {

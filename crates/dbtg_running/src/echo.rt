@@ -12,7 +12,7 @@ ghost use Rattle.std.specs.Prelude.{◌≡◌, ◌≤◌, ◌++◌, ◌∷◌, [
 use dbtg_program::{Due, Program, Sentence, State, Word, next, push_said_words};
 use dbtg_schema::{Row, Schema};
 use dbtg_script::Lines;
-use dbtg_unit::Entry;
+use dbtg_unit::{Entry, LAST_UNIT};
 use std::alloc::{AllocError, Global};
 
 fn lines_of<'a>(alloc: Global, text: &'a [u8]) -> Result<Vec<&'a [u8]>, AllocError>
@@ -182,7 +182,7 @@ pub fn scripts_made(
     texts: &[Row<u8>],
     history: &[Entry],
 ) -> Result<Vec<Row<u8>>, AllocError>
-    requires few { length texts.now ≤ 255 }
+    requires few { length texts.now ≤ LAST_UNIT }
     requires are { programs.now ≡ map (program schema.now) texts.now }
     ensures { IfOk result (λ made. made.items ≡ scripts_made schema.now values 1 texts.now history.now) }
 {

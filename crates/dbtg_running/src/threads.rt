@@ -16,6 +16,7 @@ use dbtg_replay::replay::check_count;
 use dbtg_schema::Schema;
 use dbtg_script::turns_text;
 use dbtg_threading::{Lineup, OnThreads, run_on_threads};
+use dbtg_unit::LAST_UNIT;
 use std::alloc::{AllocError, Global};
 use std::sync::Wait;
 use std::thread::Threads;
@@ -35,7 +36,7 @@ fn print_audited(
     options: RunOptions,
     on: &OnThreads,
 ) -> Result<PrintedOnThreads, AllocError>
-    requires few { length programs.now.texts.items ≤ 255 }
+    requires few { length programs.now.texts.items ≤ LAST_UNIT }
     requires are { programs.now.list.items ≡ map (program schema.now) programs.now.texts.items }
     ensures { IfOk result (IsPrintedOf schema.now options programs.now.texts.items on.now.turns.items on.now.given) }
 {

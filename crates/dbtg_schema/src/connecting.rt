@@ -5,16 +5,17 @@ ghost use Rattle.dbtg_schema.specs.Inside.Connecting.{connects_in, AreConnecting
 ghost use Rattle.dbtg_schema.specs.Erasing.{marked};
 
 use crate::erasing::is_marked;
+use crate::limits::MOST_SETS;
 use crate::numbers::{RecordNo, SetNo};
 use crate::row::Row;
 use crate::schema::Schema;
 use std::alloc::{AllocError, Global};
 use std::marker::Model;
 
-/// Some of the sets of a schema. Contracts see a mark for each of the sixteen that it can have.
+/// Some of the sets of a schema. Contracts see a mark for each that it can have.
 #[derive(Clone, Copy, Debug, PartialEq, Eq)]
 pub struct SetMarks {
-    marks: [bool; 16],
+    marks: [bool; MOST_SETS],
 }
 
 impl Model for SetMarks {
@@ -51,8 +52,8 @@ fn sets_connecting(schema: &Schema, rtype: RecordNo) -> SetMarks
     ensures { AreConnecting schema.now rtype result }
 {
     schema.is_well_formed();
-    let mut marks = [false; 16];
-    for s in 0..16u8 {
+    let mut marks = [false; MOST_SETS];
+    for s in 0..MOST_SETS as u8 {
         marks[s as usize] = connects_in(schema, SetNo::new(s), rtype);
     }
     SetMarks { marks }

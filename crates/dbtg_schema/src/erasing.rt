@@ -89,12 +89,12 @@ fn is_area_or_home(schema: &Schema, sets: u8, rtype: RecordNo, area: AreaNo) -> 
 }
 
 /// Marks the member types to which this type leads.
-fn leads_from(schema: &Schema, sets: u8, types: u8, owner: RecordNo) -> [bool; 16]
+fn leads_from(schema: &Schema, sets: u8, types: u8, owner: RecordNo) -> [bool; MOST_RECORD_TYPES]
     requires sets { sets ≡ length schema.now.sets }
     requires few { types ≤ MOST_RECORD_TYPES }
     ensures { (y : ℕ) → y < types → marked result y ≡ leads_to schema.now owner y }
 {
-    let mut members = [false; 16];
+    let mut members = [false; MOST_RECORD_TYPES];
     for y in 0..types {
         members[y as usize] = leads(schema, sets, owner, RecordNo::new(y));
     }
@@ -102,12 +102,12 @@ fn leads_from(schema: &Schema, sets: u8, types: u8, owner: RecordNo) -> [bool; 1
 }
 
 /// Marks the areas that this type touches.
-fn touched_by(schema: &Schema, sets: u8, rtype: RecordNo) -> [bool; 16]
+fn touched_by(schema: &Schema, sets: u8, rtype: RecordNo) -> [bool; MOST_RECORD_TYPES]
     requires { sets ≡ length schema.now.sets }
     ensures { (a : ℕ) → a < MOST_AREAS → marked result a ≡ touches schema.now rtype a }
 {
-    let mut areas = [false; 16];
-    for a in 0..8u8 {
+    let mut areas = [false; MOST_RECORD_TYPES];
+    for a in 0..MOST_AREAS as u8 {
         areas[a as usize] = is_area_or_home(schema, sets, rtype, AreaNo::new(a));
     }
     areas
@@ -117,9 +117,9 @@ fn touched_by(schema: &Schema, sets: u8, rtype: RecordNo) -> [bool; 16]
 #[derive(Clone, Copy)]
 struct Ways {
     /// The types to which it leads.
-    leads: [[bool; 16]; 16],
+    leads: [[bool; MOST_RECORD_TYPES]; MOST_RECORD_TYPES],
     /// The areas that it touches.
-    touched: [[bool; 16]; 16],
+    touched: [[bool; MOST_RECORD_TYPES]; MOST_RECORD_TYPES],
 }
 
 /// The rows of each type.
@@ -128,8 +128,8 @@ fn ways_of(schema: &Schema) -> Ways
 {
     let sets = schema.sets().len() as u8;
     let types = schema.types().len() as u8;
-    let mut leads = [[false; 16]; 16];
-    let mut touched = [[false; 16]; 16];
+    let mut leads = [[false; MOST_RECORD_TYPES]; MOST_RECORD_TYPES];
+    let mut touched = [[false; MOST_RECORD_TYPES]; MOST_RECORD_TYPES];
     for t in 0..types {
         leads[t as usize] = leads_from(schema, sets, types, RecordNo::new(t));
         touched[t as usize] = touched_by(schema, sets, RecordNo::new(t));
@@ -138,7 +138,7 @@ fn ways_of(schema: &Schema) -> Ways
 }
 
 /// Does this row of the table have this mark?
-fn marked_in(table: &[[bool; 16]], row: u8, number: u8) -> bool
+fn marked_in(table: &[[bool; MOST_RECORD_TYPES]], row: u8, number: u8) -> bool
     ensures { result ≡ marked_in table.now row number }
 {
     match table.get(row as usize) {
@@ -148,7 +148,7 @@ fn marked_in(table: &[[bool; 16]], row: u8, number: u8) -> bool
 }
 
 /// Is this row marked, and does it have this mark?
-fn is_given_by(table: &[[bool; 16]], marks: &[bool], row: u8, number: u8) -> bool
+fn is_given_by(table: &[[bool; MOST_RECORD_TYPES]], marks: &[bool], row: u8, number: u8) -> bool
     ensures { result ≡ (marked marks.now row && marked_in table.now row number) }
 {
     is_marked(marks, row) && marked_in(table, row, number)
@@ -156,18 +156,23 @@ fn is_given_by(table: &[[bool; 16]], marks: &[bool], row: u8, number: u8) -> boo
 
 /// Does a marked row, among the first `rows` of the table, have this mark?
 #[tactic(auto, unfolding(crate::specs::Inside::Erasing::is_given))]
-fn is_given(table: &[[bool; 16]], rows: u8, marks: &[bool], number: u8) -> bool
+fn is_given(table: &[[bool; MOST_RECORD_TYPES]], rows: u8, marks: &[bool], number: u8) -> bool
     ensures { result ≡ is_given table.now rows marks.now number }
 {
     (0..rows).any(|row| is_given_by(table, marks, row, number))
 }
 
 /// The first type, and all types to which a marked type leads.
-fn one_step(leads: &[[bool; 16]], types: u8, marks: &[bool], start: RecordNo) -> [bool; 16]
+fn one_step(
+    leads: &[[bool; MOST_RECORD_TYPES]],
+    types: u8,
+    marks: &[bool],
+    start: RecordNo,
+) -> [bool; MOST_RECORD_TYPES]
     requires { types ≤ MOST_RECORD_TYPES }
     ensures { (y : ℕ) → y < types → marked result y ≡ (y == start || is_given leads.now types marks.now y) }
 {
-    let mut next = [false; 16];
+    let mut next = [false; MOST_RECORD_TYPES];
     for y in 0..types {
         let is_start = y == start.index();
         next[y as usize] = is_start || is_given(leads, types, marks, y);
@@ -177,13 +182,13 @@ fn one_step(leads: &[[bool; 16]], types: u8, marks: &[bool], start: RecordNo) ->
 
 /// Marks the types that can be reached from this one by going from owner type to member type, until a round marks
 /// nothing new.
-fn reachable(schema: &Schema, ways: &Ways, types: u8, start: RecordNo) -> [bool; 16]
+fn reachable(schema: &Schema, ways: &Ways, types: u8, start: RecordNo) -> [bool; MOST_RECORD_TYPES]
     requires ways { AreWays schema.now ways.now.leads ways.now.touched }
     requires types { types ≡ length schema.now.types }
     requires few { types ≤ MOST_RECORD_TYPES }
     ensures { filter (marked result) (range_with_len 0 (length schema.now.types)) ≡ reachable_types schema.now start }
 {
-    let mut marks = [false; 16];
+    let mut marks = [false; MOST_RECORD_TYPES];
     for round in 0..types {
         let next = one_step(&ways.leads, types, &marks, start);
         if next == marks {
@@ -202,7 +207,7 @@ fn areas_reached(schema: &Schema, ways: &Ways, rtype: RecordNo) -> AreaSet
     let types = schema.types().len() as u8;
     let marks = reachable(schema, ways, types, rtype);
     let mut members = [false; 8];
-    for a in 0..8u8 {
+    for a in 0..MOST_AREAS as u8 {
         members[a as usize] = is_given(&ways.touched, types, &marks, a);
     }
     AreaSet { members }

@@ -9,6 +9,7 @@ use Rattle.dbtg_schema.specs.Named.{IsNamed}
 use Rattle.dbtg_cells.specs.declared.key.DbKey.{DbKey}
 use Rattle.dbtg_cells.specs.declared.key.Owner.{Owner}
 use Rattle.dbtg_cells.specs.declared.key.Owner.TheVariants.{System, Rec}
+use Rattle.dbtg_cells.specs.declared.limits.TheConstants.{LAST_GENERATION}
 use Rattle.dbtg_unit.specs.declared.unit.Unit as unit
 use Rattle.dbtg_unit.specs.Database.State.Belongs.{IsUnitOf}
 use Rattle.dbtg_unit.specs.Database.Statements.Fits.{if_named}
@@ -42,7 +43,7 @@ pub record IsKeyOf (schema : Lists) (k : DbKey) : Type 0 where
   pub number_from : 1 ≤ k.number
   pub number_to : k.number ≤ 999999
   pub generation_from : 1 ≤ k.generation
-  pub generation_to : k.generation ≤ 255
+  pub generation_to : k.generation ≤ LAST_GENERATION
 
 -- what is read from a printed key is that key
 abbrev pub PrintedKeyIsReadBack : Type 0

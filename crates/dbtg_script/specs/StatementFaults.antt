@@ -23,6 +23,7 @@ use Rattle.dbtg_script.specs.Labels.{has, text_of, texts, named, first_word}
 use Rattle.dbtg_script.specs.Lookups.{area_named, type_named, set_named, item_named, type_no, set_no, area_no, item_no, item_picture, sort_picture}
 use Rattle.dbtg_script.specs.Values.{is_of_kind, spelled, up_to}
 use Rattle.dbtg_unit.specs.declared.limits.TheConstants.{MOST_STATEMENTS}
+use Rattle.dbtg_cells.specs.declared.limits.TheConstants.{LAST_GENERATION}
 
 -- the fault, if the test holds
 abbrev pub when : Bool → Cause → List Cause
@@ -59,7 +60,7 @@ abbrev pub key_faults : Lists → List ℕ → List Cause
 key_faults schema t =
     when (is_none (type_named schema (key_name t))) cause.UnknownRecordType
     ++ when (up_to 999999 (number (key_number t)) == 0) cause.OutOfRange
-    ++ when (up_to 255 (generation t) == 0) cause.OutOfRange
+    ++ when (up_to LAST_GENERATION (generation t) == 0) cause.OutOfRange
 
 -- the digits after a minus
 abbrev pub without_minus : List ℕ → List ℕ

@@ -12,6 +12,7 @@ use Rattle.dbtg_cells.specs.declared.key.DbKey.{DbKey}
 use Rattle.dbtg_cells.specs.declared.key.Value.{Value}
 use Rattle.dbtg_cells.specs.declared.usage.Mode.{Mode}
 use Rattle.dbtg_cells.specs.declared.usage.Mode.TheVariants as mode
+use Rattle.dbtg_cells.specs.declared.limits.TheConstants.{LAST_GENERATION}
 use Rattle.dbtg_unit.specs.declared.statement.Statement.{Statement}
 use Rattle.dbtg_unit.specs.declared.statement.Statement.TheVariants as statement
 use Rattle.dbtg_unit.specs.declared.statement.Form.{Form}
@@ -87,7 +88,7 @@ which_of ws =
 
 -- the key that the text spells
 abbrev pub key_of : Lists → List ℕ → DbKey
-key_of schema t = record { rtype = type_no schema (key_name t); number = up_to 999999 (number (key_number t)); generation = up_to 255 (generation t) }
+key_of schema t = record { rtype = type_no schema (key_name t); number = up_to 999999 (number (key_number t)); generation = up_to LAST_GENERATION (generation t) }
 
 -- the values of a record, in the order of its items
 abbrev pub values_of : List Labelled → List Item → List Value

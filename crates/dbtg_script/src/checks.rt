@@ -22,6 +22,7 @@ use crate::spelling::{generation, key_name, key_number, number};
 use crate::token::Token;
 use crate::values::{is_of_kind, is_spelled, up_to};
 use crate::words::{Named, Words};
+use dbtg_cells::LAST_GENERATION;
 use dbtg_schema::{Calc, ItemNo, Order, Picture, RecordNo, Schema};
 
 fn when(test: bool, cause: Cause) -> Option<Cause>
@@ -68,7 +69,7 @@ pub fn key_fault(schema: &Schema, text: &[u8]) -> Option<Cause>
         Some(Cause::UnknownRecordType)
     } else if up_to(999_999, number(key_number(text))) == 0 {
         Some(Cause::OutOfRange)
-    } else if up_to(255, generation(text)) == 0 {
+    } else if up_to(LAST_GENERATION.into(), generation(text)) == 0 {
         Some(Cause::OutOfRange)
     } else {
         None

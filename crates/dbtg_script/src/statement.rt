@@ -18,8 +18,8 @@ use crate::role::Role;
 use crate::spelling::{generation, key_name, key_number, number};
 use crate::values::{up_to, value_for};
 use crate::words::Words;
-use dbtg_cells::{DbKey, Mode, Value};
-use dbtg_schema::{Item, ItemNo, Picture, RecordNo, Row, Schema, SetType};
+use dbtg_cells::{DbKey, LAST_GENERATION, Mode, Value};
+use dbtg_schema::{Item, ItemNo, MOST_SETS, Picture, RecordNo, Row, Schema, SetType};
 use dbtg_unit::{Change, Erase, Form, Statement, Suppress, Which};
 use std::alloc::{AllocError, Global};
 
@@ -68,7 +68,7 @@ fn is_suppressed(words: &Words, name: &[u8]) -> bool
 
 /// A bit for each set, the first set's the lowest.
 fn set_bits(words: &Words, sets: &[SetType]) -> u32
-    requires { length sets.now ≤ 16 }
+    requires { length sets.now ≤ MOST_SETS }
     ensures bits { result ≡ set_bits words.now.words sets.now }
     ensures bound { result < 2 ^ length sets.now }
 {
@@ -147,7 +147,7 @@ pub fn key_of(schema: &Schema, text: &[u8]) -> DbKey
     DbKey {
         rtype: type_no(schema, key_name(text)),
         number: up_to(999_999, number(key_number(text))) as u32,
-        generation: up_to(255, generation(text)) as u8,
+        generation: up_to(LAST_GENERATION.into(), generation(text)) as u8,
     }
 }
 

@@ -16,7 +16,7 @@ use Rattle.dbtg_unit.specs.declared.unit.Entry.{Entry}
 use Rattle.dbtg_unit.specs.declared.unit.Unit.{Unit}
 use Rattle.dbtg_unit.proofs.Public.{answers_behind, entries_mine, entries_other, opening_length, replays_one_more, slice_get_range}
 use Rattle.dbtg_step.specs.Core.Whole.{HasMade, Making, state_now}
-use Rattle.dbtg_step.proofs.Public.{found_of}
+use Rattle.dbtg_step.proofs.Public.{found_of, unit_is_there}
 use Rattle.dbtg_script.specs.Lines.{trimmed}
 use Rattle.dbtg_script.specs.Statements.{line_statement}
 use Rattle.dbtg_shell.specs.Inside.Sessions.{BeginsHistory, HasGrown, IsOwnScript, IsScriptOf, IsSession}
@@ -39,19 +39,6 @@ unfolding replay
 as_many_units schema capacity state [] = refl
 as_many_units schema capacity state (e ∷ es) = as_many_units schema capacity (after_entry schema capacity state e) es ∙ as_many schema capacity state e
 
--- where there is an answer, there is a unit
-unit_there : (schema : Lists) (capacity : ℕ) (state : State) (entry : Entry) → answer_to schema capacity state entry ≡ Some entry.answer → (0 < entry.unit) × (entry.unit ≤ length state.units)
-unit_there schema capacity state entry e = by entry.unit e
-  where
-    within : (units : List Unit) (n : ℕ) (f : Unit → Outcome) → option_map (λ (o : Outcome). o.answer) (option_map f (slice_get units n)) ≡ Some entry.answer → n < length units
-    within [] n f e = absurd (cc (e))
-    within (y ∷ ys) zero f e = omega arith
-    within (y ∷ ys) (suc n) f e = let l = within ys n f e in omega (arith, l)
-
-    by : (number : ℕ) → option_map (λ (o : Outcome). o.answer) (outcome_of schema capacity state number entry.statement) ≡ Some entry.answer → (0 < number) × (number ≤ length state.units)
-    by zero e = absurd (cc (e))
-    by (suc n) e = let l = within state.units n (λ unit. effect schema capacity state.database unit entry.statement) e in (omega arith, omega (arith, l))
-
 same_number : (a b : ℕ) → Some a ≡ Some b → a ≡ b
 same_number a b e = cc (e)
 
@@ -69,7 +56,7 @@ module _ (schema : Lists) (capacity units : ℕ) (past rest : List Entry) (entry
   stands_at h =
       let state = replay schema capacity (opening_state schema units) past in
       let answer : answer_to schema capacity state entry ≡ Some entry.answer = (answers_behind schema capacity (opening_state schema units) past (entry ∷ rest) h.answers_hold).0 in
-      let there = unit_there schema capacity state entry answer in
+      let there = unit_is_there schema capacity state entry answer in
       let many : length state.units ≡ units = as_many_units schema capacity (opening_state schema units) past ∙ opening_length schema units in
       let long : length past < length (past ++ entry ∷ rest) = let l = length-append past (entry ∷ rest) in omega (arith, l) in
       let ticket = sym (slice_get-map (λ (x : Entry). x.ticket) (past ++ entry ∷ rest) (length past) ∙ ap (option_map (λ (x : Entry). x.ticket)) (get_behind past entry rest)) ∙ ap (λ ts. slice_get ts (length past)) h.tickets ∙ slice_get_range (length (past ++ entry ∷ rest)) 0 (length past) long in

@@ -9,6 +9,7 @@ ghost use Rattle.dbtg_shell.specs.Sessions.{AreTurnsOf, IsLastSaid, RefusesBehin
 ghost use Rattle.dbtg_shell.specs.Inside.Sessions.{BeginsHistory, HasEntered, HasNoRoom, IsAsBefore, MakesLine};
 ghost use Rattle.dbtg_shell.specs.declared.session.Refusal.TheVariants.{Fault, Memory};
 
+use dbtg_command::MOST_UNITS;
 use dbtg_refusal::said_of;
 use dbtg_replay::units_in_turn;
 use dbtg_schema::Schema;
@@ -322,7 +323,7 @@ impl<'a> Session<'a> {
     pub fn units(&self) -> &[Unit]
         ensures units { result.now ≡ (state_now self.now.making).units }
         ensures count { length result.now ≡ self.now.making.units }
-        ensures few { length result.now ≤ 8 }
+        ensures few { length result.now ≤ MOST_UNITS }
     {
         self.database.units()
     }

@@ -7,7 +7,7 @@ ghost use Rattle.dbtg_unit.specs.Database.State.Units.{place_in};
 ghost use Rattle.dbtg_shell.specs.UnitWords.{among_words, area_lines, at_words, current_words, key_words, kept_line, kept_lines, kept_words, line_of, list_of, list_words, many_words, member_words, open_words, ordinal, ordinal_end, owner_words, place_words, set_lines, type_lines, unit_words};
 
 use dbtg_cells::{DbKey, Mode, Owner, same_key, same_owner};
-use dbtg_schema::{Area, RecordType, Row, Schema, SetNo, SetType};
+use dbtg_schema::{Area, MOST_SETS, RecordType, Row, Schema, SetNo, SetType};
 use dbtg_script::{push_key, push_mode, push_number};
 use dbtg_unit::{Image, Place, Unit, entry_at};
 use std::alloc::{AllocError, Global};
@@ -307,7 +307,7 @@ impl<'a> View<'a> {
     }
 
     fn push_sets(&self, out: &mut Vec<u8>, unit: &Unit, sets: &[SetType]) -> Result<(), AllocError>
-        requires { length sets.now ≤ 255 }
+        requires { length sets.now ≤ MOST_SETS }
         ensures { OnOk result (out.new.items ≡ out.old.items ++ set_lines self.now.schema.now self.now.image.now unit.now 0 sets.now) }
     {
         for (i, set) in sets.iter().enumerate() {

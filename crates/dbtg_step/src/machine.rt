@@ -29,7 +29,7 @@ use crate::taking_turns::{Noted, take_turns};
 use crate::waiting::{Blocking, blocking_of};
 use crate::watching::{Newest, Position, newest_of, position_of};
 use dbtg_schema::{Row, Schema};
-use dbtg_unit::{Entry, Image, Statement, Stepped, Unit};
+use dbtg_unit::{Entry, Image, LAST_UNIT, Statement, Stepped, Unit};
 use std::alloc::{AllocError, Global};
 use std::marker::Model;
 
@@ -61,7 +61,7 @@ fn opening_parts(
     scripts: Row<Row<Statement>>,
 ) -> Result<Parts, AllocError>
     requires sound { IsSound schema.now }
-    requires units { length scripts ≤ 255 }
+    requires units { length scripts ≤ LAST_UNIT }
     requires fit { scripts_fit schema.now scripts ≡ true }
     ensures well { IfOk result (λ parts. IsWell schema.now capacity parts) }
     ensures opening { IfOk result (λ parts. core_of schema.now capacity parts ≡ record { schema = schema.now; capacity = capacity; opening = opening_of schema.now capacity (length scripts); state = machine_of schema.now capacity scripts }) }
@@ -108,7 +108,7 @@ impl Core {
         scripts: Row<Row<Statement>>,
     ) -> Result<Core, AllocError>
         requires sound { IsSound schema.now }
-        requires units { length scripts ≤ 255 }
+        requires units { length scripts ≤ LAST_UNIT }
         requires fit { scripts_fit schema.now scripts ≡ true }
         ensures { IfOk result (λ core. machine core ≡ record { schema = schema.now; capacity = capacity; opening = opening_of schema.now capacity (length scripts); state = machine_of schema.now capacity scripts }) }
     {

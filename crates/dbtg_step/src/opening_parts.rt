@@ -15,7 +15,7 @@ ghost use Rattle.dbtg_step.specs.Inside.Openings.{locations_of, opening_runner, 
 use crate::parts::{CellLocation, Runner};
 use dbtg_cells::{Cell, CellName, Extent, Layout, Owner, Ring, Slot, Usage};
 use dbtg_schema::{AreaNo, RecordNo, Row, Schema, SetNo};
-use dbtg_unit::{Currency, Held, Kept, Owners, Statement, Unit};
+use dbtg_unit::{Currency, Held, Kept, LAST_UNIT, Owners, Statement, Unit};
 use std::alloc::{AllocError, Global};
 
 fn opening_ring(alloc: Global, schema: &Schema, set: SetNo, owner: &Option<(RecordNo, u32)>) -> Ring
@@ -265,7 +265,7 @@ pub fn opening_runners(
     schema: &Schema,
     scripts: Row<Row<Statement>>,
 ) -> Result<Vec<Runner>, AllocError>
-    requires { length scripts ≤ 255 }
+    requires { length scripts ≤ LAST_UNIT }
     ensures { IfOk result (λ runners. runners.items ≡ runners_from schema.now 1 scripts) }
 {
     let mut runners = Vec::new(alloc);

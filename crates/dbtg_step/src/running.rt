@@ -16,7 +16,7 @@ use crate::machine::Core;
 use crate::results::Run;
 use crate::whole::WholeDatabase;
 use dbtg_schema::{Row, Schema};
-use dbtg_unit::{Move, Statement, Stepped};
+use dbtg_unit::{LAST_UNIT, Move, Statement, Stepped};
 use std::alloc::{AllocError, Global};
 
 /// Makes one move; a step for which memory is refused is an error, and changes nothing.
@@ -69,7 +69,7 @@ pub fn run(
     moves: &[Move],
 ) -> Result<Run, AllocError>
     requires sound { IsSound schema.now }
-    requires units { length scripts ≤ 255 }
+    requires units { length scripts ≤ LAST_UNIT }
     requires fit { scripts_fit schema.now scripts ≡ true }
     ensures { IfOk result (λ given. RunIs schema.now capacity scripts moves.now given) }
 {
@@ -102,7 +102,7 @@ fn make_scripts(
     scripts: Row<Row<Statement>>,
 ) -> Result<(), AllocError>
     requires units { length scripts ≡ database.old.units }
-    requires few { length scripts ≤ 255 }
+    requires few { length scripts ≤ LAST_UNIT }
     requires fitting { scripts_fit database.old.schema scripts ≡ true }
     ensures { OnOk result (HasMadeAll database.old (in_turn_from 1 scripts) database.new) }
 {
@@ -123,7 +123,7 @@ pub fn run_serial(
     scripts: Row<Row<Statement>>,
 ) -> Result<Run, AllocError>
     requires sound { IsSound schema.now }
-    requires units { length scripts ≤ 255 }
+    requires units { length scripts ≤ LAST_UNIT }
     requires fit { scripts_fit schema.now scripts ≡ true }
     ensures { IfOk result (λ given. SerialRunIs schema.now capacity scripts given) }
 {

@@ -20,7 +20,7 @@ use crate::parts::{Parts, Runner};
 use crate::results::Run;
 use crate::stepping::step;
 use dbtg_schema::{Row, Schema};
-use dbtg_unit::{Move, Statement, Stepped};
+use dbtg_unit::{LAST_UNIT, Move, Statement, Stepped};
 use std::alloc::{AllocError, Global};
 
 /// The result of a run by turns: the run, whose moves have no results, and the moves that its turns stand for; none if there are more
@@ -209,7 +209,7 @@ pub fn run_turns(
     limit: usize,
 ) -> Result<Turned, AllocError>
     requires sound { IsSound schema.now }
-    requires units { length scripts ≤ 255 }
+    requires units { length scripts ≤ LAST_UNIT }
     requires fit { scripts_fit schema.now scripts ≡ true }
     ensures { IfOk result (λ given. TurnedIs schema.now capacity scripts turns.now limit given) }
 {

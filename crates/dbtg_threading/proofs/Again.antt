@@ -9,10 +9,10 @@ use Rattle.dbtg_schema.specs.Lists.{Lists}
 use Rattle.dbtg_unit.specs.declared.statement.Statement.{Statement}
 use Rattle.dbtg_unit.specs.declared.unit.Answer.{Answer}
 use Rattle.dbtg_unit.specs.declared.unit.Entry.{Entry}
-use Rattle.dbtg_unit.specs.declared.unit.Unit as unit
-use Rattle.dbtg_unit.specs.Database.Statements.Effect.{Outcome, effect}
+use Rattle.dbtg_unit.specs.Database.Statements.Effect.{Outcome}
 use Rattle.dbtg_unit.specs.Database.Laws.Replay.{AnswersHold, IsHistoryOf, State, after_entry, after_outcome, entries_of, opening_state, outcome_of, replay}
 use Rattle.dbtg_unit.proofs.Public.{opening_length, replays_one_more}
+use Rattle.dbtg_step.proofs.Public.{unit_is_there}
 use Rattle.dbtg_program.specs.declared.program.Program.{Program}
 use Rattle.dbtg_going.specs.Turns.{after_turn, after_turns, made, statement_of, with_outcome}
 use Rattle.dbtg_going.proofs.Turning.{numbered_one}
@@ -29,11 +29,6 @@ as_many : (state : State) (number : ℕ) (o : Option Outcome) → length (after_
 as_many state number None = refl
 as_many state number (Some o) = set_length state.units (number - 1) o.unit
 
-unit_below : (f : unit.Unit → Outcome) (answer : Answer) (units : List unit.Unit) (n : ℕ) → option_map (λ (o : Outcome). o.answer) (option_map f (slice_get units n)) ≡ Some answer → suc n ≤ length units
-unit_below f answer [] n h = absurd (cc)
-unit_below f answer (u ∷ us) zero h = omega arith
-unit_below f answer (u ∷ us) (suc n) h = let rest = unit_below f answer us n h in omega (arith, rest)
-
 mine : (e : Entry) (rest : List Entry) → entries_of e.unit (e ∷ rest) ≡ e ∷ entries_of e.unit rest
 mine e rest =
     let same : (e.unit == e.unit) ≡ true = grind arith in
@@ -43,10 +38,6 @@ module _ (schema : Lists) (capacity : ℕ) (programs : List Program) where
   -- the sequential database after a history
   abbrev now : List Entry → State
   now es = replay schema capacity (opening_state schema (length programs)) es
-
-  unit_there : (state : State) (u : ℕ) (x : Statement) (answer : Answer) → option_map (λ (o : Outcome). o.answer) (outcome_of schema capacity state u x) ≡ Some answer → (0 < u) × (u ≤ length state.units)
-  unit_there state zero x answer h = absurd (cc)
-  unit_there state (suc n) x answer h = (omega arith, unit_below (λ unit. effect schema capacity state.database unit x) answer state.units n h)
 
   still_as_many : (state : State) (es : List Entry) → length (replay schema capacity state es).units ≡ length state.units
   unfolding replay
@@ -79,7 +70,7 @@ module _ (schema : Lists) (capacity : ℕ) (programs : List Program) where
   unfolding AnswersHold after_turns
   along history before [] all is answers tickets = sym (append-nil before)
   along history before (e ∷ rest) all is answers tickets =
-      let there = unit_there (now before) e.unit e.statement e.answer answers.0 in
+      let there = unit_is_there schema capacity (now before) e answers.0 in
       let number = units_are before in
       let said = in_turn history before rest e all is there.0 (omega (arith, there.1, number)) in
       let ticket : length before ≡ e.ticket = cc (tickets) in

@@ -8,7 +8,7 @@ ghost use Rattle.std.specs.Prelude.{◌≡◌, ◌≤◌, IfOk, length};
 use dbtg_going::{Member, Reached};
 use dbtg_program::Program;
 use dbtg_schema::{Row, Schema};
-use dbtg_unit::Entry;
+use dbtg_unit::{Entry, LAST_UNIT};
 use std::alloc::{AllocError, Global};
 
 // How far the program of a unit is.
@@ -39,7 +39,7 @@ pub fn reached_by_each(
     programs: &[Program],
     history: &[Entry],
 ) -> Result<Row<Reached>, AllocError>
-    requires few { length programs.now ≤ 255 }
+    requires few { length programs.now ≤ LAST_UNIT }
     requires made { HaveMade schema.now programs.now history.now }
     ensures { IfOk result (λ each. each ≡ each_reached schema.now 1 programs.now history.now) }
 {

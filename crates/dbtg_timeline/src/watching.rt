@@ -11,7 +11,7 @@ use crate::event::{Event, Mark};
 use crate::waiting::push_waiting;
 use dbtg_schema::{Row, Schema};
 use dbtg_step::{Core, Position, Progress, make_move};
-use dbtg_unit::{Entry, Move, Statement, Stepped};
+use dbtg_unit::{Entry, LAST_UNIT, Move, Statement, Stepped};
 use std::alloc::{AllocError, Global};
 
 fn progress_in(position: Option<Position>) -> Option<Progress>
@@ -221,7 +221,7 @@ pub fn watch(
     moves: &[Move],
 ) -> Result<Vec<Event>, AllocError>
     requires sound { IsSound schema.now }
-    requires units { length scripts ≤ 255 }
+    requires units { length scripts ≤ LAST_UNIT }
     requires fit { scripts_fit schema.now scripts ≡ true }
     ensures { IfOk result (λ events. events.items ≡ events_of_run schema.now capacity scripts moves.now) }
 {

@@ -13,6 +13,7 @@ use Rattle.dbtg_unit.specs.Database.Statements.Codes.{status_code}
 use Rattle.dbtg_unit.specs.Database.Statements.Fits.{values_fit}
 use Rattle.dbtg_unit.specs.declared.unit.Entry.{Entry}
 use Rattle.dbtg_unit.specs.Database.Laws.Replay.{AnswersHold, IsHistoryOf, opening_state}
+use Rattle.dbtg_unit.specs.declared.limits.TheConstants.{LAST_UNIT}
 use Rattle.dbtg_script.specs.Laws.{BeginScripts, IsKeyOf}
 use Rattle.dbtg_script.specs.StatementFaults.{line_faults, refusal as script_refusal}
 use Rattle.dbtg_script.specs.Statements.{line_statement}
@@ -58,7 +59,7 @@ all_said n (e ∷ es) = as_said n e ∷ all_said (n + 1) es
 -- what is printed of these entries is accepted as a trace, and says each of them in full
 abbrev pub PrintedTraceIsReadBack : Type 0
 PrintedTraceIsReadBack =
-    (schema : Lists) → IsSound schema → IsNamed schema → (units : ℕ) → units ≤ 255 → (lines : List (List ℕ)) (history : List Entry) → AreLinesOf schema units lines history
+    (schema : Lists) → IsSound schema → IsNamed schema → (units : ℕ) → units ≤ LAST_UNIT → (lines : List (List ℕ)) (history : List Entry) → AreLinesOf schema units lines history
     → length history ≤ 524280 → length (trace_lines schema lines history) ≤ 67108864
     → (refusal schema units (trace_lines schema lines history) ≡ None) × (trace schema units (trace_lines schema lines history) ≡ all_said 1 history)
 
@@ -74,13 +75,13 @@ pub record AreOfScripts (schema : Lists) (capacity : ℕ) (texts : List (List �
   pub begin : BeginScripts schema texts history
   pub answers : AnswersHold schema capacity (opening_state schema (length texts)) history
 
--- the trace of a history of so many units is accepted, and says each entry in full
+-- the trace of a history is accepted, and says each entry in full
 abbrev pub IsReadBack : Lists → List (List ℕ) → List Entry → Type 0
 IsReadBack schema texts history =
     (refusal schema (length texts) (trace_text schema texts history) ≡ None) × (trace schema (length texts) (trace_text schema texts history) ≡ all_said 1 history)
 
--- so is what is printed of a history of scripts, as their texts have the statements
+-- the trace that is printed of a history of scripts, with the statements as their texts have them, is read back
 abbrev pub PrintedHistoryIsReadBack : Type 0
 PrintedHistoryIsReadBack =
-    (schema : Lists) → IsSound schema → IsNamed schema → (capacity : ℕ) → capacity ≤ 999999 → (texts : List (List ℕ)) → length texts ≤ 255 → (history : List Entry) → AreOfScripts schema capacity texts history
+    (schema : Lists) → IsSound schema → IsNamed schema → (capacity : ℕ) → capacity ≤ 999999 → (texts : List (List ℕ)) → length texts ≤ LAST_UNIT → (history : List Entry) → AreOfScripts schema capacity texts history
     → length history ≤ 524280 → length (trace_text schema texts history) ≤ 67108864 → IsReadBack schema texts history

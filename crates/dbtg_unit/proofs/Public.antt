@@ -24,6 +24,10 @@ pub use Rattle.dbtg_unit.proofs.Lists.Ascending.{ascending_range}
 pub use Rattle.dbtg_unit.proofs.Lists.FromZeroUp.{numbers_end}
 -- of the numbers from i on, i comes first and the others follow
 pub use Rattle.dbtg_unit.proofs.Lists.FromZeroUp.{numbers_next}
+-- the first number of a range that is kept and passes is this one, where none before it is
+pub use Rattle.dbtg_unit.proofs.Lists.NoAnswer.{find_here}
+-- the first number of a range that is kept and passes is none that is not kept, or does not pass
+pub use Rattle.dbtg_unit.proofs.Lists.NoAnswer.{find_skipped}
 -- x is an element of the list
 pub use Rattle.dbtg_unit.proofs.Lists.Membership.{In}
 -- what all elements of a list pass, each one of them passes

@@ -1,7 +1,7 @@
 //! How many areas, record types and sets a schema has, as the numbers that name them. A schema keeps to its limits.
 ghost use Rattle.std.specs.Prelude.{◌≡◌, ◌≤◌, length};
 
-use dbtg_schema::Schema;
+use dbtg_schema::{MOST_RECORD_TYPES, Schema};
 
 pub(crate) fn area_count(schema: &Schema) -> u8
     ensures { result ≡ length schema.now.areas }
@@ -13,7 +13,7 @@ pub(crate) fn area_count(schema: &Schema) -> u8
 /// The number of record types.
 pub fn type_count(schema: &Schema) -> u8
     ensures count { result ≡ length schema.now.types }
-    ensures limit { result ≤ 16 }
+    ensures limit { result ≤ MOST_RECORD_TYPES }
 {
     schema.is_well_formed();
     schema.types().len() as u8

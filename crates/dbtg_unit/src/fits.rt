@@ -8,7 +8,9 @@ ghost use Rattle.dbtg_unit.specs.Database.Statements.Fits.{change_fits, member_k
 use crate::changes::names_item;
 use crate::statement::{Change, Form, Statement, Suppress, Which};
 use dbtg_cells::{DbKey, Value};
-use dbtg_schema::{AreaNo, Calc, Item, ItemNo, Member, Picture, RecordNo, Schema, SetNo};
+use dbtg_schema::{
+    AreaNo, Calc, Item, ItemNo, MOST_SETS, Member, Picture, RecordNo, Schema, SetNo,
+};
 
 fn is_text(bytes: &[u8]) -> bool
     ensures { result ≡ list_all is_text_byte bytes.now }
@@ -202,7 +204,7 @@ fn suppress_fits(schema: &Schema, suppress: &Suppress) -> bool
 {
     let sets = suppress.sets as usize;
     let count = schema.sets().len();
-    count >= 16 || sets < 2usize.pow(count as u32)
+    count >= MOST_SETS || sets < 2usize.pow(count as u32)
 }
 
 fn is_member_or_none(schema: &Schema, set: SetNo, rtype: Option<RecordNo>) -> bool

@@ -54,7 +54,7 @@ pub use laws::{
 pub use legality::{
     effect_keeps_legal, opening_is_legal, replay_keeps_legal, units_never_conflict,
 };
-pub use limits::MOST_STATEMENTS;
+pub use limits::{LAST_UNIT, MOST_STATEMENTS};
 pub use moves::{Move, Stepped};
 pub use order::{has_area, next_area};
 pub use owners::{Owners, with_true_owners};

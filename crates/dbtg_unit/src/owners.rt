@@ -3,31 +3,30 @@ ghost use Rattle.std.specs.Prelude.{◌≡◌, ◌≤◌, ◌<◌, slice_set, le
 ghost use Rattle.dbtg_unit.specs.Hands.Guesses.{with_owners};
 
 use dbtg_cells::Owner;
+use dbtg_schema::MOST_SETS;
 use std::marker::Model;
 
-/// The most sets that a schema has.
-const SETS: usize = 16;
-
-/// For each set of a schema, at most 16, an owner or none; contracts see the list.
+/// For each set of a schema, at most MOST_SETS, an owner or none; contracts see the list.
 #[derive(Drop)]
 pub struct Owners {
-    entries: [Option<Owner>; SETS],
+    entries: [Option<Owner>; MOST_SETS],
     len: usize,
 }
 
 impl Model for Owners {
     ghost use Rattle.std.specs.Prelude.{List, Option, take, ◌≤◌};
     ghost use Rattle.dbtg_cells.specs.declared.key.Owner.{Owner};
+    ghost use Rattle.dbtg_schema.specs.declared.limits.TheConstants.{MOST_SETS};
 
     ghost Value = { List (Option Owner) };
 
     ghost view = { λ o. take o.len o.entries };
 
-    ghost invariant = { λ o. o.len ≤ 16 };
+    ghost invariant = { λ o. o.len ≤ MOST_SETS };
 }
 
-fn set_entry(entries: &mut [Option<Owner>; SETS], set: usize, owner: Option<Owner>)
-    requires { set < 16 }
+fn set_entry(entries: &mut [Option<Owner>; MOST_SETS], set: usize, owner: Option<Owner>)
+    requires { set < MOST_SETS }
     ensures { entries.new ≡ slice_set entries.old set owner }
 {
     entries[set] = owner;
@@ -36,21 +35,21 @@ fn set_entry(entries: &mut [Option<Owner>; SETS], set: usize, owner: Option<Owne
 impl Owners {
     /// No owner in any of this many sets.
     pub fn none(sets: usize) -> Self
-        requires { sets ≤ 16 }
+        requires { sets ≤ MOST_SETS }
         ensures { result ≡ replicate sets None }
     {
         Self {
-            entries: [None; SETS],
+            entries: [None; MOST_SETS],
             len: sets,
         }
     }
 
-    /// These owners; if there are more than sixteen, the first sixteen.
+    /// These owners; if there are more than MOST_SETS, the first of them.
     pub fn of(owners: &[Option<Owner>]) -> Self
-        ensures { result ≡ take 16 owners.now }
+        ensures { result ≡ take MOST_SETS owners.now }
     {
-        let len = owners.len().min(SETS);
-        let mut entries = [None; SETS];
+        let len = owners.len().min(MOST_SETS);
+        let mut entries = [None; MOST_SETS];
         entries[..len].copy_from_slice(&owners[..len]);
         Self { entries, len }
     }

@@ -15,8 +15,8 @@ use dbtg_schema::{AreaNo, Row, Schema};
 use std::alloc::Global;
 use std::marker::Model;
 
-/// What a statement has prepared: its answer, the changes of the cells that it holds in their order, the new versions of the
-/// records that it changes, and the change of its unit. The changes by which records go come first.
+/// What a statement has prepared: its answer, the changes of the cells that it holds, in their order, the new versions of the
+/// records that it changes, and the change of its unit. The changes that take records out come first.
 #[derive(Drop)]
 pub struct Prepared {
     answer: Answer,
@@ -54,7 +54,7 @@ impl Prepared {
         }
     }
 
-    /// Of a statement that takes records out, before the other changes of cells.
+    /// Prepared by a statement that takes records out, which comes before the other changes of cells.
     pub fn erasing(
         answer: Answer,
         erased: Erased,
@@ -98,7 +98,7 @@ pub fn refused(alloc: Global, cause: Cause) -> Prepared
     )
 }
 
-/// Makes an edit of the cell of its name, where that is in hand. It takes no memory and cannot fail.
+/// Makes an edit of the cell of its name, if that cell is in hand. It takes no memory and cannot fail.
 pub fn edit_held(held: &mut Held, edit: CellEdit)
     requires { CanEditHeld edit held.old.cells }
     ensures made { AreMade (edit ∷ []) held.old.cells held.new.cells }
@@ -171,8 +171,8 @@ fn change_unit(schema: &Schema, change: UnitEdit, held: &mut Held, unit: &mut Un
     }
 }
 
-/// Carries out what was prepared on the cells that are held, the guesses and the unit. It takes no memory and cannot fail. What the plan
-/// makes is then seen; on which databases that is the statement's effect, the call that prepared it says.
+/// Carries out what was prepared on the cells that are held, the guesses and the unit. It takes no memory and cannot fail. The call that
+/// prepared it says on which databases this is the statement's effect.
 pub fn finish(schema: &Schema, prepared: Prepared, held: &mut Held, unit: &mut Unit) -> Answer
     requires { CanMake prepared.cells held.old.cells }
     ensures answer { result ≡ prepared.answer }

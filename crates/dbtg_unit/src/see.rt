@@ -10,7 +10,7 @@ use crate::entries::{entry_at, set_entry};
 use crate::statement::Suppress;
 use crate::unit::{Place, Unit};
 use dbtg_cells::{DbKey, Owner};
-use dbtg_schema::{Row, Schema};
+use dbtg_schema::{MOST_SETS, Row, Schema};
 
 impl Suppress {
     /// Does the statement leave the current of this set as it was?
@@ -18,7 +18,7 @@ impl Suppress {
         ensures { result ≡ suppresses self.now set }
     {
         let sets = self.sets;
-        set < 16 && (sets >> set) & 1 == 1
+        set < MOST_SETS && (sets >> set) & 1 == 1
     }
 }
 

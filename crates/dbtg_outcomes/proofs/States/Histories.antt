@@ -8,12 +8,12 @@ use Rattle.dbtg_script.specs.Printing.Texts.{answers_text}
 use Rattle.dbtg_unit.specs.declared.statement.Statement.{Statement}
 use Rattle.dbtg_unit.specs.declared.unit.Answer.{Answer}
 use Rattle.dbtg_unit.specs.declared.unit.Entry.{Entry}
-use Rattle.dbtg_unit.specs.declared.unit.Unit as unit
-use Rattle.dbtg_unit.specs.Database.Statements.Effect.{Outcome, effect}
+use Rattle.dbtg_unit.specs.Database.Statements.Effect.{Outcome}
 use Rattle.dbtg_unit.specs.Database.Statements.Fits.{fits}
 use Rattle.dbtg_unit.specs.Database.Laws.Replay.{AnswersHold, IsHistoryOf, State, after_entry, after_outcome, entries_of, opening_state, outcome_of}
 use Rattle.dbtg_unit.specs.Database.Laws.Replaying.{statements_of}
 use Rattle.dbtg_unit.proofs.Public.{all_at, element_at, opening_length}
+use Rattle.dbtg_step.proofs.Public.{unit_is_there}
 use Rattle.dbtg_outcomes.specs.Orders.{made}
 use Rattle.dbtg_outcomes.specs.Results.{Meeting, answers_told, entries_in, unit_answers, units_of, untimed}
 
@@ -62,21 +62,12 @@ module _ (schema : Lists) (capacity : ℕ) where
   as_many state number None = refl
   as_many state number (Some o) = set_length state.units (number - 1) o.unit
 
-  unit_below : (f : unit.Unit → Outcome) (answer : Answer) (units : List unit.Unit) (n : ℕ) → option_map (λ (o : Outcome). o.answer) (option_map f (slice_get units n)) ≡ Some answer → suc n ≤ length units
-  unit_below f answer [] n h = absurd (cc)
-  unit_below f answer (u ∷ us) zero h = omega arith
-  unit_below f answer (u ∷ us) (suc n) h = let rest = unit_below f answer us n h in omega (arith, rest)
-
-  unit_there : (state : State) (u : ℕ) (x : Statement) (answer : Answer) → option_map (λ (o : Outcome). o.answer) (outcome_of schema capacity state u x) ≡ Some answer → (0 < u) × (u ≤ length state.units)
-  unit_there state zero x answer h = absurd (cc)
-  unit_there state (suc n) x answer h = (omega arith, unit_below (λ unit. effect schema capacity state.database unit x) answer state.units n h)
-
   pub units_within : (state : State) (es : List Entry) (i : ℕ) (e : Entry) → AnswersHold schema capacity state es → slice_get es i ≡ Some e → (0 < e.unit) × (e.unit ≤ length state.units)
   unfolding AnswersHold
   units_within state [] i e h g = absurd (cc)
   units_within state (f ∷ es) zero e h g =
       let same : f ≡ e = cc in
-      subst (λ (d : Entry). (0 < d.unit) × (d.unit ≤ length state.units)) same (unit_there state f.unit f.statement f.answer h.0)
+      subst (λ (d : Entry). (0 < d.unit) × (d.unit ≤ length state.units)) same (unit_is_there schema capacity state f h.0)
   units_within state (f ∷ es) (suc i) e h g =
       let rest = units_within (after_entry schema capacity state f) es i e h.1 g in
       let many = as_many state f.unit (outcome_of schema capacity state f.unit f.statement) in

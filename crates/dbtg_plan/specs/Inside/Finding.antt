@@ -5,6 +5,7 @@ use Rattle.std.specs.List.{find, range_with_len, flat_map}
 use Rattle.dbtg_schema.specs.Lists.{Lists}
 use Rattle.dbtg_schema.specs.Lookups.{at, first, first_cause, some_and}
 use Rattle.dbtg_schema.specs.Structure.{area_of}
+use Rattle.dbtg_schema.specs.declared.limits.TheConstants.{MOST_SETS}
 use Rattle.dbtg_cells.specs.declared.extent.Number.{Number}
 use Rattle.dbtg_cells.specs.declared.key.DbKey.{DbKey}
 use Rattle.dbtg_cells.specs.declared.key.Owner.{Owner}
@@ -124,5 +125,5 @@ owners_in hands k = unwrap_or (option_map (λ r. r.owners) (stored_in hands k)) 
 
 -- what is done with what is found
 abbrev pub plan_of_found : Hands → Suppress → Result DbKey Cause → Plan
-plan_of_found hands suppress (Ok k) = done_plan (See k (take 16 (owners_in hands k)) suppress) (Some k) None
+plan_of_found hands suppress (Ok k) = done_plan (See k (take MOST_SETS (owners_in hands k)) suppress) (Some k) None
 plan_of_found hands suppress (Err cause) = refusal cause

@@ -46,7 +46,7 @@ on_err (Err e) P p = p
 -- AN ENTRY
 
 -- an answer is to a unit that is there
-unit_is_there : (schema : Lists) (capacity : ℕ) (state : State) (entry : Entry) → answer_to schema capacity state entry ≡ Some entry.answer → (0 < entry.unit) × (entry.unit ≤ length state.units)
+pub unit_is_there : (schema : Lists) (capacity : ℕ) (state : State) (entry : Entry) → answer_to schema capacity state entry ≡ Some entry.answer → (0 < entry.unit) × (entry.unit ≤ length state.units)
 unit_is_there schema capacity state entry e = by entry.unit e
   where
     within : (units : List Unit) (n : ℕ) (f : Unit → Outcome) → option_map (λ (o : Outcome). o.answer) (option_map f (slice_get units n)) ≡ Some entry.answer → n < length units

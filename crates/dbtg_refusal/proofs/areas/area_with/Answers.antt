@@ -2,8 +2,8 @@ use Rattle.std.proofs.Common.{◌≡◌, ◌∙◌, sym, ap, ◌&&◌, ℕ, Some
 use Rattle.std.specs.List.{list_any}
 use Rattle.dbtg_schema.specs.Lookups.{at}
 use Rattle.dbtg_unit.specs.Database.Statements.Checks.{areas_of}
+use Rattle.dbtg_unit.proofs.Public.{find_here, find_skipped}
 use Rattle.dbtg_refusal.specs.Inside.Areas.{passes}
-use Rattle.dbtg_refusal.proofs.FirstNumber.{find_here, find_skipped}
 use Rattle.dbtg_refusal.proofs.areas.area_with.Goals as goal
 
 pub returns-then-is_opened_so : goal.returns-then-is_opened_so

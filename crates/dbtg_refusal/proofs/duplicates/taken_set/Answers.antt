@@ -4,8 +4,8 @@ use Rattle.std.specs.List.{list_any}
 use Rattle.dbtg_schema.specs.Lookups.{some_and}
 use Rattle.dbtg_schema.specs.Structure.{member_clause, order_of}
 use Rattle.dbtg_unit.specs.Database.Statements.Conditions.{refuses_equal, sort_key_taken}
+use Rattle.dbtg_unit.proofs.Public.{find_here, find_skipped}
 use Rattle.dbtg_refusal.specs.Inside.Imaged.{imaged}
-use Rattle.dbtg_refusal.proofs.FirstNumber.{find_here, find_skipped}
 use Rattle.dbtg_refusal.proofs.duplicates.taken_set.Goals as goal
 
 pub returns-then-is_taken_anew : goal.returns-then-is_taken_anew

@@ -11,6 +11,7 @@ use Rattle.dbtg_cells.specs.declared.key.Value.TheVariants.{Num}
 use Rattle.dbtg_cells.specs.declared.usage.Mode.{Mode}
 pub use Rattle.dbtg_cells.specs.Keys.{is_member, picked}
 use Rattle.dbtg_cells.specs.Keys.{owner_eq}
+use Rattle.dbtg_cells.specs.declared.limits.TheConstants.{LAST_GENERATION}
 use Rattle.dbtg_schema.specs.Lookups.{first}
 use Rattle.dbtg_schema.specs.Structure.{calc_of, is_system, member_clause, owner_type}
 
@@ -45,9 +46,9 @@ version_of db k = unwrap_or (option_map (λ r. r.version) (db.records k)) 0
 abbrev pub key_at : Database → ℕ → ℕ → DbKey
 key_at db t n = record { rtype = t; number = n; generation = db.last t n }
 
--- the number has a generation left, of which 255 is the last
+-- the number has a generation left
 abbrev pub is_unspent : Database → ℕ → ℕ → Bool
-is_unspent db t n = nat_lt (db.last t n) 255
+is_unspent db t n = nat_lt (db.last t n) LAST_GENERATION
 
 -- the least number of type t that no live record has and that has a generation left
 abbrev pub free_number : ℕ → Database → ℕ → Option ℕ

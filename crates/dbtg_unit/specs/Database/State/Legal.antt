@@ -13,6 +13,7 @@ use Rattle.dbtg_cells.specs.declared.key.Value.{Value}
 use Rattle.dbtg_cells.specs.declared.usage.Mode.{Mode}
 pub use Rattle.dbtg_cells.specs.Users.{mode_in}
 use Rattle.dbtg_cells.specs.Keys.{key_eq, values_eq}
+use Rattle.dbtg_cells.specs.declared.limits.TheConstants.{LAST_GENERATION}
 use Rattle.dbtg_unit.specs.declared.unit.Unit.{Unit}
 use Rattle.dbtg_schema.specs.Lookups.{at, some_and}
 use Rattle.dbtg_unit.specs.Database.State.Base.{Database, is_live, items_of, members_of, is_member, sort_key, calc_items}
@@ -54,8 +55,8 @@ pub record Legal (schema : Lists) (capacity : ℕ) (db : Database) : Type 0 wher
   pub keys : (k : DbKey) → is_live db k ≡ true → (k.rtype < length schema.types) × (0 < k.number) × (k.number ≤ capacity) × (0 < k.generation) × (k.generation ≡ db.last k.rtype k.number)
   -- it has a value for each item of its type, each of its picture
   pub items : (k : DbKey) → is_live db k ≡ true → values_fit (pictures schema k.rtype) (items_of db k) ≡ true
-  -- no number has more than 255 generations
-  pub generations : (t n : ℕ) → db.last t n ≤ 255
+  -- no number has a generation behind the last
+  pub generations : (t n : ℕ) → db.last t n ≤ LAST_GENERATION
   -- nothing is outside the schema and the capacity
   pub no_number : (t n : ℕ) → (length schema.types ≤ t) ⊎ (n ≡ 0) ⊎ (capacity < n) → db.last t n ≡ 0
   pub no_area : (a : ℕ) → length schema.areas ≤ a → db.usage a ≡ []

@@ -8,6 +8,7 @@ use Rattle.dbtg_schema.specs.declared.shape.Picture.{Picture}
 use Rattle.dbtg_schema.specs.declared.shape.Picture.TheVariants.{Number, Text as TextPicture}
 use Rattle.dbtg_cells.specs.declared.key.Value.{Value}
 use Rattle.dbtg_cells.specs.declared.key.Value.TheVariants.{Num, Text}
+use Rattle.dbtg_cells.specs.declared.limits.TheConstants.{LAST_GENERATION}
 use Rattle.dbtg_unit.specs.declared.statement.Change.{Change}
 use Rattle.dbtg_unit.specs.declared.statement.Suppress.{Suppress}
 use Rattle.dbtg_unit.specs.declared.statement.Form.{Form}
@@ -75,7 +76,7 @@ pictures_at schema r items = map (λ i. unwrap_or (picture_of schema r i) (Numbe
 
 -- the FIND names what the schema has
 abbrev pub form_fits : Lists → Form → Bool
-form_fits schema (Key k) = is_type schema k.rtype && nat_lt 0 k.number && nat_le k.number 999999 && nat_lt 0 k.generation && nat_le k.generation 255
+form_fits schema (Key k) = is_type schema k.rtype && nat_lt 0 k.number && nat_le k.number 999999 && nat_lt 0 k.generation && nat_le k.generation LAST_GENERATION
 form_fits schema CurrentOfUnit = true
 form_fits schema (CurrentOfType r) = is_type schema r
 form_fits schema (CurrentOfSet s) = is_set schema s
