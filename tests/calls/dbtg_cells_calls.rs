@@ -2,7 +2,7 @@
 
 use dbtg_cells::{
     CellName, DbKey, Extent, Mode, Owner, Ring, Slot, Usage, Value, copy_items,
-    key_below, name_below, owner_below, same_key, same_name, same_owner, same_values,
+    key_below, name_below, owner_below, key_eq, name_eq, owner_eq, values_eq,
 };
 use dbtg_schema::{AreaNo, Duplicates, ItemNo, RecordNo, Row, SetNo};
 use std::alloc::{AllocError, Global};
@@ -43,9 +43,9 @@ fn keys_and_owners_are_ordered(rt: HostRuntime) {
     assert!(rt; key_below(key(1, 2), key(2, 1)));
     assert!(rt; key_below(key(1, 1), key(1, 2)));
     assert!(rt; !key_below(key(1, 2), key(1, 2)));
-    assert!(rt; !same_key(key(1, 2), key(1, 1)));
+    assert!(rt; !key_eq(key(1, 2), key(1, 1)));
     assert!(rt; owner_below(Owner::System, Owner::Rec(key(1, 1))));
-    assert!(rt; same_owner(Owner::System, Owner::System));
+    assert!(rt; owner_eq(Owner::System, Owner::System));
 }
 
 // Names go by kind, and then by what they name; the ring of SYSTEM stands before a record's.
@@ -60,6 +60,6 @@ fn names_are_ordered(rt: HostRuntime) {
     );
     assert!(rt; name_below(CellName::Extent(RecordNo::new(9)), system_ring()));
     assert!(rt; name_below(owned_ring(), CellName::Slot(RecordNo::new(0), 1)));
-    assert!(rt; same_name(owned_ring(), owned_ring()));
-    assert!(rt; !same_name(owned_ring(), system_ring()));
+    assert!(rt; name_eq(owned_ring(), owned_ring()));
+    assert!(rt; !name_eq(owned_ring(), system_ring()));
 }

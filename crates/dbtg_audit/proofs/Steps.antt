@@ -10,8 +10,8 @@ use Rattle.dbtg_cells.proofs.Public.{get_behind}
 use Rattle.dbtg_unit.specs.declared.statement.Statement.{Statement}
 use Rattle.dbtg_unit.specs.declared.unit.Entry.{Entry}
 use Rattle.dbtg_unit.specs.Database.State.Image.{image_of}
-use Rattle.dbtg_unit.specs.Database.Statements.Effect.{Outcome}
-use Rattle.dbtg_unit.specs.Database.Laws.Replay.{State, AnswersHold, IsHistoryOf, after_entry, after_outcome, answer_to, opening_state, outcome_of, replay}
+use Rattle.dbtg_unit.specs.Database.Statements.Effect.{StatementEffect}
+use Rattle.dbtg_unit.specs.Database.Laws.Replay.{State, AnswersHold, IsHistoryOf, after_entry, after_effect, answer_to, opening_state, effect_of_unit, replay}
 use Rattle.dbtg_unit.specs.Database.Laws.Replaying.{statements_of}
 use Rattle.dbtg_unit.specs.Database.Statements.Fits.{fits}
 use Rattle.std.proofs.lemmas.Bool.Decides.{nat_tests}
@@ -176,7 +176,7 @@ module _ (statuses : Bool) (schema : Lists) (old mid new : Making) (before : Lis
 module _ (statuses : Bool) (schema : Lists) (capacity : ℕ) (here : Traced) (behind : List Traced) (entry : Entry) (differs : is_so statuses here.said entry ≡ false) where
   -- the same statement is answered alike
   same_answer : (state : State) (e : Entry) → ◌≡◌ {A = ℕ × Statement} (entry.unit, entry.statement) (e.unit, e.statement) → answer_to schema capacity state entry ≡ Some entry.answer → answer_to schema capacity state e ≡ Some e.answer → entry.answer ≡ e.answer
-  same_answer state e p h g = same_Some entry.answer e.answer (sym h ∙ ap (λ (q : ℕ × Statement). option_map (λ (o : Outcome). o.answer) (outcome_of schema capacity state q.0 q.1)) p ∙ g)
+  same_answer state e p h g = same_Some entry.answer e.answer (sym h ∙ ap (λ (q : ℕ × Statement). option_map (λ (o : StatementEffect). o.answer) (effect_of_unit schema capacity state q.0 q.1)) p ∙ g)
 
   same_so : (e : Entry) → ◌≡◌ {A = ℕ × Statement} (entry.unit, entry.statement) (e.unit, e.statement) → entry.answer ≡ e.answer → is_so statuses here.said e ≡ true → ⊥
   same_so e p a so =
@@ -197,7 +197,7 @@ module _ (statuses : Bool) (schema : Lists) (capacity : ℕ) (here : Traced) (be
   not_so state (b ∷ (c ∷ before)) [] (e ∷ history) h g s t so = absurd (cc (s))
   not_so state (b ∷ before) (p ∷ past) (e ∷ history) h g s t so =
       let q : ◌≡◌ {A = ℕ × Statement} (p.unit, p.statement) (e.unit, e.statement) = cc (s, t) in
-      let next : after_entry schema capacity state p ≡ after_entry schema capacity state e = ap (λ (r : ℕ × Statement). after_outcome state r.0 (outcome_of schema capacity state r.0 r.1)) q in
+      let next : after_entry schema capacity state p ≡ after_entry schema capacity state e = ap (λ (r : ℕ × Statement). after_effect state r.0 (effect_of_unit schema capacity state r.0 r.1)) q in
       let s_behind : statements_of (past ++ entry ∷ []) ≡ asked (before ++ here ∷ []) = cc (s) in
       let t_behind : statements_of history ≡ asked (before ++ here ∷ behind) = cc (t) in
       not_so (after_entry schema capacity state e) before past history (subst (λ (x : State). AnswersHold schema capacity x (past ++ entry ∷ [])) next h.1) g.1 s_behind t_behind (and_parts _ _ so).1
@@ -265,7 +265,7 @@ module _ (schema : Lists) (capacity : ℕ) where
   together state (x ∷ load) xs ys (p ∷ made) [] h g s t = absurd (cc (t))
   together state (x ∷ load) xs ys (p ∷ made) (e ∷ history) h g s t =
       let q : ◌≡◌ {A = ℕ × Statement} (p.unit, p.statement) (e.unit, e.statement) = cc (s, t) in
-      let next : after_entry schema capacity state p ≡ after_entry schema capacity state e = ap (λ (r : ℕ × Statement). after_outcome state r.0 (outcome_of schema capacity state r.0 r.1)) q in
+      let next : after_entry schema capacity state p ≡ after_entry schema capacity state e = ap (λ (r : ℕ × Statement). after_effect state r.0 (effect_of_unit schema capacity state r.0 r.1)) q in
       let s_behind : statements_of made ≡ load ++ xs = cc (s) in
       let t_behind : statements_of history ≡ load ++ ys = cc (t) in
       together (after_entry schema capacity state e) load xs ys made history (subst (λ (x : State). AnswersHold schema capacity x made) next h.1) g.1 s_behind t_behind

@@ -15,7 +15,7 @@ use crate::key::Value;
 use dbtg_schema::ItemNo;
 use std::cmp::Ordering;
 
-fn compare_value(a: &Value, b: &Value) -> Ordering
+fn value_cmp(a: &Value, b: &Value) -> Ordering
     ensures { result ≡ value_cmp a.now b.now }
 {
     match (a, b) {
@@ -27,13 +27,13 @@ fn compare_value(a: &Value, b: &Value) -> Ordering
 }
 
 // The first values that differ decide; if none do, the lengths.
-fn compare_values(a: &[Value], b: &[Value]) -> Ordering
+fn values_cmp(a: &[Value], b: &[Value]) -> Ordering
     ensures { result ≡ slice_cmp value_cmp a.now b.now }
 {
     for (i, x) in a.iter().enumerate() {
         match b.get(i) {
             None => return Ordering::Greater,
-            Some(y) => match compare_value(x, y) {
+            Some(y) => match value_cmp(x, y) {
                 Ordering::Less => return Ordering::Less,
                 Ordering::Greater => return Ordering::Greater,
                 Ordering::Equal => {}
@@ -51,8 +51,8 @@ fn compare_item(items: &[Value], item: ItemNo, value: &Value) -> Ordering
     ensures { result ≡ value_cmp (slice_index_or items.now item (Value.Num 0)) value.now }
 {
     match items.get(item.index() as usize) {
-        Some(own) => compare_value(own, value),
-        None => compare_value(&Value::Num(0), value),
+        Some(own) => value_cmp(own, value),
+        None => value_cmp(&Value::Num(0), value),
     }
 }
 
@@ -105,11 +105,7 @@ fn is_past(by_values: Ordering, number: u32, other: u32) -> bool
 fn is_behind(numbers: &[Number], values: &[Value], number: u32, other: u32) -> bool
     ensures { result ≡ is_behind numbers.now (values.now, number) other }
 {
-    is_past(
-        compare_values(values, values_at(numbers, other)),
-        number,
-        other,
-    )
+    is_past(values_cmp(values, values_at(numbers, other)), number, other)
 }
 
 // The place of the first number after this place, or the length.

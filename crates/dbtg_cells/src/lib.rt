@@ -19,14 +19,14 @@ mod value;
 
 pub use cell::Cell;
 pub use extent::{Extent, Number};
-pub use key::{DbKey, Owner, Value, key_below, owner_below, same_key, same_owner};
+pub use key::{DbKey, Owner, Value, key_below, key_eq, owner_below, owner_eq};
 pub use laws::{a_cell_stands_at_its_number, cells_have_numbers, each_cell_stands_once};
 pub use limits::LAST_GENERATION;
-pub use name::{CellName, name_below, same_name};
+pub use name::{CellName, name_below, name_eq};
 pub use numbering::{Layout, cell_count, cell_number, is_cell};
 pub use ring::{Occurrence, Ring};
 pub use slot::{Slot, Stored};
 pub use usage::{Mode, Usage};
 pub use value::{
-    copy_items, same_sort_key, same_value, same_values, sort_key_below, stands_before, value_below,
+    comes_before, copy_items, option_value_eq, sort_key_below, value_below, value_eq, values_eq,
 };

@@ -10,8 +10,8 @@ ghost use Rattle.dbtg_cells.specs.Members.{has_sort_key as is_taken_by};
 ghost use Rattle.dbtg_cells.specs.Inside.Chain.{follow, neighbour, read};
 ghost use Rattle.dbtg_cells.specs.Inside.Links.{put_if, with_next, with_prior, linked_in, linked_out};
 
-use crate::key::{DbKey, Value, is_of_type, is_other};
-use crate::value::{same_sort_key, same_value};
+use crate::key::{DbKey, Value, has_type, is_other};
+use crate::value::{option_value_eq, value_eq};
 use dbtg_schema::RecordNo;
 use slab::Slab;
 use std::alloc::{AllocError, Global};
@@ -113,7 +113,7 @@ pub(crate) fn first_along(
             Some(i) => match nodes.get(i) {
                 None => return None,
                 Some(node) => {
-                    if is_of_type(rtype, node.member.0) {
+                    if has_type(rtype, node.member.0) {
                         return Some(node.member.0);
                     }
                     at = node.neighbour(direction);
@@ -128,7 +128,7 @@ pub(crate) fn first_along(
 fn count_of(rtype: &Option<RecordNo>, key: DbKey) -> u32
     ensures { result ≡ cond (has_type rtype.now key) 1 0 }
 {
-    if is_of_type(rtype, key) { 1 } else { 0 }
+    if has_type(rtype, key) { 1 } else { 0 }
 }
 
 // The n-th of a record type, or of any, from 0, from a node on in this direction.
@@ -193,7 +193,7 @@ pub(crate) fn find_along(
 pub(crate) fn has_sort_key(own: &Option<Value>, sort: &Value) -> bool
     ensures { result ≡ some_and (value_eq sort.now) own.now }
 {
-    own.as_ref().is_some_and(|own| same_value(sort, own))
+    own.as_ref().is_some_and(|own| value_eq(sort, own))
 }
 
 // Whether a node has this sort key, other than the one that is left out.
@@ -213,7 +213,7 @@ pub(crate) fn is_taken_along(
             Some(i) => match nodes.get(i) {
                 None => return false,
                 Some(node) => {
-                    if takes(&node.member, sort, left_out) {
+                    if is_taken_by(&node.member, sort, left_out) {
                         return true;
                     }
                     at = node.next;
@@ -224,14 +224,14 @@ pub(crate) fn is_taken_along(
     false
 }
 
-pub(crate) fn takes(
+pub(crate) fn is_taken_by(
     member: &(DbKey, Option<Value>),
     sort: &Option<Value>,
     left_out: &Option<DbKey>,
 ) -> bool
     ensures { result ≡ is_taken_by left_out.now sort.now member.now }
 {
-    is_other(left_out, member.0) && same_sort_key(&member.1, sort)
+    is_other(left_out, member.0) && option_value_eq(&member.1, sort)
 }
 
 // The keys, from a node on in this direction.

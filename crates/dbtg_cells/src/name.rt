@@ -25,7 +25,7 @@ impl Default for CellName {
 }
 
 /// Whether two names are the same.
-pub fn same_name(a: CellName, b: CellName) -> bool
+pub fn name_eq(a: CellName, b: CellName) -> bool
     ensures { result ≡ name_eq a b }
 {
     a == b

@@ -105,7 +105,7 @@ impl Usage {
     }
 
     /// The mode in which a run-unit has the area open.
-    pub fn mode_of(&self, unit: u8) -> Option<Mode>
+    pub fn mode_in(&self, unit: u8) -> Option<Mode>
         ensures { result ≡ mode_in self.now.users unit }
     {
         for e in self.users.iter() {

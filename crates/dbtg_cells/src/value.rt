@@ -19,7 +19,7 @@ pub fn copy_items(items: &Row<Value>, alloc: Global) -> Result<Row<Value>, Alloc
     Ok(Row::of(copy))
 }
 
-fn same_bytes(a: &[u8], b: &[u8]) -> bool
+fn bytes_same(a: &[u8], b: &[u8]) -> bool
     ensures { result ≡ bytes_same a.now b.now }
 {
     a == b
@@ -42,12 +42,12 @@ fn bytes_below(a: &[u8], b: &[u8]) -> bool
 }
 
 /// Whether two values are the same. A number is never the same as a text.
-pub fn same_value(a: &Value, b: &Value) -> bool
+pub fn value_eq(a: &Value, b: &Value) -> bool
     ensures { result ≡ value_eq a.now b.now }
 {
     match (a, b) {
         (Value::Num(m), Value::Num(n)) => *m == *n,
-        (Value::Text(s), Value::Text(t)) => same_bytes(s.as_slice(), t.as_slice()),
+        (Value::Text(s), Value::Text(t)) => bytes_same(s.as_slice(), t.as_slice()),
         _ => false,
     }
 }
@@ -64,14 +64,14 @@ pub fn value_below(a: &Value, b: &Value) -> bool
 }
 
 /// Whether two lists of values are the same.
-pub fn same_values(a: &[Value], b: &[Value]) -> bool
+pub fn values_eq(a: &[Value], b: &[Value]) -> bool
     ensures { result ≡ values_eq a.now b.now }
 {
     if a.len() != b.len() {
         return false;
     }
     for (i, x) in a.iter().enumerate() {
-        if !same_value(x, &b[i]) {
+        if !value_eq(x, &b[i]) {
             return false;
         }
     }
@@ -79,11 +79,11 @@ pub fn same_values(a: &[Value], b: &[Value]) -> bool
 }
 
 /// Whether both sort keys are there, and are the same.
-pub fn same_sort_key(a: &Option<Value>, b: &Option<Value>) -> bool
+pub fn option_value_eq(a: &Option<Value>, b: &Option<Value>) -> bool
     ensures { result ≡ option_value_eq a.now b.now }
 {
     match (a, b) {
-        (Some(x), Some(y)) => same_value(x, y),
+        (Some(x), Some(y)) => value_eq(x, y),
         _ => false,
     }
 }
@@ -105,7 +105,7 @@ pub fn sort_key_below(ascending: bool, a: &Option<Value>, b: &Option<Value>) -> 
 }
 
 /// Whether a member with sort key `x` comes before a new one with sort key `new`.
-pub fn stands_before(
+pub fn comes_before(
     ascending: bool,
     duplicates: Duplicates,
     x: &Option<Value>,

@@ -120,7 +120,7 @@ pub fn fault_topic(kind: Kind, number: u16) -> Option<Topic>
     Some(Topic::Fault { kind, fault })
 }
 
-fn kind_of(word: &str) -> Option<Kind>
+fn kind_in(word: &str) -> Option<Kind>
     ensures { result ≡ kind_in word.now }
 {
     if word == "schema" {
@@ -147,7 +147,7 @@ pub fn topic_of(words: &[&str]) -> Option<Topic>
     match words {
         [] => Some(Topic::All),
         [code] if code.len() == 4 => status_topic(number_in(code.as_bytes(), 9999)?),
-        [kind, number] => fault_topic(kind_of(kind)?, number_in(number.as_bytes(), 99)?),
+        [kind, number] => fault_topic(kind_in(kind)?, number_in(number.as_bytes(), 99)?),
         _ => None,
     }
 }

@@ -22,7 +22,7 @@ pub struct Wished {
 }
 
 // The status of four digits.
-fn status_of_word(word: &str) -> Option<u16>
+fn status_in(word: &str) -> Option<u16>
     ensures { result ≡ status_in word.now }
 {
     let digits = word.as_bytes();
@@ -42,7 +42,7 @@ pub fn wish_of(never: bool, place: &str, status: &str) -> Option<Wished>
     let word = place.as_bytes();
     let unit = count_in_digits(in_front(word, b'.'), MOST_UNITS as u64)?;
     let place = count_in_digits(behind(word, b'.'), MOST_STATEMENTS as u64)?;
-    let status = status_of_word(status)?;
+    let status = status_in(status)?;
     Some(Wished {
         never,
         unit,

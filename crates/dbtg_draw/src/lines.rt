@@ -93,7 +93,7 @@ fn push_item_names(out: &mut Vec<u8>, items: &[Item], numbers: &[ItemNo]) -> Res
     }
 }
 
-fn allowed_words(allowed: bool) -> &'static [u8]
+fn allowed_text(allowed: bool) -> &'static [u8]
     ensures { result.now ≡ allowed_text allowed }
 {
     if allowed { b") DA" } else { b") DN" }
@@ -105,11 +105,11 @@ pub fn push_calc(out: &mut Vec<u8>, items: &[Item], calc: &Calc) -> Result<(), A
 {
     out.extend_from_slice(b"CALC (")?;
     push_item_names(out, items, calc.items.as_slice())?;
-    out.extend_from_slice(allowed_words(calc.duplicates_allowed))
+    out.extend_from_slice(allowed_text(calc.duplicates_allowed))
 }
 
 /// How a record becomes a member and may cease to be one.
-pub fn class_words(class: Class) -> &'static [u8]
+pub fn class_text(class: Class) -> &'static [u8]
     ensures { result.now ≡ class_text class }
 {
     match class {
@@ -125,10 +125,10 @@ pub fn push_member(out: &mut Vec<u8>, set: &SetType, member: &Member) -> Result<
     ensures { OnOk result (out.new.items ≡ out.old.items ++ member_text set.now member.now) }
 {
     out.extend_from_slice(set.name.as_slice())?;
-    out.extend_from_slice(class_words(member.class))
+    out.extend_from_slice(class_text(member.class))
 }
 
-fn direction_words(ascending: bool) -> &'static [u8]
+fn direction_text(ascending: bool) -> &'static [u8]
     ensures { result.now ≡ direction_text ascending }
 {
     if ascending {
@@ -138,7 +138,7 @@ fn direction_words(ascending: bool) -> &'static [u8]
     }
 }
 
-fn duplicates_words(duplicates: Duplicates) -> &'static [u8]
+fn duplicates_text(duplicates: Duplicates) -> &'static [u8]
     ensures { result.now ≡ duplicates_text duplicates }
 {
     match duplicates {
@@ -184,9 +184,9 @@ pub fn push_order(
             ascending,
             duplicates,
         } => {
-            out.extend_from_slice(direction_words(ascending))?;
+            out.extend_from_slice(direction_text(ascending))?;
             push_key(out, schema, member)?;
-            out.extend_from_slice(duplicates_words(duplicates))
+            out.extend_from_slice(duplicates_text(duplicates))
         }
     }
 }

@@ -4,7 +4,7 @@ ghost use Rattle.dbtg_draw.specs.Listing.{area_line, behind_comma, listed_calc, 
 ghost use Rattle.std.specs.List.{flat_map};
 ghost use Rattle.std.specs.Prelude.{◌≡◌, ◌++◌, IfOk, OnOk, option_map};
 
-use crate::lines::{area_name, class_words, push_calc, push_item, push_order, type_name};
+use crate::lines::{area_name, class_text, push_calc, push_item, push_order, type_name};
 use dbtg_schema::{Area, Calc, Item, Member, RecordNo, RecordType, Schema, SetType};
 use std::alloc::{AllocError, Global};
 
@@ -103,7 +103,7 @@ fn push_listed_member(
 {
     out.extend_from_slice(b", MEMBER ")?;
     out.extend_from_slice(type_name(schema, member.rtype))?;
-    out.extend_from_slice(class_words(member.class))?;
+    out.extend_from_slice(class_text(member.class))?;
     out.push(b' ')?;
     push_order(out, schema, set.order, member)
 }

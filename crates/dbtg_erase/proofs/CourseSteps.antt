@@ -17,7 +17,7 @@ use Rattle.dbtg_unit.specs.Hands.Hands.{Hands}
 use Rattle.dbtg_unit.proofs.Public.{with_those_extends}
 use Rattle.dbtg_erase.specs.declared.course.Course.{Course}
 use Rattle.dbtg_erase.specs.declared.names.Names.{Names}
-use Rattle.dbtg_erase.specs.Course.{AreOfMembers, AroundKept, IsCourse, MembersKept}
+use Rattle.dbtg_erase.specs.Course.{AreOfMembers, AroundFits, IsCourse, MembersFit}
 use Rattle.dbtg_erase.specs.NextCell.{first_missing, is_missing}
 use Rattle.dbtg_erase.specs.WorkList.{cells_of_gone, gone_in, members_in_hand, most_gone, taken_in}
 use Rattle.dbtg_erase.proofs.Bringing.{find_first, find_second, in_two, past, prefix, stable}
@@ -118,8 +118,8 @@ module _ (schema : Lists) (capacity : ℕ) (hands : Hands) (option : Erase) (k :
           within = omega arith;
           gone = gone_is ∙ sym once ∙ ap (λ n. brought taken n 0 (k ∷ [])) (sym done_is);
           cells = passed_over (take new.done new.gone) (d ∷ []) front ∙ ap (first_missing hands) (append-nil (cells_of_gone schema hands d)) ∙ none;
-          members = subst (MembersKept schema hands (slice_get new.gone new.done)) (sym members_is) tt;
-          around = subst (AroundKept schema capacity hands option k new.gone) (sym around_is) tt;
+          members = subst (MembersFit schema hands (slice_get new.gone new.done)) (sym members_is) tt;
+          around = subst (AroundFits schema capacity hands option k new.gone) (sym around_is) tt;
         }
 
   -- none is left that would bring others

@@ -17,7 +17,7 @@ use Rattle.dbtg_cells.specs.Keys.{is_member, key_eq}
 use Rattle.dbtg_cells.specs.Names.{name_eq}
 use Rattle.dbtg_cells.proofs.Public.{either_way, key_eq_refl, map_twice, same_key, same_name}
 use Rattle.dbtg_unit.proofs.Public.{In, after_delete, all_at, all_from, all_in, any_element, any_in, filter_agrees, flat_map_agrees, in_filter, in_flat_map, in_left, in_map, in_range, in_right, is_taken_out, left_are_taken_out, listed_has_occurrence, map_same, member_in, member_of_owner, members_in_hand as members_are, met_are_live, names_once_complete, of_append, of_filter, of_flat_map, of_map, own_checks_agree, owner_in as among_owners, owner_in_hand, same_record, version_in_hand, version_left, with_those_pass}
-use Rattle.dbtg_unit.specs.Database.Statements.View.{whole}
+use Rattle.dbtg_unit.specs.Database.Statements.StoredFacts.{whole}
 use Rattle.dbtg_unit.specs.declared.edit.CellEdit.{CellEdit}
 use Rattle.dbtg_unit.specs.declared.edit.Edit.TheVariants.{ChangeOwner, CloseRing, RaiseVersion, TakeOut, Vacate}
 use Rattle.dbtg_unit.specs.declared.edit.UnitEdit.TheVariants.{LoseCurrent}

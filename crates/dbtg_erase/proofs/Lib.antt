@@ -15,6 +15,6 @@ mod OuterCells
 mod NextCell
 mod NextNeed
 mod DeleteDetermined
-mod CourseKept
+mod CourseStays
 mod CourseSteps
 pub mod Public

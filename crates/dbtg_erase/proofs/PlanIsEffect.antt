@@ -7,7 +7,7 @@ use Rattle.dbtg_schema.specs.Lookups.{first_cause}
 use Rattle.dbtg_cells.specs.declared.key.DbKey.{DbKey}
 use Rattle.dbtg_cells.specs.declared.key.Owner.{Owner}
 use Rattle.dbtg_cells.specs.declared.name.CellName.{CellName}
-use Rattle.dbtg_unit.specs.Database.Statements.View.{whole}
+use Rattle.dbtg_unit.specs.Database.Statements.StoredFacts.{whole}
 use Rattle.dbtg_unit.specs.declared.edit.CellEdit.{CellEdit}
 use Rattle.dbtg_unit.specs.declared.statement.Erase.{Erase}
 use Rattle.dbtg_unit.specs.declared.statement.Statement.{Statement}
@@ -21,7 +21,7 @@ use Rattle.dbtg_unit.specs.Database.Statements.Checks.{delete_checks, own_checks
 use Rattle.dbtg_unit.specs.Database.Statements.Conditions.{has_members, is_plain}
 use Rattle.dbtg_unit.specs.Hands.Edits.{edited_at}
 use Rattle.dbtg_unit.specs.Hands.EditsOf.{delete_edits, edits_of_current}
-use Rattle.dbtg_unit.specs.Database.Statements.Effect.{Outcome, deleted, effect, effect_on_cells, refused, unless_refused}
+use Rattle.dbtg_unit.specs.Database.Statements.Effect.{StatementEffect, deleted, effect, effect_on_cells, refused, unless_refused}
 use Rattle.dbtg_unit.proofs.Public.{In, MayPlan, every_effect_is_its_edits, first_check_passes, legal_after, on_current, passes_append, passes_check, prepared_has_all}
 use Rattle.dbtg_unit.specs.Hands.Erasing.{delete_cells, delete_cells_of}
 use Rattle.dbtg_unit.specs.Hands.Guesses.{guesses_after}
@@ -37,10 +37,10 @@ use Rattle.dbtg_erase.proofs.ErasePlan.{checks_are, edits_are, edits_held, kept_
 refusal_is_effect : (schema : Lists) (capacity : ℕ) (db : Database) (unit : Unit) (guesses : List (Option Owner)) (statement : Statement) (cause : Cause)
     → effect schema capacity db unit statement ≡ refused db unit cause → IsEffect schema capacity db unit guesses statement (refusal cause)
 refusal_is_effect schema capacity db unit guesses statement cause e = record {
-  answer = sym (ap (λ (o : Outcome). o.answer) e);
-  unit_is = sym (ap (λ (o : Outcome). o.unit) e);
+  answer = sym (ap (λ (o : StatementEffect). o.answer) e);
+  unit_is = sym (ap (λ (o : StatementEffect). o.unit) e);
   guesses_are = sym (ap (guesses_after schema capacity statement guesses) e);
-  cells = λ c. ap (λ (o : Outcome). cell schema capacity o.database c) e;
+  cells = λ c. ap (λ (o : StatementEffect). cell schema capacity o.database c) e;
 }
 
 effect_is : (schema : Lists) (capacity : ℕ) (db : Database) (unit : Unit) (statement : Statement)
@@ -65,22 +65,22 @@ passed schema capacity db unit option k h =
 
 module _ (schema : Lists) (capacity : ℕ) (unit : Unit) (hands : Hands) (option : Erase) (may : MayPlan schema capacity unit hands (Delete option)) where
   module _ (db : Database) (agrees : Agrees schema capacity db hands unit) where
-    abbrev result : Outcome
+    abbrev result : StatementEffect
     result = effect schema capacity db unit (Delete option)
 
     done_is_effect : (k : DbKey) → unit.currency.run_unit ≡ Some k → result ≡ deleted schema capacity db unit option k
         → ((c : CellName) → In c (delete_cells_of schema capacity db unit option (Some k)) → holds hands.cells c ≡ true) → Passed schema capacity db unit option k
         → IsEffect schema capacity db unit hands.guesses (Delete option) (erasing_plan schema hands (gone_in schema capacity hands option k) k)
     done_is_effect k current e has p = record {
-      answer = sym (ap (λ (o : Outcome). o.answer) e);
+      answer = sym (ap (λ (o : StatementEffect). o.answer) e);
       unit_is =
           ap (λ kept. record unit { currency = record unit.currency { run_unit = None }; kept = forgotten k kept }) (kept_are schema capacity db hands unit agrees option k has p.own p.none p.live)
-          ∙ sym (ap (λ (o : Outcome). o.unit) e);
+          ∙ sym (ap (λ (o : StatementEffect). o.unit) e);
       guesses_are = sym (ap (guesses_after schema capacity (Delete option) hands.guesses) e);
       cells = λ c.
           every_effect_is_its_edits schema capacity db unit (Delete option) agrees.legal
           (legal_after schema capacity db unit hands may.sound may.of_schema may.within (Delete option) may.fits agrees)
-          (ap (λ (o : Outcome). o.answer.status) e) c
+          (ap (λ (o : StatementEffect). o.answer.status) e) c
           ∙ ap (λ r. edited_at c (edits_of_current r (delete_edits schema capacity db option)) (cell schema capacity db c)) current
           ∙ ap (λ es. edited_at c es (cell schema capacity db c)) (edits_are schema capacity db hands unit agrees option k has p.own p.none p.live);
     }

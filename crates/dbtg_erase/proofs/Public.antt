@@ -3,10 +3,10 @@
 -- WHAT IS KEPT OF A COURSE
 
 -- with more in hand, what is kept is right
-pub use Rattle.dbtg_erase.proofs.CourseKept.{kept_stays}
+pub use Rattle.dbtg_erase.proofs.CourseStays.{kept_stays}
 -- nothing kept is right
-pub use Rattle.dbtg_erase.proofs.CourseKept.{nothing_kept}
+pub use Rattle.dbtg_erase.proofs.CourseStays.{nothing_kept}
 -- hands with one cell more have all that they had
-pub use Rattle.dbtg_erase.proofs.CourseKept.{one_more_cell}
+pub use Rattle.dbtg_erase.proofs.CourseStays.{one_more_cell}
 -- hands with the same cells have all of them
-pub use Rattle.dbtg_erase.proofs.CourseKept.{same_cells}
+pub use Rattle.dbtg_erase.proofs.CourseStays.{same_cells}

@@ -31,14 +31,14 @@ pub record AreAround (schema : Lists) (hands : Hands) (gone : List DbKey) (names
   pub passed : ArePassed hands names
 
 -- the names that are kept of the members of the next record
-abbrev pub MembersKept : Lists → Hands → Option DbKey → Option Names → Type 0
-MembersKept schema hands d None = ⊤
-MembersKept schema hands d (Some names) = (k : DbKey) → d ≡ Some k → AreOfMembers schema hands k names
+abbrev pub MembersFit : Lists → Hands → Option DbKey → Option Names → Type 0
+MembersFit schema hands d None = ⊤
+MembersFit schema hands d (Some names) = (k : DbKey) → d ≡ Some k → AreOfMembers schema hands k names
 
 -- the names that are kept of the cells around; all records that go are met, and their cells are held
-abbrev pub AroundKept : Lists → ℕ → Hands → Erase → DbKey → List DbKey → Option Names → Type 0
-AroundKept schema capacity hands option k gone None = ⊤
-AroundKept schema capacity hands option k gone (Some names) =
+abbrev pub AroundFits : Lists → ℕ → Hands → Erase → DbKey → List DbKey → Option Names → Type 0
+AroundFits schema capacity hands option k gone None = ⊤
+AroundFits schema capacity hands option k gone (Some names) =
     (gone ≡ gone_in schema capacity hands option k)
     × (first_missing hands (flat_map (cells_of_gone schema hands) gone) ≡ None)
     × AreAround schema hands gone names
@@ -50,15 +50,15 @@ pub record IsCourse (schema : Lists) (capacity : ℕ) (hands : Hands) (option : 
   pub within : course.done ≤ length course.gone
   pub gone : course.gone ≡ brought (taken_in schema hands option) course.done 0 (k ∷ [])
   pub cells : first_missing hands (flat_map (cells_of_gone schema hands) (take course.done course.gone)) ≡ None
-  pub members : MembersKept schema hands (slice_get course.gone course.done) course.members
-  pub around : AroundKept schema capacity hands option k course.gone course.around
+  pub members : MembersFit schema hands (slice_get course.gone course.done) course.members
+  pub around : AroundFits schema capacity hands option k course.gone course.around
 
 -- what is kept of a DELETE of k; nothing before it began
-abbrev pub IsKeptFor : Lists → ℕ → Hands → Erase → DbKey → Option Course → Type 0
-IsKeptFor schema capacity hands option k None = ⊤
-IsKeptFor schema capacity hands option k (Some course) = IsCourse schema capacity hands option k course
+abbrev pub IsCourseIfBegun : Lists → ℕ → Hands → Erase → DbKey → Option Course → Type 0
+IsCourseIfBegun schema capacity hands option k None = ⊤
+IsCourseIfBegun schema capacity hands option k (Some course) = IsCourse schema capacity hands option k course
 
 -- for a DELETE of the current of run-unit. Callers know no more of it than the public lemmas say: nothing kept is right, and what is
 -- kept stays right while more cells are taken
-unfoldable pub IsKept : Lists → ℕ → Hands → Unit → Erase → Option Course → Type 0
-IsKept schema capacity hands unit option course = (k : DbKey) → unit.currency.run_unit ≡ Some k → IsKeptFor schema capacity hands option k course
+unfoldable pub IsCourseOfCurrent : Lists → ℕ → Hands → Unit → Erase → Option Course → Type 0
+IsCourseOfCurrent schema capacity hands unit option course = (k : DbKey) → unit.currency.run_unit ≡ Some k → IsCourseIfBegun schema capacity hands option k course

@@ -12,7 +12,7 @@ ghost use Rattle.dbtg_erase.specs.NextCell.{outer_names};
 use crate::names::{Names, add};
 use dbtg_cells::{CellName, DbKey, Owner, name_below};
 use dbtg_schema::{Schema, SetNo};
-use dbtg_unit::{Held, owner_of, ring_name, set_count};
+use dbtg_unit::{Held, owner_in, ring_name, set_count};
 use std::alloc::{AllocError, Global};
 use std::cmp::Ordering;
 
@@ -38,7 +38,7 @@ fn push_rings(
 {
     for s in 0..set_count(schema) {
         let set = SetNo::new(s);
-        push_ring(set, owner_of(held, set, key), names)?;
+        push_ring(set, owner_in(held, set, key), names)?;
     }
     Ok(())
 }

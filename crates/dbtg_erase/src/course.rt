@@ -6,7 +6,7 @@ ghost use Rattle.dbtg_unit.specs.declared.statement.Erase.{Erase};
 ghost use Rattle.dbtg_unit.specs.Database.State.CellNames.{slot_name};
 ghost use Rattle.dbtg_unit.specs.Hands.Erasing.{own_rings, with_those};
 ghost use Rattle.dbtg_unit.specs.Hands.Hands.{Hands};
-ghost use Rattle.dbtg_erase.specs.Course.{AreOfMembers, IsCourse, MembersKept};
+ghost use Rattle.dbtg_erase.specs.Course.{AreOfMembers, IsCourse, MembersFit};
 ghost use Rattle.dbtg_erase.specs.NextCell.{first_missing};
 ghost use Rattle.dbtg_erase.specs.Inside.NextCell.{next_of_gone};
 ghost use Rattle.dbtg_erase.specs.WorkList.{cells_of_gone, gone_in, taken_in};
@@ -78,9 +78,9 @@ fn next_of_record(
     key: &DbKey,
     members: &mut Option<Names>,
 ) -> Result<Option<CellName>, AllocError>
-    requires { MembersKept schema.now held.now (Some key.now) members.old }
+    requires { MembersFit schema.now held.now (Some key.now) members.old }
     ensures next { IfOk result (λ name. name ≡ first_missing held.now (cells_of_gone schema.now held.now key.now)) }
-    ensures kept { OnOk result (MembersKept schema.now held.now (Some key.now) members.new) }
+    ensures kept { OnOk result (MembersFit schema.now held.now (Some key.now) members.new) }
 {
     if let Some(names) = members {
         return Ok(names.next(held));

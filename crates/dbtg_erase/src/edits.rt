@@ -13,7 +13,7 @@ use crate::keys::Keys;
 use dbtg_cells::{CellName, DbKey, Owner};
 use dbtg_schema::{Row, Schema, SetNo};
 use dbtg_unit::{
-    CellEdit, Edit, Erased, Held, entry_at, owner_of, owners_of, push_taking_out, set_count,
+    CellEdit, Edit, Erased, Held, entry_at, owner_in, owners_of, push_taking_out, set_count,
 };
 use std::alloc::{AllocError, Global};
 
@@ -36,7 +36,7 @@ fn is_gone(gone: &Keys, owner: &Owner) -> bool
 }
 
 // An owner, if it does not go.
-fn staying(gone: &Keys, owner: Option<Owner>) -> Option<Owner>
+fn staying_owner(gone: &Keys, owner: Option<Owner>) -> Option<Owner>
     ensures { result ≡ staying_owner gone.now owner }
 {
     match owner {
@@ -73,7 +73,7 @@ fn leave_lists(
 {
     let owners = owners_of(held, key);
     for s in 0..set_count(schema) {
-        let owner = staying(gone, entry_at(owners, s as usize));
+        let owner = staying_owner(gone, entry_at(owners, s as usize));
         push_taking_out(edits, SetNo::new(s), owner, key)?;
     }
     Ok(())
@@ -127,7 +127,7 @@ fn lose_owner(
 ) -> Result<(), AllocError>
     ensures { OnOk result (edits.new ≡ edits.old ++ map (lose_owner key.now) (filter (λ s. some_and (is_gone gone.now) (owner_in held.now s key.now)) (set ∷ []))) }
 {
-    if is_lost(gone, owner_of(held, set, key)) {
+    if is_lost(gone, owner_in(held, set, key)) {
         push_slot_edit(key, Edit::ChangeOwner { set, owner: None }, edits)?;
     }
     Ok(())

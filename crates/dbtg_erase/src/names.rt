@@ -15,7 +15,7 @@ pub(crate) struct Names {
     pub(crate) passed: usize,
 }
 
-pub(crate) fn is_held(held: &Held, name: &CellName) -> bool
+pub(crate) fn holds(held: &Held, name: &CellName) -> bool
     ensures { result ≡ holds held.now.cells name.now }
 {
     match held.cell(name) {
@@ -28,11 +28,7 @@ pub(crate) fn is_held(held: &Held, name: &CellName) -> bool
 pub(crate) fn missing(held: &Held, name: CellName) -> Option<CellName>
     ensures { result ≡ first_missing held.now (name ∷ []) }
 {
-    if is_held(held, &name) {
-        None
-    } else {
-        Some(name)
-    }
+    if holds(held, &name) { None } else { Some(name) }
 }
 
 /// Appends a name.
@@ -50,7 +46,7 @@ fn place_of_missing(held: &Held, names: &[CellName], passed: usize) -> usize
     ensures first { slice_get names.now result ≡ first_missing held.now names.now }
 {
     for place in passed..names.len() {
-        if !is_held(held, &names[place]) {
+        if !holds(held, &names[place]) {
             return place;
         }
     }

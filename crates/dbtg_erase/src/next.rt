@@ -14,12 +14,12 @@ ghost use Rattle.dbtg_unit.specs.Hands.Hands.{Hands};
 ghost use Rattle.dbtg_unit.specs.Hands.Local.{Agrees};
 ghost use Rattle.dbtg_unit.specs.Hands.NeedOrder.{IsAbove, IsInHeldArea, IsInTurn};
 ghost use Rattle.dbtg_unit.specs.Hands.Needs.{areas_in_order, need};
-ghost use Rattle.dbtg_erase.specs.Course.{IsCourse, IsKept, IsKeptFor};
+ghost use Rattle.dbtg_erase.specs.Course.{IsCourse, IsCourseOfCurrent, IsCourseIfBegun};
 ghost use Rattle.dbtg_erase.specs.Inside.NextCell.{need_of, next_cell_in, next_cell_of, next_of_gone, next_of_passed, stops_at};
 ghost use Rattle.dbtg_erase.specs.WorkList.{gone_in};
 
 use crate::course::Course;
-use crate::names::{is_held, missing};
+use crate::names::{holds, missing};
 use crate::preparing::has_any;
 use dbtg_cells::{CellName, DbKey};
 use dbtg_schema::{Schema, SetNo};
@@ -33,8 +33,7 @@ fn stops_at(schema: &Schema, held: &Held, key: &DbKey, set: SetNo) -> bool
     ensures { result ≡ stops_at schema.now held.now key.now set }
 {
     if schema.owns(set, key.rtype) {
-        !is_held(held, &CellName::Ring(set, Some((key.rtype, key.number))))
-            || has_any(held, key, set)
+        !holds(held, &CellName::Ring(set, Some((key.rtype, key.number)))) || has_any(held, key, set)
     } else {
         false
     }
@@ -65,7 +64,7 @@ fn stop(schema: &Schema, held: &Held, option: Erase, key: &DbKey) -> Option<SetN
 
 // The progress that is kept, taken out, or a new one if none is.
 fn course_of(alloc: Global, key: &DbKey, course: &mut Option<Course>) -> Result<Course, AllocError>
-    ensures course { IfOk result (λ going. (schema : Lists) (capacity : ℕ) (hands : Hands) (option : Erase) → IsKeptFor schema capacity hands option key.now course.old → IsCourse schema capacity hands option key.now going) }
+    ensures course { IfOk result (λ going. (schema : Lists) (capacity : ℕ) (hands : Hands) (option : Erase) → IsCourseIfBegun schema capacity hands option key.now course.old → IsCourse schema capacity hands option key.now going) }
     ensures out { course.new ≡ None }
 {
     match course.take() {
@@ -84,8 +83,8 @@ fn next_on_course(
     key: &DbKey,
     course: &mut Option<Course>,
 ) -> Result<Option<CellName>, AllocError>
-    requires kept { IsKeptFor schema.now capacity held.now option key.now course.old }
-    ensures kept { IsKeptFor schema.now capacity held.now option key.now course.new }
+    requires kept { IsCourseIfBegun schema.now capacity held.now option key.now course.old }
+    ensures kept { IsCourseIfBegun schema.now capacity held.now option key.now course.new }
     ensures next { IfOk result (λ name. name ≡ next_of_gone schema.now held.now (gone_in schema.now capacity held.now option key.now)) }
 {
     let mut going = course_of(alloc, key, course)?;
@@ -104,8 +103,8 @@ fn next_of_passed(
     key: &DbKey,
     course: &mut Option<Course>,
 ) -> Result<Option<CellName>, AllocError>
-    requires kept { IsKeptFor schema.now capacity held.now option key.now course.old }
-    ensures kept { IsKeptFor schema.now capacity held.now option key.now course.new }
+    requires kept { IsCourseIfBegun schema.now capacity held.now option key.now course.old }
+    ensures kept { IsCourseIfBegun schema.now capacity held.now option key.now course.new }
     ensures next { IfOk result (λ name. name ≡ next_of_passed schema.now capacity held.now option key.now) }
 {
     match stop(schema, held, option, key) {
@@ -125,8 +124,8 @@ fn next_cell(
     key: &DbKey,
     course: &mut Option<Course>,
 ) -> Result<Option<CellName>, AllocError>
-    requires kept { IsKeptFor schema.now capacity held.now option key.now course.old }
-    ensures kept { IsKeptFor schema.now capacity held.now option key.now course.new }
+    requires kept { IsCourseIfBegun schema.now capacity held.now option key.now course.old }
+    ensures kept { IsCourseIfBegun schema.now capacity held.now option key.now course.new }
     ensures next { IfOk result (λ name. name ≡ next_cell_in schema.now capacity held.now unit.now option key.now) }
 {
     if let Some(name) = missing(held, CellName::Slot(key.rtype, key.number)) {
@@ -138,7 +137,7 @@ fn next_cell(
     }
 }
 
-#[tactic(auto, using(crate::proofs::CourseKept::kept_of, crate::proofs::CourseKept::kept_by))]
+#[tactic(auto, using(crate::proofs::CourseStays::kept_of, crate::proofs::CourseStays::kept_by))]
 fn next_cell_of(
     alloc: Global,
     schema: &Schema,
@@ -148,8 +147,8 @@ fn next_cell_of(
     held: &Held,
     course: &mut Option<Course>,
 ) -> Result<Option<CellName>, AllocError>
-    requires kept { IsKept schema.now capacity held.now unit.now option course.old }
-    ensures kept { IsKept schema.now capacity held.now unit.now option course.new }
+    requires kept { IsCourseOfCurrent schema.now capacity held.now unit.now option course.old }
+    ensures kept { IsCourseOfCurrent schema.now capacity held.now unit.now option course.new }
     ensures next { IfOk result (λ name. name ≡ next_cell_of schema.now capacity held.now unit.now option unit.now.currency.run_unit) }
 {
     match &unit.currency.run_unit {
@@ -180,8 +179,8 @@ pub fn next_need(
     held: &Held,
     course: &mut Option<Course>,
 ) -> Result<Need, AllocError>
-    requires kept { IsKept schema.now capacity held.now unit.now option course.old }
-    ensures kept { IsKept schema.now capacity held.now unit.now option course.new }
+    requires kept { IsCourseOfCurrent schema.now capacity held.now unit.now option course.old }
+    ensures kept { IsCourseOfCurrent schema.now capacity held.now unit.now option course.new }
     ensures need { IfOk result (λ next. (db : Database) → Agrees schema.now capacity db held.now unit.now → next ≡ need schema.now capacity db unit.now held.now (Delete option)) }
     ensures above { IfOk result (λ next. (db : Database) → IsSound schema.now → Agrees schema.now capacity db held.now unit.now → IsInTurn schema.now capacity db unit.now (Delete option) held.now → IsAbove (Delete option) held.now next) }
     ensures in_area { IfOk result (λ next. (db : Database) → IsSound schema.now → IsUnitOf schema.now unit.now → Agrees schema.now capacity db held.now unit.now → IsInHeldArea schema.now held.now next) }
@@ -210,10 +209,10 @@ pub fn need_with_areas(
     held: &Held,
     course: &mut Option<Course>,
 ) -> Result<Need, AllocError>
-    requires kept { IsKept schema.now capacity held.now unit.now option course.old }
+    requires kept { IsCourseOfCurrent schema.now capacity held.now unit.now option course.old }
     requires passed { refused_at_once schema.now capacity unit.now (Delete option) ≡ None }
     requires areas { find (λ a. not (list_any (λ b. b == a) held.now.areas)) (areas_in_order schema.now unit.now (Delete option)) ≡ None }
-    ensures kept { IsKept schema.now capacity held.now unit.now option course.new }
+    ensures kept { IsCourseOfCurrent schema.now capacity held.now unit.now option course.new }
     ensures need { IfOk result (λ next. (db : Database) → Agrees schema.now capacity db held.now unit.now → next ≡ need schema.now capacity db unit.now held.now (Delete option)) }
 {
     let name = next_cell_of(alloc, schema, capacity, unit, option, held, course)?;

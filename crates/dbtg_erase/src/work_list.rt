@@ -9,9 +9,9 @@ ghost use Rattle.dbtg_unit.specs.Hands.Erasing.{with_those};
 ghost use Rattle.dbtg_erase.specs.WorkList.{elsewhere_in, gone_in, list_in, most_gone, taken_in, taken_of_set};
 
 use crate::keys::Keys;
-use dbtg_cells::{DbKey, Owner, same_owner};
+use dbtg_cells::{DbKey, Owner, owner_eq};
 use dbtg_schema::{Schema, SetNo};
-use dbtg_unit::{Erase, Held, occurrence, owner_of, set_count, type_count};
+use dbtg_unit::{Erase, Held, occurrence, owner_in, set_count, type_count};
 use std::alloc::{AllocError, Global};
 
 /// The members of a record's list of a set that is held.
@@ -34,7 +34,7 @@ fn is_other(set: SetNo, owner: Option<Owner>, own_set: SetNo, own: &DbKey) -> bo
     ensures { result ≡ some_and (λ o. not (set == own_set && owner_eq o (Rec own.now))) owner }
 {
     match owner {
-        Some(owner) => { !(set.index() == own_set.index() && same_owner(owner, Owner::Rec(*own))) }
+        Some(owner) => { !(set.index() == own_set.index() && owner_eq(owner, Owner::Rec(*own))) }
         None => false,
     }
 }
@@ -46,7 +46,7 @@ fn is_elsewhere(schema: &Schema, held: &Held, set: SetNo, own: &DbKey, member: &
 {
     for s in 0..set_count(schema) {
         let other = SetNo::new(s);
-        if is_other(other, owner_of(held, other, member), set, own) {
+        if is_other(other, owner_in(held, other, member), set, own) {
             return true;
         }
     }

@@ -7,9 +7,9 @@ use Rattle.dbtg_schema.specs.Lists.{Lists}
 use Rattle.dbtg_unit.specs.declared.statement.Statement.{Statement}
 use Rattle.dbtg_unit.specs.declared.unit.Answer.{Answer}
 use Rattle.dbtg_unit.specs.declared.unit.Entry.{Entry}
-use Rattle.dbtg_unit.specs.Database.Statements.Effect.{Outcome}
+use Rattle.dbtg_unit.specs.Database.Statements.Effect.{StatementEffect}
 use Rattle.dbtg_unit.specs.Database.Statements.Fits.{fits}
-use Rattle.dbtg_unit.specs.Database.Laws.Replay.{after, after_outcome, entries_of, opening_state, outcome_of}
+use Rattle.dbtg_unit.specs.Database.Laws.Replay.{after, after_effect, entries_of, opening_state, effect_of_unit}
 use Rattle.dbtg_unit.proofs.Public.{entries_mine, entries_other, replays_one_more}
 use Rattle.dbtg_program.specs.declared.program.Program.{Program}
 use Rattle.dbtg_program.specs.States.{ProgramState, beginning as program_beginning}
@@ -48,7 +48,7 @@ programs_then schema dues u answer (Some program) None = dues
 programs_then schema dues u answer None d = dues
 
 -- the state where the statement of unit u has had this outcome
-abbrev pub with_outcome : Meeting → MeetingState → ℕ → Option Outcome → MeetingState
+abbrev pub with_outcome : Meeting → MeetingState → ℕ → Option StatementEffect → MeetingState
 with_outcome m state u None = state
 with_outcome m state u (Some o) = record {
   sequential = after state.sequential u o;
@@ -58,7 +58,7 @@ with_outcome m state u (Some o) = record {
 -- where it is made
 abbrev pub with_made : Meeting → MeetingState → ℕ → Option Statement → MeetingState
 with_made m state u None = state
-with_made m state u (Some s) = with_outcome m state u (outcome_of m.schema m.capacity state.sequential u s)
+with_made m state u (Some s) = with_outcome m state u (effect_of_unit m.schema m.capacity state.sequential u s)
 
 -- the state after a turn of unit u
 abbrev pub state_then : Meeting → MeetingState → ℕ → MeetingState
@@ -153,13 +153,13 @@ module _ (m : Meeting) where
     by None found f = absurd cc
     by (Some p) found f = let d = due_by (comes m.schema p u history) s f in record { program = p; found = found; at = d.0; comes_is = d.1 }
 
-  made_state : (history : List Entry) (u : ℕ) (s : Statement) → IsDueOf history u s → (o : Option Outcome) → outcome_of m.schema m.capacity (sequential_after m history) u s ≡ o
-      → state_after m (turns.with_outcome history u s o) ≡ with_outcome m (state_after m history) u o
+  made_state : (history : List Entry) (u : ℕ) (s : Statement) → IsDueOf history u s → (o : Option StatementEffect) → effect_of_unit m.schema m.capacity (sequential_after m history) u s ≡ o
+      → state_after m (turns.with_effect_of history u s o) ≡ with_outcome m (state_after m history) u o
   made_state history u s d None is = refl
   made_state history u s d (Some o) is =
       let opening = opening_state m.schema (length m.programs) in
       let more = replays_one_more m.schema m.capacity opening history (entry history u s o.answer) in
-      let sequential : sequential_after m (history ++ entry history u s o.answer ∷ []) ≡ after (sequential_after m history) u o = more.state_is ∙ ap (after_outcome (sequential_after m history) u) is in
+      let sequential : sequential_after m (history ++ entry history u s o.answer ∷ []) ≡ after (sequential_after m history) u o = more.state_is ∙ ap (after_effect (sequential_after m history) u) is in
       let there : unit_at (state_after m history).programs u ≡ Some (comes m.schema d.program u history) = comes_at history u ∙ ap (option_map (λ (p : Program). comes m.schema p u history)) d.found in
       let programs : comes_of_each m (history ++ entry history u s o.answer ∷ []) 1 m.programs ≡ programs_then m.schema (state_after m history).programs u o.answer (unit_at m.programs u) (unit_at (state_after m history).programs u)
       = programs_are history u s o.answer d.program d.at d.found d.comes_is ∙ (λ i. programs_then m.schema (state_after m history).programs u o.answer (sym d.found i) (sym there i)) in
@@ -169,7 +169,7 @@ module _ (m : Meeting) where
   state_on history u = by (due_of m history u) refl ∙ ap (with_made m (state_after m history) u) (due_is history u) where
     by : (o : Option Statement) → due_of m history u ≡ o → state_after m (made m.schema m.capacity (length m.programs) history u o) ≡ with_made m (state_after m history) u o
     by None is = refl
-    by (Some s) is = made_state history u s (due_there history u s is) (outcome_of m.schema m.capacity (sequential_after m history) u s) refl
+    by (Some s) is = made_state history u s (due_there history u s is) (effect_of_unit m.schema m.capacity (sequential_after m history) u s) refl
 
   -- STATES WITH THE SAME ESSENCE GO ON ALIKE
 
@@ -178,7 +178,7 @@ module _ (m : Meeting) where
   programs_by dues u None = dues
   programs_by dues u (Some answer) = programs_then m.schema dues u answer (unit_at m.programs u) (unit_at dues u)
 
-  essence_then : (state : MeetingState) (u : ℕ) (q : Option Outcome) → essence (with_outcome m state u q) ≡ record { sequential = unordered (after_outcome state.sequential u q); programs = programs_by state.programs u (option_map (λ (o : Outcome). o.answer) q) }
+  essence_then : (state : MeetingState) (u : ℕ) (q : Option StatementEffect) → essence (with_outcome m state u q) ≡ record { sequential = unordered (after_effect state.sequential u q); programs = programs_by state.programs u (option_map (λ (o : StatementEffect). o.answer) q) }
   essence_then state u None = refl
   essence_then state u (Some o) = refl
 
@@ -186,9 +186,9 @@ module _ (m : Meeting) where
   made_alike x y u None e = e
   made_alike x y u (Some s) e =
       let step = steps_alike m.schema m.capacity x.sequential y.sequential u s (ap (λ (z : Essence). z.sequential) e) in
-      essence_then x u (outcome_of m.schema m.capacity x.sequential u s)
+      essence_then x u (effect_of_unit m.schema m.capacity x.sequential u s)
       ∙ (λ i. record { sequential = step.alike i; programs = programs_by (e i).programs u (step.answer i) })
-      ∙ sym (essence_then y u (outcome_of m.schema m.capacity y.sequential u s))
+      ∙ sym (essence_then y u (effect_of_unit m.schema m.capacity y.sequential u s))
 
   then_alike : (x y : MeetingState) (u : ℕ) → essence x ≡ essence y → essence (state_then m x u) ≡ essence (state_then m y u)
   then_alike x y u e = made_alike x y u (due_in m x.programs u) e ∙ ap (λ d. essence (with_made m y u d)) (ap (λ (s : Essence). due_in m s.programs u) e)

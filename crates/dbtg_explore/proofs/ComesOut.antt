@@ -10,9 +10,9 @@ use Rattle.dbtg_unit.specs.declared.moves.Move.{Move}
 use Rattle.dbtg_unit.specs.declared.statement.Statement.{Statement}
 use Rattle.dbtg_unit.specs.declared.unit.Entry.{Entry}
 use Rattle.dbtg_unit.specs.Database.State.Image.{image_of}
-use Rattle.dbtg_unit.specs.Database.Statements.Effect.{Outcome}
+use Rattle.dbtg_unit.specs.Database.Statements.Effect.{StatementEffect}
 use Rattle.dbtg_unit.specs.Database.Statements.Fits.{fits}
-use Rattle.dbtg_unit.specs.Database.Laws.Replay.{AnswersHold, TicketsInOrder, entries_of, opening_state, outcome_of, replay}
+use Rattle.dbtg_unit.specs.Database.Laws.Replay.{AnswersHold, TicketsInOrder, entries_of, opening_state, effect_of_unit, replay}
 use Rattle.dbtg_unit.proofs.Public.{In, all_at, answers_behind, element_at, entries_mine, entries_other, in_filter, in_left, in_map, in_right, opening_length, replays_one_more}
 use Rattle.dbtg_program.specs.declared.program.Program.{Program}
 use Rattle.dbtg_program.specs.States.{ProgramState, beginning as program_beginning}
@@ -105,7 +105,7 @@ module _ (m : Meeting) where
         let free : waits m before e.unit ≡ false = ap (λ es. waits m es e.unit) (sym (append-nil before)) ∙ l.waited [] rest e refl in
         ap (λ (o : Option Statement). is_some o && not (waits m before e.unit)) due_there ∙ ap not free
 
-    outcome_there : (o : Option Outcome) → outcome_of m.schema m.capacity (sequential_after m before) e.unit e.statement ≡ o → option_map (λ (o : Outcome). o.answer) o ≡ Some e.answer → turns.with_outcome before e.unit e.statement o ≡ before ++ e ∷ []
+    outcome_there : (o : Option StatementEffect) → effect_of_unit m.schema m.capacity (sequential_after m before) e.unit e.statement ≡ o → option_map (λ (o : StatementEffect). o.answer) o ≡ Some e.answer → turns.with_effect_of before e.unit e.statement o ≡ before ++ e ∷ []
     outcome_there None is h = absurd cc
     outcome_there (Some o) is h =
         let answer : o.answer ≡ e.answer = cc in
@@ -114,7 +114,7 @@ module _ (m : Meeting) where
 
     turn_made : after_turn m before e.unit ≡ before ++ e ∷ []
     unfolding AnswersHold
-    turn_made = ap (made m.schema m.capacity (length m.programs) before e.unit) due_there ∙ outcome_there (outcome_of m.schema m.capacity (sequential_after m before) e.unit e.statement) refl l.answers.0
+    turn_made = ap (made m.schema m.capacity (length m.programs) before e.unit) due_there ∙ outcome_there (effect_of_unit m.schema m.capacity (sequential_after m before) e.unit e.statement) refl l.answers.0
 
     goes_then : (u : ℕ) (p : Program) → unit_at m.programs u ≡ Some p → GoOn m.schema p (stands p u (before ++ e ∷ [])) (entries_of u rest)
     goes_then u p is = by (e.unit == u) refl where

@@ -8,9 +8,9 @@ use Rattle.dbtg_unit.specs.declared.limits.TheConstants.{MOST_STATEMENTS}
 use Rattle.dbtg_unit.specs.declared.statement.Statement.{Statement}
 use Rattle.dbtg_unit.specs.declared.unit.Entry.{Entry}
 use Rattle.dbtg_unit.specs.Database.State.Image.{Image, image_of}
-use Rattle.dbtg_unit.specs.Database.Statements.Effect.{Outcome}
+use Rattle.dbtg_unit.specs.Database.Statements.Effect.{StatementEffect}
 use Rattle.dbtg_unit.specs.Database.Statements.Fits.{fits}
-use Rattle.dbtg_unit.specs.Database.Laws.Replay.{State, after_entry, entries_of, opening_state, outcome_of, replay}
+use Rattle.dbtg_unit.specs.Database.Laws.Replay.{State, after_entry, entries_of, opening_state, effect_of_unit, replay}
 use Rattle.dbtg_unit.specs.Database.Laws.StaysLegal.{IsLegalState}
 use Rattle.dbtg_unit.proofs.Public.{opening_is_legal, opening_length, replay_keeps_legal}
 use Rattle.dbtg_program.specs.declared.program.End.TheVariants.{Stop, Assert, Size, Astray}
@@ -126,7 +126,7 @@ module _ (m : Meeting) where
   abbrev AllFit : List Entry → Type 0
   AllFit es = list_all (λ (e : Entry). fits m.schema e.statement) es ≡ true
 
-  fit_outcome : (history : List Entry) (u : ℕ) (s : Statement) (o : Option Outcome) → AllFit history → fits m.schema s ≡ true → AllFit (turns.with_outcome history u s o)
+  fit_outcome : (history : List Entry) (u : ℕ) (s : Statement) (o : Option StatementEffect) → AllFit history → fits m.schema s ≡ true → AllFit (turns.with_effect_of history u s o)
   fit_outcome history u s None h f = h
   fit_outcome history u s (Some o) h f = fits_more m.schema history (record { ticket = length history; unit = u; statement = s; answer = o.answer }) h f
 
@@ -173,7 +173,7 @@ module _ (m : Meeting) where
   units_after : (state : State) (es : List Entry) → length (replay m.schema m.capacity state es).units ≡ length state.units
   unfolding replay
   units_after state [] = refl
-  units_after state (e ∷ es) = units_after (after_entry m.schema m.capacity state e) es ∙ as_many m.schema m.capacity state e.unit (outcome_of m.schema m.capacity state e.unit e.statement)
+  units_after state (e ∷ es) = units_after (after_entry m.schema m.capacity state e) es ∙ as_many m.schema m.capacity state e.unit (effect_of_unit m.schema m.capacity state e.unit e.statement)
 
   count : (o : List ℕ) → length (state_of m o).sequential.units ≡ length m.programs
   count o = units_after (opening_state m.schema (length m.programs)) (history_of m o) ∙ opening_length m.schema (length m.programs)

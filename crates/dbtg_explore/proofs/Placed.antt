@@ -8,7 +8,7 @@ use Rattle.std.proofs.lemmas.List.{length-map, take_more}
 use Rattle.dbtg_unit.specs.declared.statement.Statement.{Statement}
 use Rattle.dbtg_unit.specs.declared.unit.Entry.{Entry}
 use Rattle.dbtg_unit.specs.Database.Statements.Fits.{fits}
-use Rattle.dbtg_unit.specs.Database.Laws.Replay.{entries_of, opening_state, outcome_of, replay}
+use Rattle.dbtg_unit.specs.Database.Laws.Replay.{entries_of, opening_state, effect_of_unit, replay}
 use Rattle.dbtg_unit.specs.Database.State.Image.{image_of}
 use Rattle.dbtg_unit.proofs.Public.{any_in, in_range, range_more}
 use Rattle.dbtg_program.specs.declared.going.Due.TheVariants as code_due
@@ -28,11 +28,11 @@ use Rattle.dbtg_going.specs.Texts.{programs_text}
 use Rattle.dbtg_script.specs.Printing.Texts.{run_text}
 use Rattle.dbtg_outcomes.specs.Results.{by_unit}
 use Rattle.dbtg_outcomes.specs.Spelling.{list_numbers}
-use Rattle.dbtg_explore.specs.declared.place.Place.{Place}
+use Rattle.dbtg_explore.specs.declared.whereabouts.Whereabouts.{Whereabouts}
 use Rattle.dbtg_explore.specs.Orders.{CanFollow, IsOrder, Meeting, after_order, after_turn, beginning, can_turn, due_of, history_of, waits}
 use Rattle.dbtg_explore.specs.Results.{reached_of, state_text}
 use Rattle.dbtg_explore.specs.States.{comes_of_each, state_after}
-use Rattle.dbtg_explore.specs.Inside.Places.{AreStanding, HasTurned, HaveTurned, IsPlace, IsPlaceOf, failure_by, failure_in}
+use Rattle.dbtg_explore.specs.Inside.Whereabouts.{AreStanding, HasTurned, HaveTurned, AreWhereabouts, AreWhereaboutsOf, failure_by, failure_in}
 use Rattle.dbtg_explore.proofs.Alike.{due_is}
 use Rattle.dbtg_explore.proofs.Turning.{first_can, follow_both, follow_front, follow_rest, history_on, no_turn, none_follow, one_follows, one_turn, order_behind}
 
@@ -91,12 +91,12 @@ module _ (m : Meeting) (database : Making) (goings : List Going) (w : AreStandin
     history_is = ap (λ (n : Making). n.history) made_by.new_is
 
     abbrev outcome_at : Making → Type 0
-    outcome_at d = outcome_of d.schema d.capacity (replay d.schema d.capacity (opening_state d.schema d.units) d.history) u x ≡ Some made_by.outcome
+    outcome_at d = effect_of_unit d.schema d.capacity (replay d.schema d.capacity (opening_state d.schema d.units) d.history) u x ≡ Some made_by.outcome
 
     after_is : due_of m database.history u ≡ Some x → database.history ++ entry ∷ [] ≡ after_turn m database.history u
     after_is said =
         let outcome = subst outcome_at w.database_is made_by.outcome_is in
-        ap (turns.with_outcome database.history u x) (sym outcome) ∙ ap (made m.schema m.capacity (length m.programs) database.history u) (sym said)
+        ap (turns.with_effect_of database.history u x) (sym outcome) ∙ ap (made m.schema m.capacity (length m.programs) database.history u) (sym said)
 
     pub has_turned : due_of m database.history u ≡ Some x → (a : Awaits m database.history goings u x) (on : Going) → IsGoing m.schema a.program (entries_of u database.history ++ entry ∷ []) on → HasTurned m u database new (with_unit_at goings u on)
     has_turned said a on is = record {
@@ -117,16 +117,16 @@ module _ (m : Meeting) where
     by None e f = absurd cc
     by (Some x) e f = absurd cc
 
-  pub none_turned : (place : Place) → IsPlace m place → HaveTurned m [] place place
+  pub none_turned : (place : Whereabouts) → AreWhereabouts m place → HaveTurned m [] place place
   none_turned place is = record { is_place = is; history_is = sym (no_turn m place.database.history) }
 
-  pub turned_also : (old mid new : Place) (us : List ℕ) (u : ℕ) → HaveTurned m us old mid → HasTurned m u mid.database new.database new.goings.items → HaveTurned m (us ++ u ∷ []) old new
+  pub turned_also : (old mid new : Whereabouts) (us : List ℕ) (u : ℕ) → HaveTurned m us old mid → HasTurned m u mid.database new.database new.goings.items → HaveTurned m (us ++ u ∷ []) old new
   turned_also old mid new us u a b = record {
     is_place = b.standing;
     history_is = b.history_is ∙ ap (λ es. after_turn m es u) a.history_is ∙ sym (one_turn m (after_order m old.database.history us) u) ∙ sym (order_behind m old.database.history us (u ∷ []));
   }
 
-  pub next_can : (old mid : Place) (us : List ℕ) (i : ℕ) → i < length us → CanFollow m old.database.history us → HaveTurned m (take i us) old mid → can_turn m mid.database.history (slice_index_or us i 0) ≡ true
+  pub next_can : (old mid : Whereabouts) (us : List ℕ) (i : ℕ) → i < length us → CanFollow m old.database.history us → HaveTurned m (take i us) old mid → can_turn m mid.database.history (slice_index_or us i 0) ≡ true
   next_can old mid us i low f a =
       let history = old.database.history in
       let u = slice_index_or us i 0 in
@@ -135,7 +135,7 @@ module _ (m : Meeting) where
       ap (λ es. can_turn m es u) a.history_is ∙ first_can m (after_order m history (take i us)) u [] (follow_rest m history (take i us) (u ∷ []) parts)
 
   -- where the programs meet
-  pub begins : (database : Making) (goings : List Going) (place : Place) → AreAfter m.schema m.capacity m.programs m.begun database goings → place.database ≡ database → place.goings.items ≡ goings → IsPlaceOf m [] place
+  pub begins : (database : Making) (goings : List Going) (place : Whereabouts) → AreAfter m.schema m.capacity m.programs m.begun database goings → place.database ≡ database → place.goings.items ≡ goings → AreWhereaboutsOf m [] place
   begins database goings place a d g =
       let history : database.history ≡ beginning m = ap (λ (n : Making). n.history) a.database_is in
       record {
@@ -147,7 +147,7 @@ module _ (m : Meeting) where
         history_is = ap (λ (n : Making). n.history) d ∙ history ∙ sym (no_turn m (beginning m));
       }
 
-  pub arrives : (order : List ℕ) (start place : Place) → IsOrder m order → IsPlaceOf m [] start → HaveTurned m order start place → IsPlaceOf m order place
+  pub arrives : (order : List ℕ) (start place : Whereabouts) → IsOrder m order → AreWhereaboutsOf m [] start → HaveTurned m order start place → AreWhereaboutsOf m order place
   arrives order start place is s t = record {
     is_order = is;
     is_place = t.is_place;
@@ -155,7 +155,7 @@ module _ (m : Meeting) where
   }
 
   -- from the place of an order to that with one turn more
-  pub place_on : (order : List ℕ) (u : ℕ) (old new : Place) → IsPlaceOf m order old → can_turn m old.database.history u ≡ true → HasTurned m u old.database new.database new.goings.items → IsPlaceOf m (order ++ u ∷ []) new
+  pub place_on : (order : List ℕ) (u : ℕ) (old new : Whereabouts) → AreWhereaboutsOf m order old → can_turn m old.database.history u ≡ true → HasTurned m u old.database new.database new.goings.items → AreWhereaboutsOf m (order ++ u ∷ []) new
   place_on order u old new is c t = record {
     is_order = follow_both m (beginning m) order (u ∷ []) is.is_order (one_follows m (history_of m order) u (ap (λ es. can_turn m es u) (sym is.history_is) ∙ c));
     is_place = t.standing;

@@ -1,7 +1,7 @@
 //! A way that programs can go round for ever. A guess at one counts only if going round it once has come back.
 
 ghost use Rattle.dbtg_explore.specs.Explored.{IsEndless};
-ghost use Rattle.dbtg_explore.specs.Inside.Places.{IsPlace, IsPlaceOf};
+ghost use Rattle.dbtg_explore.specs.Inside.Whereabouts.{AreWhereabouts, AreWhereaboutsOf};
 ghost use Rattle.dbtg_explore.specs.Inside.Rounds.{ComesBack, HasEach, HasGone};
 ghost use Rattle.dbtg_explore.specs.Orders.{IsMeeting, IsOrder, can_turn};
 ghost use Rattle.std.specs.Prelude.{◌≡◌, List, ℕ, true, Contains, IfOk, IfSome};
@@ -9,14 +9,14 @@ ghost use Rattle.std.specs.Prelude.{◌≡◌, List, ℕ, true, Contains, IfOk, 
 use crate::explored::Endless;
 use crate::graph::guess_round;
 use crate::meeting::Meeting;
-use crate::place::Place;
 use crate::search::Search;
+use crate::whereabouts::Whereabouts;
 use dbtg_schema::Row;
 use std::alloc::{AllocError, Global};
 
 // Does the unit have a turn in the round, if it can have one here?
-fn has_one(meeting: &Meeting, here: &Place, round: &[u8], unit: u8) -> bool
-    requires here { IsPlace meeting.now here.now }
+fn has_one(meeting: &Meeting, here: &Whereabouts, round: &[u8], unit: u8) -> bool
+    requires here { AreWhereabouts meeting.now here.now }
     ensures { result ≡ true → can_turn meeting.now here.now.database.history unit ≡ true → Contains round.now unit }
 {
     if meeting.can_turn(here, unit) {
@@ -27,9 +27,9 @@ fn has_one(meeting: &Meeting, here: &Place, round: &[u8], unit: u8) -> bool
 }
 
 // Does each unit?
-fn has_each(meeting: &Meeting, here: &Place, round: &[u8]) -> bool
+fn has_each(meeting: &Meeting, here: &Whereabouts, round: &[u8]) -> bool
     requires meeting { IsMeeting meeting.now }
-    requires here { IsPlace meeting.now here.now }
+    requires here { AreWhereabouts meeting.now here.now }
     ensures { result ≡ true → HasEach meeting.now here.now.database.history round.now }
 {
     for before in 0..meeting.units() {
@@ -44,10 +44,10 @@ fn has_each(meeting: &Meeting, here: &Place, round: &[u8]) -> bool
 fn go<'a>(
     alloc: Global,
     meeting: &Meeting<'a>,
-    here: &mut Place<'a>,
+    here: &mut Whereabouts<'a>,
     turns: &[u8],
 ) -> Result<bool, AllocError>
-    requires here { IsPlace meeting.now here.old }
+    requires here { AreWhereabouts meeting.now here.old }
     ensures { IfOk result (λ gone. gone ≡ true → HasGone meeting.now turns.now here.old here.new) }
 {
     for unit in turns {
@@ -63,12 +63,12 @@ fn go<'a>(
 fn comes_back<'a>(
     alloc: Global,
     meeting: &Meeting<'a>,
-    here: &mut Place<'a>,
+    here: &mut Whereabouts<'a>,
     round: &[u8],
 ) -> Result<bool, AllocError>
     requires meeting { IsMeeting meeting.now }
-    requires here { IsPlace meeting.now here.old }
-    ensures { IfOk result (λ back. back ≡ true → (o : List ℕ) → IsPlaceOf meeting.now o here.old → ComesBack meeting.now o round.now) }
+    requires here { AreWhereabouts meeting.now here.old }
+    ensures { IfOk result (λ back. back ≡ true → (o : List ℕ) → AreWhereaboutsOf meeting.now o here.old → ComesBack meeting.now o round.now) }
 {
     let before = meeting.state_key(alloc, here)?;
     if !go(alloc, meeting, here, round)? {
@@ -82,12 +82,12 @@ fn comes_back<'a>(
 fn goes_round<'a>(
     alloc: Global,
     meeting: &Meeting<'a>,
-    here: &mut Place<'a>,
+    here: &mut Whereabouts<'a>,
     round: &[u8],
 ) -> Result<bool, AllocError>
     requires meeting { IsMeeting meeting.now }
-    requires here { IsPlace meeting.now here.old }
-    ensures { IfOk result (λ endless. endless ≡ true → (o : List ℕ) → IsPlaceOf meeting.now o here.old → IsEndless meeting.now (record { turns = o; round = round.now })) }
+    requires here { AreWhereabouts meeting.now here.old }
+    ensures { IfOk result (λ endless. endless ≡ true → (o : List ℕ) → AreWhereaboutsOf meeting.now o here.old → IsEndless meeting.now (record { turns = o; round = round.now })) }
 {
     if round.is_empty() || !has_each(meeting, here, round) {
         return Ok(false);

@@ -2,7 +2,7 @@
 
 ghost use Rattle.dbtg_explore.specs.Inside.Ends.{AreEndsOf, FailsAt, FailsIn, Notes, NotesResult};
 ghost use Rattle.dbtg_explore.specs.Inside.Failures.{Take};
-ghost use Rattle.dbtg_explore.specs.Inside.Places.{IsPlace, IsPlaceOf};
+ghost use Rattle.dbtg_explore.specs.Inside.Whereabouts.{AreWhereabouts, AreWhereaboutsOf};
 ghost use Rattle.dbtg_explore.specs.Orders.{IsMeeting, Meeting as MeetingOfPrograms};
 ghost use Rattle.dbtg_explore.specs.States.{state_after};
 ghost use Rattle.std.specs.Prelude.{◌≡◌, [], OnOk};
@@ -11,7 +11,7 @@ use crate::explored::Failure;
 use crate::failures::enter_failure;
 use crate::found::Found;
 use crate::meeting::Meeting;
-use crate::place::Place;
+use crate::whereabouts::Whereabouts;
 use dbtg_outcomes::as_numbers;
 use dbtg_schema::Row;
 use std::alloc::{AllocError, Global};
@@ -27,10 +27,10 @@ pub struct Ends {
 fn note_failure(
     meeting: &Meeting,
     failures: &mut Vec<Failure>,
-    here: &Place,
+    here: &Whereabouts,
     unit: u8,
 ) -> Result<(), AllocError>
-    requires here { IsPlace meeting.now here.now }
+    requires here { AreWhereabouts meeting.now here.now }
     ensures { OnOk result (Take (FailsAt meeting.now here.now.database.history unit) failures.old.items failures.new.items) }
 {
     match meeting.failure(here, unit) {
@@ -43,10 +43,10 @@ fn note_failure(
 fn note_failures(
     meeting: &Meeting,
     failures: &mut Vec<Failure>,
-    here: &Place,
+    here: &Whereabouts,
 ) -> Result<(), AllocError>
     requires meeting { IsMeeting meeting.now }
-    requires here { IsPlace meeting.now here.now }
+    requires here { AreWhereabouts meeting.now here.now }
     ensures { OnOk result (Take (FailsIn (state_after meeting.now here.now.database.history)) failures.old.items failures.new.items) }
 {
     for before in 0..meeting.units() {
@@ -61,10 +61,10 @@ fn note_result(
     meeting: &Meeting,
     results: &mut Found,
     order: &[u8],
-    here: Place,
+    here: Whereabouts,
 ) -> Result<(), AllocError>
     requires meeting { IsMeeting meeting.now }
-    requires here { IsPlaceOf meeting.now order.now here }
+    requires here { AreWhereaboutsOf meeting.now order.now here }
     ensures { OnOk result (NotesResult meeting.now order.now results.old results.new) }
 {
     if !meeting.is_at_end(&here) {
@@ -94,10 +94,10 @@ impl Ends {
         alloc: Global,
         meeting: &Meeting,
         order: &[u8],
-        here: Place,
+        here: Whereabouts,
     ) -> Result<(), AllocError>
         requires meeting { IsMeeting meeting.now }
-        requires here { IsPlaceOf meeting.now order.now here }
+        requires here { AreWhereaboutsOf meeting.now order.now here }
         ensures { OnOk result (Notes meeting.now order.now self.old self.new) }
     {
         match note_failures(meeting, &mut self.failures, &here) {

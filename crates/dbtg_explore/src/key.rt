@@ -1,7 +1,7 @@
 //! The state of a meeting as numbers, which tell it from others.
 
 ghost use Rattle.dbtg_explore.specs.Inside.Keys.{due_numbers, how_numbers, state_numbers};
-ghost use Rattle.dbtg_explore.specs.Inside.Places.{IsPlace};
+ghost use Rattle.dbtg_explore.specs.Inside.Whereabouts.{AreWhereabouts};
 ghost use Rattle.dbtg_explore.specs.Orders.{IsMeeting};
 ghost use Rattle.dbtg_explore.specs.States.{state_after};
 ghost use Rattle.dbtg_going.specs.Goings.{comes_of};
@@ -9,7 +9,7 @@ ghost use Rattle.dbtg_outcomes.specs.Spelling.{list_numbers};
 ghost use Rattle.std.specs.Prelude.{◌≡◌, ◌++◌, ◌∷◌, [], flat_map, IfOk, OnOk};
 
 use crate::meeting::Meeting;
-use crate::place::Place;
+use crate::whereabouts::Whereabouts;
 use dbtg_going::Going;
 use dbtg_outcomes::{Spelled, spell_each, spell_image};
 use dbtg_program::{Due, End};
@@ -71,9 +71,13 @@ fn spell_programs(goings: &[Going], out: &mut Vec<u64>) -> Result<(), AllocError
 impl<'a> Meeting<'a> {
     /// The state of a place as numbers. Two places have the same numbers exactly if their states differ at most in the order in which units
     /// opened an area.
-    pub(crate) fn state_key(&self, alloc: Global, place: &Place) -> Result<Vec<u64>, AllocError>
+    pub(crate) fn state_key(
+        &self,
+        alloc: Global,
+        place: &Whereabouts,
+    ) -> Result<Vec<u64>, AllocError>
         requires meeting { IsMeeting self.now }
-        requires place { IsPlace self.now place.now }
+        requires place { AreWhereabouts self.now place.now }
         ensures { IfOk result (λ key. key.items ≡ state_numbers self.now (state_after self.now place.now.database.history)) }
     {
         let mut key = Vec::new(alloc);

@@ -10,10 +10,10 @@ mod graph;
 mod key;
 mod laws;
 mod meeting;
-mod place;
 mod search;
 mod text;
 mod told;
+mod whereabouts;
 
 pub use explored::{Endless, Explored, Failure, explore};
 pub use laws::every_run_comes_out;

@@ -1,11 +1,11 @@
 //! Programs that meet, and the turns that they can take.
 
-ghost use Rattle.dbtg_explore.specs.Inside.Places.{AreStanding, HasTurned, HaveTurned, IsPlace, IsPlaceOf};
+ghost use Rattle.dbtg_explore.specs.Inside.Whereabouts.{AreStanding, HasTurned, HaveTurned, AreWhereabouts, AreWhereaboutsOf};
 ghost use Rattle.dbtg_explore.specs.Orders.{CanFollow, IsMeeting, IsOrder, can_go_on, can_turn, due_of, waits};
 ghost use Rattle.std.specs.List.{list_any, range_with_len};
 ghost use Rattle.std.specs.Prelude.{◌≡◌, ◌-◌, [], Some, true, length, not, option_map, IfOk, OnOk};
 
-use crate::place::Place;
+use crate::whereabouts::Whereabouts;
 use dbtg_going::{Going, programs_after};
 use dbtg_program::Program;
 use dbtg_schema::Schema;
@@ -44,9 +44,9 @@ impl<'a> Meeting<'a> {
     }
 
     /// The place where the programs meet.
-    pub(crate) fn begin(&self, alloc: Global) -> Result<Place<'a>, AllocError>
+    pub(crate) fn begin(&self, alloc: Global) -> Result<Whereabouts<'a>, AllocError>
         requires { IsMeeting self.now }
-        ensures { IfOk result (IsPlaceOf self.now []) }
+        ensures { IfOk result (AreWhereaboutsOf self.now []) }
     {
         let (database, goings) = programs_after(
             alloc,
@@ -55,12 +55,12 @@ impl<'a> Meeting<'a> {
             self.programs,
             self.begun,
         )?;
-        Ok(Place { database, goings })
+        Ok(Whereabouts { database, goings })
     }
 
     // The statement that is due in the program of the unit.
-    fn due<'p>(&self, place: &'p Place, unit: u8) -> Option<&'p Statement>
-        requires { IsPlace self.now place.now }
+    fn due<'p>(&self, place: &'p Whereabouts, unit: u8) -> Option<&'p Statement>
+        requires { AreWhereabouts self.now place.now }
         ensures { option_map (λ s. s.now) result ≡ due_of self.now place.now.database.history unit }
     {
         if unit == 0 {
@@ -73,16 +73,16 @@ impl<'a> Meeting<'a> {
     }
 
     /// Can the program of the unit go on?
-    pub(crate) fn can_go_on(&self, place: &Place, unit: u8) -> bool
-        requires { IsPlace self.now place.now }
+    pub(crate) fn can_go_on(&self, place: &Whereabouts, unit: u8) -> bool
+        requires { AreWhereabouts self.now place.now }
         ensures { result ≡ can_go_on self.now place.now.database.history unit }
     {
         self.due(place, unit).is_some()
     }
 
     // Can one of the programs of the first units go on?
-    fn can_one_go_on(&self, place: &Place, units: u8) -> bool
-        requires { IsPlace self.now place.now }
+    fn can_one_go_on(&self, place: &Whereabouts, units: u8) -> bool
+        requires { AreWhereabouts self.now place.now }
         ensures { result ≡ list_any (can_go_on self.now place.now.database.history) (range_with_len 1 units) }
     {
         for before in 0..units {
@@ -94,8 +94,8 @@ impl<'a> Meeting<'a> {
     }
 
     // Is it the last unit, which waits?
-    fn waits(&self, place: &Place, unit: u8) -> bool
-        requires { IsPlace self.now place.now }
+    fn waits(&self, place: &Whereabouts, unit: u8) -> bool
+        requires { AreWhereabouts self.now place.now }
         ensures { result ≡ waits self.now place.now.database.history unit }
     {
         self.last_waits
@@ -104,17 +104,17 @@ impl<'a> Meeting<'a> {
     }
 
     /// Can the unit have its turn?
-    pub(crate) fn can_turn(&self, place: &Place, unit: u8) -> bool
-        requires { IsPlace self.now place.now }
+    pub(crate) fn can_turn(&self, place: &Whereabouts, unit: u8) -> bool
+        requires { AreWhereabouts self.now place.now }
         ensures { result ≡ can_turn self.now place.now.database.history unit }
     {
         self.can_go_on(place, unit) && !self.waits(place, unit)
     }
 
     /// Can no program go on?
-    pub(crate) fn is_at_end(&self, place: &Place) -> bool
+    pub(crate) fn is_at_end(&self, place: &Whereabouts) -> bool
         requires meeting { IsMeeting self.now }
-        requires place { IsPlace self.now place.now }
+        requires place { AreWhereabouts self.now place.now }
         ensures { result ≡ not (list_any (can_go_on self.now place.now.database.history) (range_with_len 1 (length self.now.programs))) }
     {
         !self.can_one_go_on(place, self.units())
@@ -144,10 +144,10 @@ impl<'a> Meeting<'a> {
     pub(crate) fn turn(
         &self,
         alloc: Global,
-        place: &mut Place<'a>,
+        place: &mut Whereabouts<'a>,
         unit: u8,
     ) -> Result<(), AllocError>
-        requires place { IsPlace self.now place.old }
+        requires place { AreWhereabouts self.now place.old }
         requires turn { can_turn self.now place.old.database.history unit ≡ true }
         ensures { OnOk result (HasTurned self.now unit place.old.database place.new.database place.new.goings.items) }
     {
@@ -162,8 +162,13 @@ impl<'a> Meeting<'a> {
     }
 
     // These turns, one after another.
-    fn turns(&self, alloc: Global, place: &mut Place<'a>, turns: &[u8]) -> Result<(), AllocError>
-        requires place { IsPlace self.now place.old }
+    fn turns(
+        &self,
+        alloc: Global,
+        place: &mut Whereabouts<'a>,
+        turns: &[u8],
+    ) -> Result<(), AllocError>
+        requires place { AreWhereabouts self.now place.old }
         requires turns { CanFollow self.now place.old.database.history turns.now }
         ensures { OnOk result (HaveTurned self.now turns.now place.old place.new) }
     {
@@ -174,10 +179,10 @@ impl<'a> Meeting<'a> {
     }
 
     /// The place to which an order leads.
-    pub(crate) fn go_to(&self, alloc: Global, order: &[u8]) -> Result<Place<'a>, AllocError>
+    pub(crate) fn go_to(&self, alloc: Global, order: &[u8]) -> Result<Whereabouts<'a>, AllocError>
         requires meeting { IsMeeting self.now }
         requires order { IsOrder self.now order.now }
-        ensures { IfOk result (IsPlaceOf self.now order.now) }
+        ensures { IfOk result (AreWhereaboutsOf self.now order.now) }
     {
         let mut place = self.begin(alloc)?;
         match self.turns(alloc, &mut place, order) {

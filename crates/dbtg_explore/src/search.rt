@@ -1,7 +1,7 @@
 //! A search through all states to which orders lead. It goes on from each state that it has found, from the first on, by one turn of each
 //! unit in rising order. So it comes to each state by the first order that leads there.
 
-ghost use Rattle.dbtg_explore.specs.Inside.Places.{IsPlaceOf};
+ghost use Rattle.dbtg_explore.specs.Inside.Whereabouts.{AreWhereaboutsOf};
 ghost use Rattle.dbtg_explore.specs.Inside.Steps.{Goes, IsAt, can_follow, numbers_of};
 ghost use Rattle.dbtg_explore.specs.Orders.{IsMeeting, IsOrder};
 ghost use Rattle.dbtg_explore.specs.States.{HasMoreStates};
@@ -11,7 +11,7 @@ ghost use Rattle.std.specs.Prelude.{◌≡◌, ◌+◌, ◌<◌, ◌++◌, ◌�
 use crate::found::Found;
 use crate::graph::Edge;
 use crate::meeting::Meeting;
-use crate::place::Place;
+use crate::whereabouts::Whereabouts;
 use dbtg_outcomes::Stop;
 use dbtg_schema::Row;
 use std::alloc::{AllocError, Global};
@@ -102,13 +102,13 @@ impl Search {
         alloc: Global,
         meeting: &Meeting,
         place: usize,
-        here: &Place,
+        here: &Whereabouts,
         unit: u8,
     ) -> Result<(), Stop>
         requires meeting { IsMeeting meeting.now }
         requires at { IsAt meeting.now place unit self.old }
         requires within { place < length self.old.found.orders }
-        requires here { IsPlaceOf meeting.now (slice_index_or self.old.found.orders place []) here.now }
+        requires here { AreWhereaboutsOf meeting.now (slice_index_or self.old.found.orders place []) here.now }
         ensures goes { OnOk result (Goes meeting.now place (unit + 1) self.old self.new) }
         ensures stopped { IfErr result (λ stop. stop ≡ States → HasMoreStates meeting.now self.old.limit) }
     {
@@ -124,12 +124,12 @@ impl Search {
         alloc: Global,
         meeting: &Meeting,
         place: usize,
-        here: &Place,
+        here: &Whereabouts,
     ) -> Result<(), Stop>
         requires meeting { IsMeeting meeting.now }
         requires at { IsAt meeting.now place 0 self.old }
         requires within { place < length self.old.found.orders }
-        requires here { IsPlaceOf meeting.now (slice_index_or self.old.found.orders place []) here.now }
+        requires here { AreWhereaboutsOf meeting.now (slice_index_or self.old.found.orders place []) here.now }
         ensures goes { OnOk result (Goes meeting.now (place + 1) 0 self.old self.new) }
         ensures stopped { IfErr result (λ stop. stop ≡ States → HasMoreStates meeting.now self.old.limit) }
     {

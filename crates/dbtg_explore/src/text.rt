@@ -1,6 +1,6 @@
 //! What is printed of a state, and how its programs have failed.
 
-ghost use Rattle.dbtg_explore.specs.Inside.Places.{IsPlace, failure_by, failure_in};
+ghost use Rattle.dbtg_explore.specs.Inside.Whereabouts.{AreWhereabouts, failure_by, failure_in};
 ghost use Rattle.dbtg_explore.specs.Orders.{IsMeeting};
 ghost use Rattle.dbtg_explore.specs.Results.{is_failure, reached_of, state_text};
 ghost use Rattle.dbtg_explore.specs.States.{state_after};
@@ -12,8 +12,8 @@ ghost use Rattle.std.specs.List.{range_with_len};
 ghost use Rattle.std.specs.Prelude.{◌≡◌, ◌++◌, [], length, map, IfOk};
 
 use crate::meeting::Meeting;
-use crate::place::Place;
 use crate::told::told_text;
+use crate::whereabouts::Whereabouts;
 use dbtg_going::{Going, Reached, Standing};
 use dbtg_program::{Due, End};
 use dbtg_schema::Row;
@@ -65,8 +65,8 @@ fn failure_of(going: &Going) -> Option<End>
 
 impl<'a> Meeting<'a> {
     /// How the program of the unit has failed, if it has.
-    pub(crate) fn failure(&self, place: &Place, unit: u8) -> Option<End>
-        requires { IsPlace self.now place.now }
+    pub(crate) fn failure(&self, place: &Whereabouts, unit: u8) -> Option<End>
+        requires { AreWhereabouts self.now place.now }
         ensures { result ≡ failure_in (state_after self.now place.now.database.history) unit }
     {
         if unit == 0 {
@@ -90,12 +90,16 @@ impl<'a> Meeting<'a> {
     }
 
     /// What is printed of a place after `--`, except that the units that have an area open are in the order of their numbers.
-    pub(crate) fn into_text(&self, alloc: Global, place: Place<'a>) -> Result<Vec<u8>, AllocError>
+    pub(crate) fn into_text(
+        &self,
+        alloc: Global,
+        place: Whereabouts<'a>,
+    ) -> Result<Vec<u8>, AllocError>
         requires meeting { IsMeeting self.now }
-        requires place { IsPlace self.now place }
+        requires place { AreWhereabouts self.now place }
         ensures { IfOk result (λ text. text.items ≡ state_text self.now (state_after self.now place.entry.database.history)) }
     {
-        let Place { database, goings } = place;
+        let Whereabouts { database, goings } = place;
         match reached_of_each(alloc, goings) {
             Err(error) => {
                 database.discard();

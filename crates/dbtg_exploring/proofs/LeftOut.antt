@@ -4,10 +4,10 @@ use Rattle.std.proofs.lemmas.List.{append-nil, append_assoc}
 use Rattle.dbtg_schema.specs.Lists.{Lists}
 use Rattle.dbtg_unit.specs.declared.statement.Statement.{Statement}
 use Rattle.dbtg_unit.specs.declared.unit.Entry.{Entry}
-use Rattle.dbtg_unit.specs.Database.Statements.Effect.{Outcome}
-use Rattle.dbtg_unit.specs.Database.Laws.Replay.{opening_state, outcome_of, replay}
+use Rattle.dbtg_unit.specs.Database.Statements.Effect.{StatementEffect}
+use Rattle.dbtg_unit.specs.Database.Laws.Replay.{opening_state, effect_of_unit, replay}
 use Rattle.dbtg_program.specs.declared.program.Program.{Program}
-use Rattle.dbtg_going.specs.Turns.{after_turn, after_turns, made, statement_of, with_outcome}
+use Rattle.dbtg_going.specs.Turns.{after_turn, after_turns, made, statement_of, with_effect_of}
 
 -- whose statements they are
 abbrev pub units : List Entry → List ℕ
@@ -17,14 +17,14 @@ units history = map (λ e. e.unit) history
 abbrev pub MakesOne : List Entry → ℕ → List Entry → Type 0
 MakesOne history u new = (new ≡ history) ⊎ ((e : Entry) × (e.unit ≡ u) × (new ≡ history ++ e ∷ []))
 
-with_one : (history : List Entry) (u : ℕ) (s : Statement) (outcome : Option Outcome) → MakesOne history u (with_outcome history u s outcome)
+with_one : (history : List Entry) (u : ℕ) (s : Statement) (outcome : Option StatementEffect) → MakesOne history u (with_effect_of history u s outcome)
 with_one history u s None = inl refl
 with_one history u s (Some outcome) = inr (_, refl, refl)
 
 module _ (schema : Lists) (capacity : ℕ) (programs : List Program) where
   made_one : (history : List Entry) (u : ℕ) (s : Option Statement) → MakesOne history u (made schema capacity (length programs) history u s)
   made_one history u None = inl refl
-  made_one history u (Some s) = with_one history u s (outcome_of schema capacity (replay schema capacity (opening_state schema (length programs)) history) u s)
+  made_one history u (Some s) = with_one history u s (effect_of_unit schema capacity (replay schema capacity (opening_state schema (length programs)) history) u s)
 
   abbrev pub after : List Entry → List ℕ → List Entry
   after = after_turns schema capacity programs

@@ -6,7 +6,7 @@ use Rattle.dbtg_schema.specs.Lists.{Lists}
 use Rattle.dbtg_unit.specs.declared.statement.Statement.{Statement}
 use Rattle.dbtg_unit.specs.declared.unit.Entry.{Entry}
 use Rattle.dbtg_unit.specs.Database.Statements.Fits.{fits}
-use Rattle.dbtg_unit.specs.Database.Laws.Replay.{entries_of, opening_state, outcome_of, replay}
+use Rattle.dbtg_unit.specs.Database.Laws.Replay.{entries_of, opening_state, effect_of_unit, replay}
 use Rattle.dbtg_unit.proofs.Public.{entries_mine, entries_other}
 use Rattle.dbtg_program.specs.declared.going.Due as code
 use Rattle.dbtg_program.specs.declared.going.Due.TheVariants as code_due
@@ -20,7 +20,7 @@ use Rattle.dbtg_step.proofs.Public.{length_with, set_at, set_elsewhere}
 use Rattle.dbtg_going.specs.declared.member.Going.{Going}
 use Rattle.dbtg_going.specs.declared.member.Member.{Member}
 use Rattle.dbtg_going.specs.Goings.{AreEach, IsAt, IsGoing, comes_of}
-use Rattle.dbtg_going.specs.Turns.{after_turn, after_turns, comes, due_after, made, statement_due, statement_of, to_the_end, with_outcome}
+use Rattle.dbtg_going.specs.Turns.{after_turn, after_turns, comes, due_after, made, statement_due, statement_of, to_the_end, with_effect_of}
 use Rattle.dbtg_unit.specs.declared.limits.TheConstants.{MOST_STATEMENTS}
 use Rattle.dbtg_going.specs.Inside.Members.{AreAt, HaveTurned, IsUnderWay}
 
@@ -315,8 +315,8 @@ module _ (schema : Lists) (programs : List Program) (m : Making) (members : List
 
     after_is : statement_of schema programs m.history u ≡ Some x → m.history ++ entry ∷ [] ≡ after_turn schema m.capacity programs m.history u
     after_is said =
-        ap (with_outcome m.history u x) (sym made_by.outcome_is)
-        ∙ (λ i. with_outcome m.history u x (outcome_of (w.schema_is i) m.capacity (replay (w.schema_is i) m.capacity (opening_state (w.schema_is i) (w.units i)) m.history) u x))
+        ap (with_effect_of m.history u x) (sym made_by.outcome_is)
+        ∙ (λ i. with_effect_of m.history u x (effect_of_unit (w.schema_is i) m.capacity (replay (w.schema_is i) m.capacity (opening_state (w.schema_is i) (w.units i)) m.history) u x))
         ∙ ap (made schema m.capacity (length programs) m.history u) (sym said)
 
     module _ (program : Program) (member member' : Member) (program_found : unit_at programs u ≡ Some program) (found : unit_at members u ≡ Some member) (on : IsAt schema program (entries_of u m.history ++ entry ∷ []) member') where

@@ -6,9 +6,9 @@ use Rattle.dbtg_schema.specs.Lists.{Lists}
 use Rattle.dbtg_unit.specs.declared.statement.Statement.{Statement}
 use Rattle.dbtg_unit.specs.declared.limits.TheConstants.{MOST_STATEMENTS}
 use Rattle.dbtg_unit.specs.declared.unit.Entry.{Entry}
-use Rattle.dbtg_unit.specs.Database.Statements.Effect.{Outcome}
+use Rattle.dbtg_unit.specs.Database.Statements.Effect.{StatementEffect}
 use Rattle.dbtg_unit.specs.Database.Statements.Fits.{fits}
-use Rattle.dbtg_unit.specs.Database.Laws.Replay.{entries_of, opening_state, outcome_of, replay}
+use Rattle.dbtg_unit.specs.Database.Laws.Replay.{entries_of, opening_state, effect_of_unit, replay}
 use Rattle.dbtg_program.specs.declared.program.Program.{Program}
 use Rattle.dbtg_program.specs.States.{ProgramState, beginning}
 use Rattle.dbtg_program.specs.Going.{AreOf, Due, due, ended, next, state_after}
@@ -56,14 +56,14 @@ abbrev pub statement_of : Lists → List Program → List Entry → ℕ → Opti
 statement_of schema programs history u = option_and_then (λ program. due_after schema (length (entries_of u history)) (comes schema program u history)) (unit_at programs u)
 
 -- a history, followed by a statement of unit u with its outcome
-abbrev pub with_outcome : List Entry → ℕ → Statement → Option Outcome → List Entry
-with_outcome history u s None = history
-with_outcome history u s (Some outcome) = history ++ record { ticket = length history; unit = u; statement = s; answer = outcome.answer } ∷ []
+abbrev pub with_effect_of : List Entry → ℕ → Statement → Option StatementEffect → List Entry
+with_effect_of history u s None = history
+with_effect_of history u s (Some outcome) = history ++ record { ticket = length history; unit = u; statement = s; answer = outcome.answer } ∷ []
 
 -- the same with the outcome that the statement has in the sequential database with this many units; without a statement nothing is made
 abbrev pub made : Lists → ℕ → ℕ → List Entry → ℕ → Option Statement → List Entry
 made schema capacity units history u None = history
-made schema capacity units history u (Some s) = with_outcome history u s (outcome_of schema capacity (replay schema capacity (opening_state schema units) history) u s)
+made schema capacity units history u (Some s) = with_effect_of history u s (effect_of_unit schema capacity (replay schema capacity (opening_state schema units) history) u s)
 
 -- a history after a turn of unit u
 abbrev pub after_turn : Lists → ℕ → List Program → List Entry → ℕ → List Entry

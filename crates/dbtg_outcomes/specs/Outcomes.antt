@@ -5,8 +5,8 @@ use Rattle.std.specs.List.{range_with_len}
 use Rattle.dbtg_schema.specs.Sound.{IsSound}
 use Rattle.dbtg_unit.specs.declared.statement.Statement.{Statement}
 use Rattle.dbtg_unit.specs.Database.Statements.Codes.{status_code}
-use Rattle.dbtg_unit.specs.Database.Statements.Effect.{Outcome}
-use Rattle.dbtg_unit.specs.Database.Laws.Replay.{outcome_of}
+use Rattle.dbtg_unit.specs.Database.Statements.Effect.{StatementEffect}
+use Rattle.dbtg_unit.specs.Database.Laws.Replay.{effect_of_unit}
 use Rattle.dbtg_unit.specs.declared.limits.TheConstants.{LAST_UNIT}
 use Rattle.dbtg_step.specs.Laws.{scripts_fit}
 use Rattle.dbtg_outcomes.specs.declared.answered.Answered.{Answered}
@@ -31,8 +31,8 @@ result_of g = record { turns = map (λ s. s.0) g.0; orders = counted g.1 }
 
 -- unit u's statement, made after this order, has the status with this number
 pub record HasStatus (m : Meeting) (o : List (ℕ × Statement)) (u : ℕ) (x : Statement) (code : ℕ) : Type 0 where
-  pub outcome : Outcome
-  pub outcome_is : outcome_of m.schema m.capacity (state_of m o) u x ≡ Some outcome
+  pub outcome : StatementEffect
+  pub outcome_is : effect_of_unit m.schema m.capacity (state_of m o) u x ≡ Some outcome
   pub code_is : code ≡ status_code x outcome.answer.status
 
 -- in some order the unit's statement at this place of its script, from 0, comes after these, and has the status with this number

@@ -10,7 +10,7 @@ use Rattle.dbtg_script.specs.Printing.Texts.{answer_text, answers_text, run_text
 use Rattle.dbtg_unit.specs.declared.statement.Statement.{Statement}
 use Rattle.dbtg_unit.specs.declared.unit.Entry.{Entry}
 use Rattle.dbtg_unit.specs.Database.State.Image.{Image, image_of}
-use Rattle.dbtg_unit.specs.Database.Laws.Replay.{State, after_outcome, entries_of, opening_state, outcome_of, state_after}
+use Rattle.dbtg_unit.specs.Database.Laws.Replay.{State, after_effect, entries_of, opening_state, effect_of_unit, state_after}
 use Rattle.dbtg_step.specs.declared.results.Run.{Run}
 use Rattle.dbtg_outcomes.specs.Orders.{made}
 use Rattle.dbtg_outcomes.specs.Spelling.{image_numbers, list_numbers, one_number, unit_numbers}
@@ -35,7 +35,7 @@ state_of m order = state_after m.schema m.capacity (opening_state m.schema (leng
 -- a statement with the answer that a state gives to it, if there is such a unit; it has no ticket
 abbrev pub entry_in : Lists → ℕ → State → ℕ × Statement → List Entry
 entry_in schema capacity state s =
-    option_to_list (option_map (λ o. record { ticket = 0; unit = s.0; statement = s.1; answer = o.answer }) (outcome_of schema capacity state s.0 s.1))
+    option_to_list (option_map (λ o. record { ticket = 0; unit = s.0; statement = s.1; answer = o.answer }) (effect_of_unit schema capacity state s.0 s.1))
 
 -- an entry without its ticket
 abbrev pub untimed : Entry → Entry
@@ -45,7 +45,7 @@ untimed e = record e { ticket = 0 }
 abbrev pub entries_in : Lists → ℕ → State → List (ℕ × Statement) → List Entry
 entries_in schema capacity state [] = []
 entries_in schema capacity state (s ∷ order) =
-    entry_in schema capacity state s ++ entries_in schema capacity (after_outcome state s.0 (outcome_of schema capacity state s.0 s.1)) order
+    entry_in schema capacity state s ++ entries_in schema capacity (after_effect state s.0 (effect_of_unit schema capacity state s.0 s.1)) order
 
 -- the answers of a unit, as they are printed, without their tickets
 abbrev pub unit_answers : Meeting → List (ℕ × Statement) → ℕ → List ℕ

@@ -3,7 +3,7 @@ ghost use Rattle.std.specs.Prelude.{◌≡◌};
 ghost use Rattle.dbtg_outcomes.specs.Inside.Grouped.{sum_of};
 
 /// The sum of two numbers of orders.
-pub fn together(some: Option<u64>, more: Option<u64>) -> Option<u64>
+pub fn sum_of(some: Option<u64>, more: Option<u64>) -> Option<u64>
     ensures { result ≡ sum_of some more }
 {
     match (some, more) {

@@ -3,7 +3,7 @@ ghost use Rattle.std.specs.Prelude.{◌≡◌, ◌++◌, ◌∷◌, ◌<◌, [],
 ghost use Rattle.dbtg_outcomes.specs.Inside.Grouped.{IsAdded, IsAt, keys_of};
 ghost use Rattle.dbtg_outcomes.specs.Groups.{among};
 
-use crate::count::together;
+use crate::count::sum_of;
 use dbtg_schema::Row;
 use dbtg_unit::Entry;
 use indexmap::IndexMap;
@@ -73,7 +73,7 @@ impl Groups {
         match self.find(key.as_slice()) {
             Some(at) => {
                 if let Some(known) = self.groups.get_index_mut(at) {
-                    known.orders = together(known.orders, group.orders);
+                    known.orders = sum_of(known.orders, group.orders);
                 }
                 Ok(())
             }

@@ -9,7 +9,7 @@ ghost use Rattle.dbtg_outcomes.specs.Named.{answer_name, currency_name, key_name
 ghost use Rattle.dbtg_outcomes.specs.Spelling.{list_numbers, mode_numbers, one_number, option_numbers, pair_numbers, value_numbers};
 
 use crate::spelled::Spelled;
-use dbtg_cells::{DbKey, Mode, Owner, Value, same_key};
+use dbtg_cells::{DbKey, Mode, Owner, Value, key_eq};
 use dbtg_schema::Row;
 use dbtg_unit::{Currency, Entry, Place, Statement};
 use std::alloc::{AllocError, Global};
@@ -53,7 +53,7 @@ pub fn stored(alloc: Global, history: &[Entry], units: u8) -> Result<Vec<DbKey>,
 fn place_among(stored: &[DbKey], key: DbKey) -> Option<usize>
     ensures { result ≡ position (λ j. key_eq j key) stored.now }
 {
-    stored.iter().position(|other| same_key(*other, key))
+    stored.iter().position(|other| key_eq(*other, key))
 }
 
 /// What is spelled as numbers, with records named by their STOREs.

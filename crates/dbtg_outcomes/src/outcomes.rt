@@ -8,7 +8,7 @@ ghost use Rattle.dbtg_outcomes.specs.Inside.Search.{IsAt};
 ghost use Rattle.dbtg_outcomes.specs.Inside.Steps.{AreByResult, HasHistory, Joins};
 
 use crate::answered::{Answered, answered_by};
-use crate::count::together;
+use crate::count::sum_of;
 use crate::groups::{Group, Groups};
 use crate::meeting::Meeting;
 use crate::search::{Search, Stop};
@@ -113,7 +113,7 @@ fn all_orders(groups: &[Group]) -> Option<u64>
 {
     let mut orders = Some(0);
     for group in groups {
-        orders = together(orders, group.orders);
+        orders = sum_of(orders, group.orders);
     }
     orders
 }

@@ -29,7 +29,7 @@ pub struct Wish {
 }
 
 impl Wish {
-    fn is_broken_by(self, status: u16) -> bool
+    fn breaks(self, status: u16) -> bool
         ensures { result ≡ breaks self status }
     {
         if self.never {
@@ -59,7 +59,7 @@ impl<'a> Meeting<'a> {
     {
         let (run, status) = self.extended(alloc, history, wish.unit, statement)?;
         run.discard();
-        Ok(wish.is_broken_by(status))
+        Ok(wish.breaks(status))
     }
 
     // Does the statement that its unit makes next, after a history, break the wish?

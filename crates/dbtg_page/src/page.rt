@@ -169,7 +169,7 @@ fn push_state(
 fn push_newest(out: &mut Vec<u8>, core: &Core, unit: u8, is_cell: bool) -> Result<(), AllocError>
     ensures { OnOk result (out.new.items ≡ out.old.items ++ (if is_cell then newest_cell (machine core.now) unit else newest_area (machine core.now) unit)) }
 {
-    let Some(newest) = core.newest(unit) else {
+    let Some(newest) = core.newest_at(unit) else {
         return Ok(());
     };
     if is_cell {

@@ -19,7 +19,7 @@ mod set;
 
 use crate::joining::current_owner;
 use crate::missing::{missing, missing_ring, missing_slot};
-use crate::outcomes::{done, refusal};
+use crate::unit_alone::{done_plan, refusal};
 use dbtg_cells::{CellName, DbKey};
 use dbtg_schema::{MOST_SETS, Schema};
 use dbtg_unit::{
@@ -28,7 +28,7 @@ use dbtg_unit::{
 use std::alloc::Global;
 
 // The key that is found, or the cause if none is.
-fn find_key(
+fn found_in(
     schema: &Schema,
     capacity: u16,
     unit: &Unit,
@@ -40,7 +40,7 @@ fn find_key(
     ensures { result ≡ found_in schema.now unit.now held.now form.now }
 {
     match form {
-        Form::Key(key) => current::stored_key(held, *key, Cause::NoneSatisfies),
+        Form::Key(key) => current::stored_or(held, *key, Cause::NoneSatisfies),
         Form::CurrentOfUnit => current::of_current(held, unit.currency.run_unit),
         Form::CurrentOfType(rtype) => current::of_current(held, current::of_type(unit, *rtype)),
         Form::CurrentOfSet(set) => current::of_current(held, unit.key_in(schema, *set)),
@@ -94,7 +94,7 @@ fn next_cell(
 {
     match missing_to_find(schema, unit, form, held) {
         Some(name) => Some(name),
-        None => match find_key(schema, capacity, unit, form, held) {
+        None => match found_in(schema, capacity, unit, form, held) {
             Ok(key) => missing_slot(held, Some(key)),
             Err(_cause) => None,
         },
@@ -143,7 +143,7 @@ fn plan_of_found(
                 owners: owners_of(held, &key),
                 suppress: *suppress,
             };
-            done(alloc, change, Some(key), None)
+            done_plan(alloc, change, Some(key), None)
         }
         Err(cause) => refused(alloc, cause),
     }
@@ -163,7 +163,7 @@ pub(crate) fn prepare_find(
     requires passes { refused_at_once schema.now capacity unit.now (Find form.now suppress.now) ≡ None }
     ensures { CanFinish schema.now capacity unit.now held.now (Find form.now suppress.now) result }
 {
-    let found = find_key(schema, capacity, unit, form, held);
+    let found = found_in(schema, capacity, unit, form, held);
     plan_of_found(alloc, held, suppress, found)
 }
 
@@ -205,6 +205,6 @@ pub(crate) fn make_find(
     requires passes { refused_at_once schema.now capacity unit.old (Find form.now suppress.now) ≡ None }
     ensures { IsMadeOnEach schema.now capacity unit.old held.old (Find form.now suppress.now) (seen result unit.new held.new) }
 {
-    let found = find_key(schema, capacity, unit, form, held);
+    let found = found_in(schema, capacity, unit, form, held);
     see_found(schema, unit, held, suppress, found)
 }

@@ -19,13 +19,13 @@ ghost use Rattle.dbtg_plan.specs.Inside.Joining.{inserting_with};
 use crate::joining::{current_owner, joined_place, joining_edit, make_room, place_refusal};
 use crate::members::{change_slot, slot_edit, sort_key_in};
 use crate::missing::{missing_ring, missing_slot};
-use crate::outcomes;
-use crate::outcomes::done_answer;
+use crate::unit_alone;
+use crate::unit_alone::done_answer;
 use dbtg_cells::{CellName, DbKey, Value};
 use dbtg_schema::{Row, Schema, SetNo};
 use dbtg_unit::{
     Answer, Cause, CellEdit, Edit, Held, Place, Prepared, Status, Unit, UnitEdit, edit_held,
-    next_version, own_refusal, owner_of, refused,
+    next_version, own_refusal, owner_in, refused,
 };
 use std::alloc::{AllocError, Global};
 
@@ -61,7 +61,7 @@ fn refusal(
     if own.is_some() {
         return own;
     }
-    if owner_of(held, set, key).is_some() {
+    if owner_in(held, set, key).is_some() {
         return Some(Cause::AlreadyMember);
     }
     place_refusal(schema, unit, held, set, sort_key)
@@ -194,11 +194,11 @@ pub(crate) fn make_insert(
     // Used by the contract alone.
     let _ = capacity;
     let Some(key) = unit.currency.run_unit else {
-        return Ok(outcomes::refusal(Cause::NoCurrentOfRunUnit));
+        return Ok(unit_alone::refusal(Cause::NoCurrentOfRunUnit));
     };
     let sort_key = sort_key_in(alloc, schema, set, held, &key)?;
     if let Some(cause) = refusal(schema, unit, set, held, &key, &sort_key) {
-        return Ok(outcomes::refusal(cause));
+        return Ok(unit_alone::refusal(cause));
     }
     let version = next_version(held, &key);
     make_room(schema, unit, set, held, &key)?;

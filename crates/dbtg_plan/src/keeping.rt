@@ -3,7 +3,7 @@ ghost use Rattle.std.specs.Prelude.{◌≡◌, IfOk};
 ghost use Rattle.dbtg_unit.specs.Hands.InHand.{in_hand};
 ghost use Rattle.dbtg_unit.specs.Inside.PlanOf.{plan_of};
 
-use crate::outcomes::{done, refusal};
+use crate::unit_alone::{done_plan, refusal};
 use dbtg_cells::copy_items;
 use dbtg_schema::{RecordNo, Schema};
 use dbtg_unit::{
@@ -27,7 +27,7 @@ pub(crate) fn get(
     match stored(held, &key) {
         Some(record) => {
             let items = copy_items(&record.items, alloc)?;
-            Ok(done(alloc, UnitEdit::Same, Some(key), Some(items)))
+            Ok(done_plan(alloc, UnitEdit::Same, Some(key), Some(items)))
         }
         None => Ok(refused(alloc, Cause::Deleted)),
     }
@@ -71,7 +71,7 @@ pub(crate) fn keep(
     match stored(held, &key) {
         Some(record) => {
             let kept = unit.kept.noted(alloc, key, record.version)?;
-            Ok(done(alloc, UnitEdit::Keep { kept }, None, None))
+            Ok(done_plan(alloc, UnitEdit::Keep { kept }, None, None))
         }
         None => Ok(refused(alloc, Cause::Deleted)),
     }
@@ -88,10 +88,10 @@ pub(crate) fn free(
     ensures { IfOk result (λ plan. plan ≡ plan_of schema.now (in_hand held.now) unit.now (Statement.Free all)) }
 {
     if all {
-        return Ok(done(alloc, UnitEdit::ForgetAll, None, None));
+        return Ok(done_plan(alloc, UnitEdit::ForgetAll, None, None));
     }
     match unit.currency.run_unit {
-        Some(key) => Ok(done(alloc, UnitEdit::Forget { key }, None, None)),
+        Some(key) => Ok(done_plan(alloc, UnitEdit::Forget { key }, None, None)),
         None => Ok(refused(alloc, Cause::NoCurrentOfRunUnit)),
     }
 }

@@ -13,11 +13,11 @@ mod missing;
 mod modifying;
 mod need;
 mod opening;
-mod outcomes;
 mod preparing;
 mod removing;
 mod stale;
 mod storing;
+mod unit_alone;
 
 pub use laws::each_statement_is_determined;
 pub use making::{is_made_at_once, make_at_once};

@@ -21,13 +21,13 @@ ghost use Rattle.dbtg_plan.specs.Inside.Modifying.{is_refused, is_rekeyed};
 use crate::calc::{calc_taken, copy_calc};
 use crate::members::{change_slot, copy_sort_key, slot_edit};
 use crate::missing::{missing, missing_ring, missing_slot};
-use crate::outcomes;
-use crate::outcomes::done_answer;
+use crate::unit_alone;
+use crate::unit_alone::done_answer;
 use dbtg_cells::{CellName, DbKey, Owner, Value, copy_items};
 use dbtg_schema::{Duplicates, Order, RecordNo, Row, Schema, SetNo};
 use dbtg_unit::{
     Answer, Cause, CellEdit, Change, Edit, Held, Prepared, Status, Unit, UnitEdit, edit_cells,
-    is_rekeyed_in, names_calc, next_version, occurrence, own_refusal, owner_of, refused, ring_name,
+    is_rekeyed_in, names_calc, next_version, occurrence, own_refusal, owner_in, refused, ring_name,
     set_count, stored,
 };
 use std::alloc::{AllocError, Global};
@@ -198,7 +198,7 @@ fn is_key_taken(
     if !refuses_equal(schema.order_of(set)) {
         return Ok(false);
     }
-    match owner_of(held, set, key) {
+    match owner_in(held, set, key) {
         Some(owner) => has_key_beside(alloc, schema, held, set, &owner, key, items),
         None => Ok(false),
     }
@@ -299,7 +299,7 @@ fn replacing_edit(
     if !is_rekeyed_in(schema, set, key.rtype, changes) {
         return Ok(None);
     }
-    let Some(owner) = owner_of(held, set, key) else {
+    let Some(owner) = owner_in(held, set, key) else {
         return Ok(None);
     };
     let sort_key = copy_sort_key(alloc, schema, set, key.rtype, items)?;
@@ -485,11 +485,11 @@ pub(crate) fn make_modify(
     // Used by the contract alone.
     let _ = (rtype, capacity);
     let Some(key) = unit.currency.run_unit else {
-        return Ok(outcomes::refusal(Cause::NoCurrentOfRunUnit));
+        return Ok(unit_alone::refusal(Cause::NoCurrentOfRunUnit));
     };
     let items = changed(alloc, held, &key, changes)?;
     match refusal(alloc, schema, unit, changes, held, &key, items.as_slice())? {
-        Some(cause) => Ok(outcomes::refusal(cause)),
+        Some(cause) => Ok(unit_alone::refusal(cause)),
         None => modify_record(alloc, schema, unit, changes, held, &key, items),
     }
 }

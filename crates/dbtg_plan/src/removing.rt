@@ -16,13 +16,13 @@ ghost use Rattle.dbtg_unit.specs.Inside.PlanOf.{plan_of};
 
 use crate::members::{change_slot, slot_edit};
 use crate::missing::{missing_ring, missing_slot};
-use crate::outcomes;
-use crate::outcomes::done_answer;
+use crate::unit_alone;
+use crate::unit_alone::done_answer;
 use dbtg_cells::{CellName, DbKey, Owner};
 use dbtg_schema::{Row, Schema, SetNo};
 use dbtg_unit::{
     Answer, Cause, CellEdit, Edit, Held, Prepared, Status, Unit, UnitEdit, edit_held, next_version,
-    own_refusal, owner_of, push_taking_out, refused, ring_name,
+    own_refusal, owner_in, push_taking_out, refused, ring_name,
 };
 use std::alloc::{AllocError, Global};
 
@@ -45,7 +45,7 @@ fn refusal(unit: &Unit, set: SetNo, held: &Held, key: &DbKey) -> Option<Cause>
     if own.is_some() {
         return own;
     }
-    if owner_of(held, set, key).is_none() {
+    if owner_in(held, set, key).is_none() {
         return Some(Cause::NotMember);
     }
     None
@@ -86,7 +86,7 @@ pub(crate) fn remove(
     if let Some(cause) = refusal(unit, set, held, &key) {
         return Ok(refused(alloc, cause));
     }
-    let edits = edits_of(alloc, set, owner_of(held, set, &key), &key)?;
+    let edits = edits_of(alloc, set, owner_in(held, set, &key), &key)?;
     let mut versions = Vec::new(alloc);
     versions.push((key, next_version(held, &key)))?;
     let answer = Answer {
@@ -123,7 +123,7 @@ fn remove_record(unit: &mut Unit, set: SetNo, held: &mut Held, key: &DbKey) -> A
     ensures { (schema : Lists) → seen result unit.new held.new ≡ made_by schema unit.old held.old (removing (in_hand held.old) set key.now) }
 {
     let version = next_version(held, key);
-    take_out(held, set, owner_of(held, set, key), key);
+    take_out(held, set, owner_in(held, set, key), key);
     change_slot(held, key, Edit::ChangeOwner { set, owner: None });
     unit.renote(*key, version);
     held.set_guess(set, None);
@@ -147,10 +147,10 @@ pub(crate) fn make_remove(
     let _ = schema;
     let _ = capacity;
     let Some(key) = unit.currency.run_unit else {
-        return outcomes::refusal(Cause::NoCurrentOfRunUnit);
+        return unit_alone::refusal(Cause::NoCurrentOfRunUnit);
     };
     match refusal(unit, set, held, &key) {
-        Some(cause) => outcomes::refusal(cause),
+        Some(cause) => unit_alone::refusal(cause),
         None => remove_record(unit, set, held, &key),
     }
 }

@@ -10,11 +10,10 @@ ghost use Rattle.dbtg_unit.specs.Hands.Local.{Agrees};
 ghost use Rattle.dbtg_unit.specs.Hands.Needs.{guessed_sets, is_wrong_guess, need, stale_owners};
 ghost use Rattle.dbtg_plan.specs.Inside.Stale.{has_wrong_owner_in, need_of_guesses, wrong_owner_in, wrong_owners_in};
 
-use dbtg_cells::{DbKey, Owner, same_owner};
+use dbtg_cells::{DbKey, Owner, owner_eq};
 use dbtg_schema::{RecordNo, Schema, SetNo};
 use dbtg_unit::{
-    Change, Held, Need, Owners, Statement, Unit, is_rekeyed_in, owner_of, set_count,
-    with_true_owners,
+    Change, Held, Need, Owners, Statement, Unit, is_rekeyed_in, owner_in, set_count, with_owners,
 };
 
 // Is this one of the sets in which a MODIFY moves the record?
@@ -46,14 +45,14 @@ fn is_wrong_guess(truth: &Option<Owner>, guess: &Option<Owner>) -> bool
 {
     match truth {
         Some(owner) => match guess {
-            Some(guess) => !same_owner(*owner, *guess),
+            Some(guess) => !owner_eq(*owner, *guess),
             None => true,
         },
         None => false,
     }
 }
 
-fn wrong_owner(
+fn wrong_owner_in(
     schema: &Schema,
     unit: &Unit,
     statement: &Statement,
@@ -67,7 +66,7 @@ fn wrong_owner(
     if !is_guessed(schema, unit, statement, set) {
         return None;
     }
-    let truth = owner_of(held, set, key);
+    let truth = owner_in(held, set, key);
     if is_wrong_guess(&truth, &held.guess(set)) {
         truth
     } else {
@@ -75,7 +74,7 @@ fn wrong_owner(
     }
 }
 
-fn wrong_owners(
+fn wrong_owners_in(
     schema: &Schema,
     unit: &Unit,
     statement: &Statement,
@@ -87,14 +86,14 @@ fn wrong_owners(
     schema.is_well_formed();
     let mut owners = Owners::none(set_count(schema) as usize);
     for s in 0..set_count(schema) {
-        let owner = wrong_owner(schema, unit, statement, held, key, SetNo::new(s));
+        let owner = wrong_owner_in(schema, unit, statement, held, key, SetNo::new(s));
         owners.set(s as usize, owner);
     }
     owners
 }
 
 #[tactic(auto, using(dbtg_unit::proofs::Public::numbers_next, dbtg_unit::proofs::Public::numbers_end))]
-fn has_wrong_owner(
+fn has_wrong_owner_in(
     schema: &Schema,
     unit: &Unit,
     statement: &Statement,
@@ -104,7 +103,7 @@ fn has_wrong_owner(
     ensures { result ≡ has_wrong_owner_in schema.now unit.now held.now statement.now key.now }
 {
     for s in 0..set_count(schema) {
-        if wrong_owner(schema, unit, statement, held, key, SetNo::new(s)).is_some() {
+        if wrong_owner_in(schema, unit, statement, held, key, SetNo::new(s)).is_some() {
             return true;
         }
     }
@@ -120,7 +119,7 @@ fn need_of_key(
 ) -> Need
     ensures { result ≡ need_of_guesses schema.now unit.now held.now statement.now (Some key.now) }
 {
-    if has_wrong_owner(schema, unit, statement, held, key) {
+    if has_wrong_owner_in(schema, unit, statement, held, key) {
         Need::Stale
     } else {
         Need::Ready
@@ -151,8 +150,8 @@ pub fn true_guesses(schema: &Schema, unit: &Unit, statement: &Statement, held: &
 {
     match &unit.currency.run_unit {
         Some(key) => {
-            let owners = wrong_owners(schema, unit, statement, held, key);
-            with_true_owners(held.guesses(), owners)
+            let owners = wrong_owners_in(schema, unit, statement, held, key);
+            with_owners(held.guesses(), owners)
         }
         // Nothing is guessed, and no guess is wrong.
         None => Owners::of(held.guesses()),

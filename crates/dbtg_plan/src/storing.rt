@@ -22,7 +22,7 @@ use crate::calc::{calc_taken, copy_calc, fresh_key};
 use crate::joining::{current_owner, joining_edit, make_room, place_refusal};
 use crate::members::{copy_sort_key, slot_edit};
 use crate::missing::{missing, missing_ring, missing_slot};
-use crate::outcomes;
+use crate::unit_alone;
 use dbtg_cells::{CellName, DbKey, Owner, Value, copy_items};
 use dbtg_schema::{RecordNo, Row, Schema, SetNo};
 use dbtg_unit::{
@@ -113,7 +113,7 @@ fn new_key(held: &Held, rtype: RecordNo) -> Option<DbKey>
     numbers(held, rtype).and_then(|extent| fresh_key(extent, rtype))
 }
 
-fn missing_cell(
+fn missing_of_store(
     schema: &Schema,
     unit: &Unit,
     rtype: RecordNo,
@@ -148,7 +148,7 @@ pub(crate) fn next_cell_of_store(
 ) -> Option<CellName>
     ensures { (capacity : ℕ) (db : Database) (suppress : Suppress) → Agrees schema.now capacity db held.now unit.now → result ≡ first_missing held.now (cells_of schema.now capacity db unit.now held.now.guesses (Store rtype items.now suppress)) }
 {
-    missing_cell(schema, unit, rtype, items.as_slice(), held)
+    missing_of_store(schema, unit, rtype, items.as_slice(), held)
 }
 
 // WHY IT IS REFUSED
@@ -521,6 +521,6 @@ pub(crate) fn make_store(
     let judged = judged(alloc, schema, unit, held, rtype, items.as_slice())?;
     match judged {
         Ok(key) => store(alloc, schema, unit, items, suppress, held, &key),
-        Err(cause) => Ok(outcomes::refusal(cause)),
+        Err(cause) => Ok(unit_alone::refusal(cause)),
     }
 }

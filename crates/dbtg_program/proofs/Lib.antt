@@ -4,7 +4,7 @@ mod Digits
 mod Gathering
 mod Held
 mod Judged
-mod Kept
+mod FieldsFit
 mod Marks
 mod Parts
 mod Steps

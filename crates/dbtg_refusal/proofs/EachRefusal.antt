@@ -22,10 +22,10 @@ use Rattle.dbtg_unit.specs.declared.unit.Unit.{Unit}
 use Rattle.dbtg_unit.specs.Database.State.Base.{Database, calc_items, is_live, items_of, members_of, sort_key}
 use Rattle.dbtg_unit.specs.Database.State.Units.{key_of_place, place_in}
 use Rattle.dbtg_unit.specs.Database.Statements.Checks.{checks_at_once, checks_on_cells, refused_at_once}
-use Rattle.dbtg_unit.specs.Database.Statements.Effect.{Outcome, done_on_cells, done_on_current, effect, effect_on_cells, finding, unless_refused}
+use Rattle.dbtg_unit.specs.Database.Statements.Effect.{StatementEffect, done_on_cells, done_on_current, effect, effect_on_cells, finding, unless_refused}
 use Rattle.dbtg_unit.specs.Database.Statements.Fits.{fits}
 use Rattle.dbtg_unit.specs.Database.Statements.Found.{chosen, chosen_by_key, found, found_unless, is_lost, keys_in_area, needs_position, with_calc, with_current}
-use Rattle.dbtg_unit.specs.Database.Statements.View.{whole}
+use Rattle.dbtg_unit.specs.Database.Statements.StoredFacts.{whole}
 use Rattle.dbtg_refusal.specs.declared.obstacle.Obstacle.TheVariants as obstacle
 use Rattle.dbtg_refusal.specs.Obstacles.{holder_in, obstacle_of}
 use Rattle.dbtg_refusal.proofs.FirstCauses.{first_in, map_some, none_holds}
@@ -131,7 +131,7 @@ module _ (schema : Lists) (capacity : ℕ) (db : Database) (unit : Unit) where
   finding_has form suppress why after passed (Ok k) is h = absurd (cc (h))
   finding_has form suppress why after passed (Err c) is h = let same : c ≡ why = cc (h) in find_has form suppress why passed (is ∙ ap Err same)
 
-  on_current : (x : Statement) (why : Cause) (o : Option DbKey) (f : DbKey → Outcome) → ((k : DbKey) → (f k).answer.status ≡ Done) → (done_on_current db unit o f).answer.status ≡ Refused why → Has x why
+  on_current : (x : Statement) (why : Cause) (o : Option DbKey) (f : DbKey → StatementEffect) → ((k : DbKey) → (f k).answer.status ≡ Done) → (done_on_current db unit o f).answer.status ≡ Refused why → Has x why
   on_current x why None f fine h = let same : cause.NoCurrentOfRunUnit ≡ why = cc (h) in has x why same refl
   on_current x why (Some k) f fine h = absurd (done_not_refused why (sym (fine k) ∙ h))
 

@@ -14,7 +14,7 @@ use Rattle.dbtg_unit.specs.declared.unit.Status.{Status}
 use Rattle.dbtg_unit.specs.declared.unit.Status.TheVariants.{Done, Refused}
 use Rattle.dbtg_unit.specs.declared.unit.Unit.{Unit}
 use Rattle.dbtg_unit.specs.Database.Statements.Codes.{is_done}
-use Rattle.dbtg_unit.specs.Database.Statements.Effect.{Outcome, effect}
+use Rattle.dbtg_unit.specs.Database.Statements.Effect.{StatementEffect, effect}
 use Rattle.dbtg_unit.specs.Database.Statements.Fits.{fits}
 use Rattle.dbtg_unit.specs.Database.Laws.Replay.{AnswersHold, IsHistoryOf, State, after_entry, answer_to, opening_state, unit_of}
 use Rattle.dbtg_refusal.specs.declared.obstacle.Obstacle.{Obstacle}
@@ -99,7 +99,7 @@ has_sentence schema why (Some thing) h = with_middle (subject schema thing) (pre
 module _ (schema : Lists) (capacity : ℕ) (sound : IsSound schema) where
   -- what is said of a statement whose answer is the database's
   said_as_answered : (state : State) (e : Entry) → fits schema e.statement ≡ true → (unit : Option Unit) → unit_of state e.unit ≡ unit
-      → option_map (λ (o : Outcome). o.answer) (option_map (λ (u : Unit). effect schema capacity state.database u e.statement) unit) ≡ Some e.answer
+      → option_map (λ (o : StatementEffect). o.answer) (option_map (λ (u : Unit). effect schema capacity state.database u e.statement) unit) ≡ Some e.answer
       → (status : Status) → e.answer.status ≡ status → is_empty (said_with schema capacity state e status) ≡ is_done status
   said_as_answered state e fit None at answered status is = absurd (cc (answered))
   said_as_answered state e fit (Some unit) at answered Done is = refl

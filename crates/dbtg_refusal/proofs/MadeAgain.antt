@@ -8,7 +8,7 @@ use Rattle.std.proofs.lemmas.List.Folds.{list_all_at}
 use Rattle.dbtg_schema.specs.Lists.{Lists}
 use Rattle.dbtg_unit.specs.declared.unit.Entry.{Entry}
 use Rattle.dbtg_unit.specs.Database.Statements.Fits.{fits}
-use Rattle.dbtg_unit.specs.Database.Laws.Replay.{State, after_entry, after_outcome, opening_state, replay}
+use Rattle.dbtg_unit.specs.Database.Laws.Replay.{State, after_entry, after_effect, opening_state, replay}
 use Rattle.dbtg_step.specs.Core.Audit.{MayBeHistory}
 use Rattle.dbtg_step.specs.Core.Whole.{HasMade, Making, state_now}
 use Rattle.dbtg_refusal.specs.Said.{said_from, said_in}
@@ -37,7 +37,7 @@ state_at_first m none = ap (replay m.schema m.capacity (opening_state m.schema m
 
 -- with the statement of an entry made, the state is that after the entry
 pub state_behind : (old new : Making) (e : Entry) → HasMade old e.unit e.statement new → state_now new ≡ after_entry old.schema old.capacity (state_now old) e
-state_behind old new e has = has.state_is ∙ ap (after_outcome (state_now old) e.unit) (sym has.outcome_is)
+state_behind old new e has = has.state_is ∙ ap (after_effect (state_now old) e.unit) (sym has.outcome_is)
 
 -- what is said from an entry on: of it, and from the next one on
 pub said_next : (schema : Lists) (capacity : ℕ) (state : State) (history : List Entry) (i : ℕ) (e : Entry) → i < length history → e ≡ get_or history i e

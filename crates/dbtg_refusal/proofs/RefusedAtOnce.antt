@@ -22,7 +22,7 @@ use Rattle.dbtg_unit.specs.Database.State.Units.{place_in}
 use Rattle.dbtg_unit.specs.Database.Statements.Checks.{areas_of, checks_at_once, refused_at_once}
 use Rattle.dbtg_unit.specs.Database.Statements.Conditions.{changes_records, class_in, current_type, find_lacks_current, frees_what_is_not_kept, is_beyond, is_inserting_mandatory_automatic, is_open_statement, is_opening_again, is_removing_mandatory, lacks_current, needs_current}
 use Rattle.dbtg_unit.specs.Database.Statements.Fits.{fits}
-use Rattle.dbtg_unit.specs.Database.Statements.View.{View}
+use Rattle.dbtg_unit.specs.Database.Statements.StoredFacts.{StoredFacts}
 use Rattle.dbtg_unit.proofs.Public.{areas_known, find_element}
 use Rattle.dbtg_refusal.specs.declared.obstacle.Obstacle.TheVariants as obstacle
 use Rattle.dbtg_refusal.specs.Obstacles.{Holder, area_with, class_of, current_for, obstacle_by, opened_by, searched, without_current}
@@ -231,7 +231,7 @@ module _ (schema : Lists) (sound : IsSound schema) (unit : Unit) where
   not_kept (Free false) current h = current_is_some unit.currency.run_unit current
 
 -- what is refused at once has something in its way, whatever a view answers
-pub at_once : (schema : Lists) (capacity : ℕ) (view : View) (holder : Holder) (unit : Unit) (x : Statement) (why : Cause) → IsSound schema → fits schema x ≡ true
+pub at_once : (schema : Lists) (capacity : ℕ) (view : StoredFacts) (holder : Holder) (unit : Unit) (x : Statement) (why : Cause) → IsSound schema → fits schema x ≡ true
     → refused_at_once schema capacity unit x ≡ Some why → is_some (obstacle_by schema view holder unit x why) ≡ true
 at_once schema capacity view holder unit x why sound fit h =
     elim (first_in (checks_at_once schema capacity unit x) why h) [

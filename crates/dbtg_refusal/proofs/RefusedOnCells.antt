@@ -30,7 +30,7 @@ use Rattle.dbtg_unit.specs.Database.State.Units.{kept_version}
 use Rattle.dbtg_unit.specs.Database.Statements.Checks.{about, checks_at, checks_on_cells, delete_checks, insert_checks, live_checks, modify_checks, open_checks, own_checks, place_checks, remove_checks}
 use Rattle.dbtg_unit.specs.Database.Statements.Conditions.{calc_taken, changed_items, has_members, is_plain, joined_place, names_calc, refuses_equal, sort_key_taken}
 use Rattle.dbtg_unit.specs.Database.Statements.Found.{is_lost, with_calc}
-use Rattle.dbtg_unit.specs.Database.Statements.View.{View, whole}
+use Rattle.dbtg_unit.specs.Database.Statements.StoredFacts.{StoredFacts, whole}
 use Rattle.dbtg_unit.proofs.Public.{find_element}
 use Rattle.dbtg_refusal.specs.declared.obstacle.Obstacle.TheVariants as obstacle
 use Rattle.dbtg_refusal.specs.Obstacles.{Holder, holder_in, in_store, member_with, obstacle_of, rekeyed_member}
@@ -42,7 +42,7 @@ lost_at None list h = absurd (false≢true h)
 lost_at (Some p) list h = refl
 
 module _ (schema : Lists) (capacity : ℕ) (db : Database) (unit : Unit) where
-  abbrev view : View
+  abbrev view : StoredFacts
   view = whole schema capacity db
 
   abbrev holder : Holder

@@ -18,7 +18,7 @@ use Rattle.dbtg_unit.specs.Database.State.Base.{Database, key_item, members_of}
 use Rattle.dbtg_unit.specs.Database.State.Image.{Image, image_of}
 use Rattle.dbtg_unit.specs.Database.State.Legal.{Legal}
 use Rattle.dbtg_unit.specs.Database.Statements.Found.{with_calc}
-use Rattle.dbtg_unit.specs.Database.Statements.View.{View, whole}
+use Rattle.dbtg_unit.specs.Database.Statements.StoredFacts.{StoredFacts, whole}
 use Rattle.dbtg_refusal.specs.declared.obstacle.Obstacle.{Obstacle}
 use Rattle.dbtg_refusal.specs.Inside.Imaged.{holder_in_image, imaged, items_in, members_in, obstacle_in, sort_key_in}
 use Rattle.dbtg_refusal.specs.Obstacles.{Holder, conflicting, deleted_for, duplicate_for, holder_in, listed, lost_for, obstacle_by, obstacle_of}
@@ -28,11 +28,11 @@ use Rattle.dbtg_refusal.proofs.ImageView.{same_holder, same_items, same_list, sa
 -- FREE NUMBERS
 
 -- a view that knows nothing of free numbers
-abbrev blind : View → View
+abbrev blind : StoredFacts → StoredFacts
 blind view = record view { is_full = λ t. false; fresh = λ t. record { rtype = t; number = 0; generation = 0 } }
 
 -- no obstacle asks for them
-module _ (schema : Lists) (view : View) (holder : Holder) (unit : Unit) where
+module _ (schema : Lists) (view : StoredFacts) (holder : Holder) (unit : Unit) where
   in_statement : (statement : Statement)
       → (conflicting (blind view) statement ≡ conflicting view statement)
       × (deleted_for schema (blind view) unit statement ≡ deleted_for schema view unit statement)

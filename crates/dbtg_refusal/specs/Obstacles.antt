@@ -28,7 +28,7 @@ use Rattle.dbtg_unit.specs.Database.State.Units.{key_of_place, kept_version, pla
 use Rattle.dbtg_unit.specs.Database.Statements.Checks.{place_checks}
 use Rattle.dbtg_unit.specs.Database.Statements.Conditions.{calc_taken, changed_items, current_type, joined_place, names_calc, refuses_equal, sort_key_taken}
 use Rattle.dbtg_unit.specs.Database.Statements.Found.{with_calc}
-use Rattle.dbtg_unit.specs.Database.Statements.View.{View, whole}
+use Rattle.dbtg_unit.specs.Database.Statements.StoredFacts.{StoredFacts, whole}
 use Rattle.dbtg_unit.specs.Hands.Needs.{areas_in_order}
 use Rattle.dbtg_refusal.specs.declared.obstacle.Obstacle.{Obstacle}
 use Rattle.dbtg_refusal.specs.declared.obstacle.Obstacle.TheVariants as obstacle
@@ -79,23 +79,23 @@ abbrev pub holder_in : Lists → ℕ → Database → Holder
 holder_in schema capacity db t values left = find (λ x. not (is_left_out left x)) (with_calc schema capacity db t values)
 
 -- the first member of o's list of set s with this sort key, other than the one that is left out
-abbrev pub member_with : Lists → View → ℕ → Owner → Option DbKey → Option Value → Option DbKey
+abbrev pub member_with : Lists → StoredFacts → ℕ → Owner → Option DbKey → Option Value → Option DbKey
 member_with schema view s o left v =
     find (λ x. not (is_left_out left x) && option_value_eq (key_item schema s x.rtype (view.items x)) v) (view.members s o)
 
 -- where a member with sort key v would go in set s: its occurrence; the position; the member with that key
-abbrev pub at_place : Lists → View → ℕ → Place → Option Value → Cause → Option Obstacle
+abbrev pub at_place : Lists → StoredFacts → ℕ → Place → Option Value → Cause → Option Obstacle
 at_place schema view s place v PositionLost = option_map (obstacle.Member s place.owner) place.at
 at_place schema view s place v DuplicatesNotAllowed = option_map (obstacle.Member s place.owner) (member_with schema view s place.owner None v)
 at_place schema view s place v _ = Some (obstacle.Occurrence s place.owner)
 
 -- the first set in which a STORE may not connect the record
-abbrev pub refusing_set : Lists → View → Unit → ℕ → List Value → Option ℕ
+abbrev pub refusing_set : Lists → StoredFacts → Unit → ℕ → List Value → Option ℕ
 refusing_set schema view unit t items =
     find (λ s. is_some (first_cause (place_checks schema view unit s (key_item schema s t items)))) (automatic_sets schema t)
 
 -- what is in the way there
-abbrev pub in_store : Lists → View → Unit → ℕ → List Value → Cause → Option Obstacle
+abbrev pub in_store : Lists → StoredFacts → Unit → ℕ → List Value → Cause → Option Obstacle
 in_store schema view unit t items cause =
     option_and_then (λ s. at_place schema view s (joined_place schema unit s) (key_item schema s t items) cause) (refusing_set schema view unit t items)
 
@@ -112,7 +112,7 @@ start_of schema unit (Sorted value s) = Some (obstacle.Occurrence s (joined_plac
 start_of schema unit _ = None
 
 -- what is deleted: the record itself, or the owner in the current of a set
-abbrev pub deleted_for : Lists → View → Unit → Statement → Option Obstacle
+abbrev pub deleted_for : Lists → StoredFacts → Unit → Statement → Option Obstacle
 deleted_for schema view unit (Find form suppress) = start_of schema unit form
 deleted_for schema view unit (Store t items suppress) = in_store schema view unit t items Deleted
 deleted_for schema view unit (Insert s) =
@@ -120,20 +120,20 @@ deleted_for schema view unit (Insert s) =
 deleted_for schema view unit _ = option_map obstacle.Record unit.currency.run_unit
 
 -- the position that is lost
-abbrev pub lost_for : Lists → View → Unit → Statement → Option Obstacle
+abbrev pub lost_for : Lists → StoredFacts → Unit → Statement → Option Obstacle
 lost_for schema view unit (Find (InSet which r s) suppress) = at_place schema view s (joined_place schema unit s) None PositionLost
 lost_for schema view unit (Store t items suppress) = in_store schema view unit t items PositionLost
 lost_for schema view unit (Insert s) = at_place schema view s (joined_place schema unit s) None PositionLost
 lost_for schema view unit _ = None
 
 -- the member of the list of set s in which k is that has the sort key which k would have with these items
-abbrev pub rekeyed_member : Lists → View → DbKey → List Value → ℕ → Option Obstacle
+abbrev pub rekeyed_member : Lists → StoredFacts → DbKey → List Value → ℕ → Option Obstacle
 rekeyed_member schema view k items s =
     option_and_then (λ o. option_map (obstacle.Member s o) (member_with schema view s o (Some k) (key_item schema s k.rtype items))) (view.owner s k)
 
 -- a MODIFY of k that leaves it with these items: the record with its CALC items, or the member with its sort key in the first set that
 -- has one
-abbrev pub in_modify : Lists → View → Holder → List Change → DbKey → List Value → Option Obstacle
+abbrev pub in_modify : Lists → StoredFacts → Holder → List Change → DbKey → List Value → Option Obstacle
 in_modify schema view holder changes k items =
     if names_calc schema k.rtype changes && calc_taken schema view k.rtype items (Some k)
     then option_map obstacle.Record (holder k.rtype (calc_items schema k.rtype items) (Some k))
@@ -141,7 +141,7 @@ in_modify schema view holder changes k items =
     (find (λ s. refuses_equal (order_of schema s) && sort_key_taken schema view k items s) (rekeyed_sets schema k.rtype (map (λ c. c.item) changes)))
 
 -- who has the same CALC items or sort key
-abbrev pub duplicate_for : Lists → View → Holder → Unit → Statement → Option Obstacle
+abbrev pub duplicate_for : Lists → StoredFacts → Holder → Unit → Statement → Option Obstacle
 duplicate_for schema view holder unit (Store t items suppress) =
     if calc_taken schema view t items None
     then option_map obstacle.Record (holder t (calc_items schema t items) None)
@@ -162,7 +162,7 @@ searched schema unit (Find (Sorted value s) suppress) = Some (obstacle.Occurrenc
 searched schema unit _ = None
 
 -- the first unit, in the order of opening, whose mode conflicts
-abbrev pub conflicting : View → Statement → Option Obstacle
+abbrev pub conflicting : StoredFacts → Statement → Option Obstacle
 conflicting view (OpenArea a mode) = option_map (λ e. obstacle.Opened a e.0 e.1) (find (λ e. conflict e.1 mode) (view.users a))
 conflicting view _ = None
 
@@ -172,12 +172,12 @@ stored_type (Store t items suppress) = Some (obstacle.RecordType t)
 stored_type _ = None
 
 -- the current of run-unit, at the version that is kept of it and at its own
-abbrev pub changed_since : View → Unit → Option Obstacle
+abbrev pub changed_since : StoredFacts → Unit → Option Obstacle
 changed_since view unit =
     option_and_then (λ k. option_map (λ n. obstacle.Changed k n (view.version k)) (kept_version unit k)) unit.currency.run_unit
 
 -- whose list of the set of an INSERT has the current of run-unit
-abbrev pub listed : View → Unit → Statement → Option Obstacle
+abbrev pub listed : StoredFacts → Unit → Statement → Option Obstacle
 listed view unit (Insert s) = option_and_then (λ k. option_map (λ o. obstacle.Member s o k) (view.owner s k)) unit.currency.run_unit
 listed view unit _ = None
 
@@ -187,14 +187,14 @@ unlisted unit (Remove s) = option_map (obstacle.Outside s) unit.currency.run_uni
 unlisted unit _ = None
 
 -- the first set in which the current of run-unit has members
-abbrev pub owning : Lists → View → Unit → Option Obstacle
+abbrev pub owning : Lists → StoredFacts → Unit → Option Obstacle
 owning schema view unit =
     option_and_then (λ k. option_map (λ s. obstacle.Occurrence s (Rec k)) (find (λ s. nat_lt 0 (length (view.members s (Rec k)))) (set_numbers schema))) unit.currency.run_unit
 
 -- EVERY CAUSE
 
 -- what is in the way, by what a view answers
-abbrev pub obstacle_by : Lists → View → Holder → Unit → Statement → Cause → Option Obstacle
+abbrev pub obstacle_by : Lists → StoredFacts → Holder → Unit → Statement → Cause → Option Obstacle
 obstacle_by schema view holder unit statement NoCurrentOfRunUnit = Some (obstacle.RunUnit unit.number)
 obstacle_by schema view holder unit statement OtherRecordType = option_map obstacle.Record unit.currency.run_unit
 obstacle_by schema view holder unit statement MandatoryAutomatic = class_of unit statement

@@ -20,7 +20,7 @@ use crate::finding::{
     class_of, current_occurrence, record_of, searched, start_of, stored_type, unlisted,
     without_current,
 };
-use crate::imaged::{is_live, owner_in, version_in};
+use crate::imaged::{live_in, owner_in, version_in};
 use crate::obstacle::Obstacle;
 use crate::placing::{Items, in_store, joined_place, member_of, members_in};
 use dbtg_cells::{DbKey, Owner};
@@ -34,7 +34,7 @@ fn deleted_for_insert(schema: &Schema, image: &Image, unit: &Unit, set: SetNo) -
 {
     match unit.currency.run_unit {
         Some(key) => {
-            if is_live(image, &key) {
+            if live_in(image, &key) {
                 Some(current_occurrence(schema, unit, set))
             } else {
                 Some(Obstacle::Record(key))

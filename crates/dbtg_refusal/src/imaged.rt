@@ -3,16 +3,16 @@ ghost use Rattle.std.specs.Prelude.{◌≡◌, option_map};
 ghost use Rattle.dbtg_cells.specs.Keys.{is_member};
 ghost use Rattle.dbtg_refusal.specs.Inside.Imaged.{items_in, list_in, lists_in, live_in, owner_in, users_in, version_in};
 
-use dbtg_cells::{DbKey, Mode, Owner, Value, same_key, same_owner};
+use dbtg_cells::{DbKey, Mode, Owner, Value, key_eq, owner_eq};
 use dbtg_schema::{AreaNo, Row, SetNo};
 use dbtg_unit::Image;
 
 /// Is there a record with this key?
-pub(crate) fn is_live(image: &Image, key: &DbKey) -> bool
+pub(crate) fn live_in(image: &Image, key: &DbKey) -> bool
     ensures { result ≡ live_in image.now key.now }
 {
     for entry in image.records.as_slice() {
-        if same_key(*key, entry.0) {
+        if key_eq(*key, entry.0) {
             return true;
         }
     }
@@ -24,7 +24,7 @@ pub(crate) fn items_in<'a>(image: &'a Image, key: &DbKey) -> &'a [Value]
     ensures { result.now ≡ items_in image.now key.now }
 {
     for entry in image.records.as_slice() {
-        if same_key(*key, entry.0) {
+        if key_eq(*key, entry.0) {
             return entry.1.as_slice();
         }
     }
@@ -36,7 +36,7 @@ pub(crate) fn version_in(image: &Image, key: &DbKey) -> u64
     ensures { result ≡ version_in image.now key.now }
 {
     for entry in image.versions.as_slice() {
-        if same_key(*key, entry.0) {
+        if key_eq(*key, entry.0) {
             return entry.1;
         }
     }
@@ -48,7 +48,7 @@ pub(crate) fn has_key(keys: &[DbKey], key: &DbKey) -> bool
     ensures { result ≡ is_member key.now keys.now }
 {
     for other in keys {
-        if same_key(*key, *other) {
+        if key_eq(*key, *other) {
             return true;
         }
     }
@@ -69,7 +69,7 @@ pub(crate) fn list_in<'a>(image: &'a Image, set: SetNo, owner: &Owner) -> Option
     ensures { option_map (λ l. l.now) result ≡ list_in image.now set owner.now }
 {
     for list in lists_in(image, set) {
-        if same_owner(list.0, *owner) {
+        if owner_eq(list.0, *owner) {
             return Some(list.1.as_slice());
         }
     }

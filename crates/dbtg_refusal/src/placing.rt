@@ -15,7 +15,7 @@ ghost use Rattle.dbtg_refusal.specs.Obstacles.{at_place, in_store, member_with, 
 
 use crate::imaged::{has_key, items_in, list_in};
 use crate::obstacle::Obstacle;
-use dbtg_cells::{DbKey, Owner, Value, same_value};
+use dbtg_cells::{DbKey, Owner, Value, value_eq};
 use dbtg_schema::{Duplicates, ItemNo, Order, RecordNo, Schema, SetNo};
 use dbtg_unit::{Cause, Image, Place, Unit};
 
@@ -68,7 +68,7 @@ pub(crate) fn same_item(one: &[Value], item: ItemNo, two: &[Value], other: ItemN
         one.get(item.index() as usize),
         two.get(other.index() as usize),
     ) {
-        (Some(a), Some(b)) => same_value(a, b),
+        (Some(a), Some(b)) => value_eq(a, b),
         (Some(a), None) => is_zero(a),
         (None, Some(b)) => is_zero(b),
         (None, None) => true,

@@ -10,7 +10,7 @@ use Rattle.dbtg_unit.specs.declared.unit.Entry.{Entry}
 use Rattle.dbtg_unit.specs.declared.unit.Unit.{Unit}
 use Rattle.dbtg_unit.specs.Database.State.Image.{Image}
 use Rattle.dbtg_unit.specs.Database.Statements.Fits.{fits}
-use Rattle.dbtg_unit.specs.Database.Laws.Replay.{State, after_entry, opening_state, outcome_of, replay}
+use Rattle.dbtg_unit.specs.Database.Laws.Replay.{State, after_entry, opening_state, effect_of_unit, replay}
 use Rattle.dbtg_unit.proofs.Public.{opening_length}
 use Rattle.dbtg_step.specs.declared.results.Run.{Run}
 use Rattle.dbtg_step.specs.Core.Audit.{MayBeHistory}
@@ -59,7 +59,7 @@ as_many_behind : (lists : Lists) (capacity : ℕ) (state : State) (es : List Ent
 unfolding replay
 as_many_behind lists capacity state [] = refl
 as_many_behind lists capacity state (e ∷ es) =
-    as_many_behind lists capacity (after_entry lists capacity state e) es ∙ as_many state e.unit (outcome_of lists capacity state e.unit e.statement)
+    as_many_behind lists capacity (after_entry lists capacity state e) es ∙ as_many state e.unit (effect_of_unit lists capacity state e.unit e.statement)
 
 module _ (lists : Lists) (capacity : ℕ) (scripts : List (List Statement)) (history : List Entry) (image : Image) (units : List Unit) (law : IsSequential lists capacity scripts history image units) where
   pub as_many_units : length units ≡ length scripts

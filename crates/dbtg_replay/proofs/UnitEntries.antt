@@ -10,8 +10,8 @@ use Rattle.dbtg_cells.proofs.Public.{there_is}
 use Rattle.dbtg_unit.specs.declared.statement.Statement.{Statement}
 use Rattle.dbtg_unit.specs.declared.unit.Entry.{Entry}
 use Rattle.dbtg_unit.specs.declared.unit.Unit.{Unit}
-use Rattle.dbtg_unit.specs.Database.Statements.Effect.{Outcome, effect}
-use Rattle.dbtg_unit.specs.Database.Laws.Replay.{State, AnswersHold, TicketsInOrder, after_entry, after_outcome, answers, entries_of, outcome_of}
+use Rattle.dbtg_unit.specs.Database.Statements.Effect.{StatementEffect, effect}
+use Rattle.dbtg_unit.specs.Database.Laws.Replay.{State, AnswersHold, TicketsInOrder, after_entry, after_effect, answers, entries_of, effect_of_unit}
 use Rattle.dbtg_unit.specs.Database.Laws.Replaying.{statements_of}
 use Rattle.dbtg_unit.proofs.Public.{statements_determine}
 use Rattle.dbtg_step.specs.Machine.SequentialDatabase.{unit_at, with_unit_at}
@@ -32,17 +32,17 @@ abbrev pub AllWithin : ℕ → List Entry → Type 0
 AllWithin n [] = ⊤
 AllWithin n (e ∷ es) = (0 < e.unit) × (e.unit ≤ n) × AllWithin n es
 
-answered_below : (units : List Unit) (n : ℕ) (f : Unit → Outcome) (entry : Entry) → option_map (λ (o : Outcome). o.answer) (option_map f (slice_get units n)) ≡ Some entry.answer → n < length units
+answered_below : (units : List Unit) (n : ℕ) (f : Unit → StatementEffect) (entry : Entry) → option_map (λ (o : StatementEffect). o.answer) (option_map f (slice_get units n)) ≡ Some entry.answer → n < length units
 answered_below [] n f entry e = absurd (cc (e))
 answered_below (u ∷ us) zero f entry e = omega arith
 answered_below (u ∷ us) (suc n) f entry e = let l = answered_below us n f entry e in omega (arith, l)
 
-answered_by : (schema : Lists) (capacity : ℕ) (state : State) (entry : Entry) (number : ℕ) → option_map (λ (o : Outcome). o.answer) (outcome_of schema capacity state number entry.statement) ≡ Some entry.answer → (0 < number) × (number ≤ length state.units)
+answered_by : (schema : Lists) (capacity : ℕ) (state : State) (entry : Entry) (number : ℕ) → option_map (λ (o : StatementEffect). o.answer) (effect_of_unit schema capacity state number entry.statement) ≡ Some entry.answer → (0 < number) × (number ≤ length state.units)
 answered_by schema capacity state entry zero e = absurd (cc (e))
 answered_by schema capacity state entry (suc n) e =
     let l = answered_below state.units n (λ unit. effect schema capacity state.database unit entry.statement) entry e in (omega arith, omega (arith, l))
 
-pub as_many : (state : State) (number : ℕ) (o : Option Outcome) → length (after_outcome state number o).units ≡ length state.units
+pub as_many : (state : State) (number : ℕ) (o : Option StatementEffect) → length (after_effect state number o).units ≡ length state.units
 as_many state number None = refl
 as_many state number (Some o) = length-set state.units (number - 1) o.unit
 
@@ -51,7 +51,7 @@ unfolding AnswersHold
 all_within schema capacity n state [] count holds = tt
 all_within schema capacity n state (e ∷ es) count holds =
     let by = answered_by schema capacity state e e.unit holds.0 in
-    (by.0, subst (λ k. e.unit ≤ k) count by.1, all_within schema capacity n (after_entry schema capacity state e) es (as_many state e.unit (outcome_of schema capacity state e.unit e.statement) ∙ count) holds.1)
+    (by.0, subst (λ k. e.unit ≤ k) count by.1, all_within schema capacity n (after_entry schema capacity state e) es (as_many state e.unit (effect_of_unit schema capacity state e.unit e.statement) ∙ count) holds.1)
 
 -- THE ENTRIES OF EACH UNIT
 

@@ -12,7 +12,7 @@ ghost use Rattle.dbtg_unit.specs.Hands.Local.{Agrees};
 ghost use Rattle.dbtg_unit.specs.Hands.Making.{IsReady};
 ghost use Rattle.dbtg_unit.specs.Hands.Needs.{need};
 ghost use Rattle.dbtg_step.specs.Machine.Network.{noted_owners};
-ghost use Rattle.dbtg_step.specs.Core.Courses.{IsCourseKept};
+ghost use Rattle.dbtg_step.specs.Core.Courses.{CourseMatches};
 ghost use Rattle.dbtg_step.specs.Inside.Courses.{HasMore};
 ghost use Rattle.dbtg_step.specs.Inside.Events.{HaveRings};
 ghost use Rattle.dbtg_run.specs.Inside.Posed.{HoldsSo, turns_left};
@@ -263,8 +263,8 @@ impl Work {
         requires belongs { Belongs db.now self.now }
         requires work { IsAtWork self.now }
         requires fits { fits self.now.about.schema.value statement.now ≡ true }
-        requires kept { IsCourseKept db.now.schema db.now.about.capacity self.now.held self.now.unit statement.now course.old }
-        ensures kept { IsCourseKept db.now.schema db.now.about.capacity self.now.held self.now.unit statement.now course.new }
+        requires kept { CourseMatches db.now.schema db.now.about.capacity self.now.held self.now.unit statement.now course.old }
+        ensures kept { CourseMatches db.now.schema db.now.about.capacity self.now.held self.now.unit statement.now course.new }
         ensures need { IfOk result (λ w. (d : Db) → Agrees db.now.schema db.now.about.capacity d self.now.held self.now.unit → w.need ≡ need db.now.schema db.now.about.capacity d self.now.unit self.now.held statement.now) }
         ensures guesses { IfOk result (λ w. (d : Db) → w.need ≡ Stale → Agrees self.now.about.schema.value self.now.about.capacity d self.now.held self.now.unit → w.guesses ≡ noted_owners self.now.about.schema.value self.now.about.capacity d self.now.unit statement.now self.now.held.guesses) }
     {

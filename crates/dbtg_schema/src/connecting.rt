@@ -4,7 +4,7 @@ ghost use Rattle.std.specs.Prelude.{◌≡◌, IfOk};
 ghost use Rattle.dbtg_schema.specs.Inside.Connecting.{connects_in, AreConnecting, AreConnectingOfEach};
 ghost use Rattle.dbtg_schema.specs.Erasing.{marked};
 
-use crate::erasing::is_marked;
+use crate::erasing::marked;
 use crate::limits::MOST_SETS;
 use crate::numbers::{RecordNo, SetNo};
 use crate::row::Row;
@@ -33,7 +33,7 @@ impl SetMarks {
     pub fn contains(&self, set: SetNo) -> bool
         ensures { result ≡ marked self.now set }
     {
-        is_marked(&self.marks, set.index())
+        marked(&self.marks, set.index())
     }
 }
 

@@ -34,12 +34,12 @@ impl AreaSet {
     pub fn contains(&self, area: AreaNo) -> bool
         ensures { result ≡ marked self.now area }
     {
-        is_marked(&self.members, area.index())
+        marked(&self.members, area.index())
     }
 }
 
 /// Is this number marked? Numbers past the last mark are not.
-pub fn is_marked(marks: &[bool], number: u8) -> bool
+pub fn marked(marks: &[bool], number: u8) -> bool
     ensures { result ≡ marked marks.now number }
 {
     match marks.get(number as usize) {
@@ -57,7 +57,7 @@ fn leads_by(schema: &Schema, set: SetNo, owner: RecordNo, member: RecordNo) -> b
 
 /// Does one of the schema's sets, of which there are `sets`, lead from this owner type to this member type?
 #[tactic(auto, unfolding(crate::specs::Inside::Erasing::leads_to))]
-fn leads(schema: &Schema, sets: u8, owner: RecordNo, member: RecordNo) -> bool
+fn leads_to(schema: &Schema, sets: u8, owner: RecordNo, member: RecordNo) -> bool
     requires { sets ≡ length schema.now.sets }
     ensures { result ≡ leads_to schema.now owner member }
 {
@@ -80,7 +80,7 @@ fn is_home_of(schema: &Schema, sets: u8, rtype: RecordNo, area: AreaNo) -> bool
     (0..sets).any(|s| is_home_by(schema, SetNo::new(s), rtype, area))
 }
 
-fn is_area_or_home(schema: &Schema, sets: u8, rtype: RecordNo, area: AreaNo) -> bool
+fn touches(schema: &Schema, sets: u8, rtype: RecordNo, area: AreaNo) -> bool
     requires { sets ≡ length schema.now.sets }
     ensures { result ≡ touches schema.now rtype area }
 {
@@ -96,7 +96,7 @@ fn leads_from(schema: &Schema, sets: u8, types: u8, owner: RecordNo) -> [bool; M
 {
     let mut members = [false; MOST_RECORD_TYPES];
     for y in 0..types {
-        members[y as usize] = leads(schema, sets, owner, RecordNo::new(y));
+        members[y as usize] = leads_to(schema, sets, owner, RecordNo::new(y));
     }
     members
 }
@@ -108,7 +108,7 @@ fn touched_by(schema: &Schema, sets: u8, rtype: RecordNo) -> [bool; MOST_RECORD_
 {
     let mut areas = [false; MOST_RECORD_TYPES];
     for a in 0..MOST_AREAS as u8 {
-        areas[a as usize] = is_area_or_home(schema, sets, rtype, AreaNo::new(a));
+        areas[a as usize] = touches(schema, sets, rtype, AreaNo::new(a));
     }
     areas
 }
@@ -142,7 +142,7 @@ fn marked_in(table: &[[bool; MOST_RECORD_TYPES]], row: u8, number: u8) -> bool
     ensures { result ≡ marked_in table.now row number }
 {
     match table.get(row as usize) {
-        Some(marks) => is_marked(marks, number),
+        Some(marks) => marked(marks, number),
         None => false,
     }
 }
@@ -151,7 +151,7 @@ fn marked_in(table: &[[bool; MOST_RECORD_TYPES]], row: u8, number: u8) -> bool
 fn is_given_by(table: &[[bool; MOST_RECORD_TYPES]], marks: &[bool], row: u8, number: u8) -> bool
     ensures { result ≡ (marked marks.now row && marked_in table.now row number) }
 {
-    is_marked(marks, row) && marked_in(table, row, number)
+    marked(marks, row) && marked_in(table, row, number)
 }
 
 /// Does a marked row, among the first `rows` of the table, have this mark?

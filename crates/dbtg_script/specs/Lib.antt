@@ -9,7 +9,7 @@ pub mod FaultyWord
 pub mod Wanted
 pub mod Reading
 pub mod Statements
-pub mod Known
+pub mod LineCache
 pub mod Moves
 pub mod Turns
 pub mod Derivations

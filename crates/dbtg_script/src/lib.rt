@@ -8,11 +8,11 @@ mod fault;
 mod faulty;
 mod image;
 mod keyword;
-mod known;
 mod laws;
 mod left;
 mod limits;
 mod line;
+mod line_cache;
 mod lookups;
 mod moves;
 mod print;
@@ -37,7 +37,6 @@ pub use echo::{Beside, lines_of_history, statement_lines};
 pub use fault::{Cause, LineFault, ScriptFault};
 pub use faulty::faulty_word;
 pub use image::{image_text, moves_text};
-pub use known::{LineCache, Seen};
 pub use laws::{
     a_derived_line_is_read, a_derived_script_has_no_fault_of_the_grammar,
     a_line_behind_a_script_is_read, a_line_without_faults_is_derived, a_printed_key_is_read_back,
@@ -48,6 +47,7 @@ pub use limits::{MOST_MOVES, SCRIPT_BYTES};
 pub use line::{
     Lines, ends_in_text, is_allowed, is_printable, is_statement, trimmed, without_last,
 };
+pub use line_cache::{LineCache, Seen};
 pub use moves::{MovesCause, MovesFault, nth_word, read_moves};
 pub use print::{push_items, push_key, push_mode, push_number, push_owner, push_status};
 pub use reader::{read_script, read_script_line};

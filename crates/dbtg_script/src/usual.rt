@@ -3,7 +3,7 @@
 
 ghost use Rattle.dbtg_schema.specs.Lists.{Lists};
 ghost use Rattle.dbtg_schema.specs.Structure.{calc_of, item_list};
-ghost use Rattle.dbtg_script.specs.Inside.Known.{Says};
+ghost use Rattle.dbtg_script.specs.Inside.LineCache.{Says};
 ghost use Rattle.dbtg_script.specs.Inside.Reading.{MayTakeMemory};
 ghost use Rattle.dbtg_script.specs.Lookups.{item_named};
 ghost use Rattle.dbtg_script.specs.Reading.{first_word_faults};

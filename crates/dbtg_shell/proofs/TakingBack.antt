@@ -8,8 +8,8 @@ use Rattle.std.proofs.lemmas.List.{append_assoc, length-reverse, length-set, rev
 use Rattle.std.proofs.lemmas.Option.{slice_get-map}
 use Rattle.dbtg_schema.specs.Lists.{Lists}
 use Rattle.dbtg_cells.proofs.Public.{get_behind}
-use Rattle.dbtg_unit.specs.Database.Laws.Replay.{AnswersHold, IsHistoryOf, State, after_entry, after_outcome, answer_to, entries_of, opening_state, outcome_of, replay}
-use Rattle.dbtg_unit.specs.Database.Statements.Effect.{Outcome, effect}
+use Rattle.dbtg_unit.specs.Database.Laws.Replay.{AnswersHold, IsHistoryOf, State, after_entry, after_effect, answer_to, entries_of, opening_state, effect_of_unit, replay}
+use Rattle.dbtg_unit.specs.Database.Statements.Effect.{StatementEffect, effect}
 use Rattle.dbtg_unit.specs.Database.Statements.Fits.{fits}
 use Rattle.dbtg_unit.specs.declared.unit.Answer.{Answer}
 use Rattle.dbtg_unit.specs.declared.unit.Entry.{Entry}
@@ -28,9 +28,9 @@ use Rattle.dbtg_shell.proofs.SessionSteps.{texts_in, texts_set, typed}
 
 -- a statement makes no unit
 as_many : (schema : Lists) (capacity : ℕ) (state : State) (entry : Entry) → length (after_entry schema capacity state entry).units ≡ length state.units
-as_many schema capacity state entry = by (outcome_of schema capacity state entry.unit entry.statement)
+as_many schema capacity state entry = by (effect_of_unit schema capacity state entry.unit entry.statement)
   where
-    by : (o : Option Outcome) → length (after_outcome state entry.unit o).units ≡ length state.units
+    by : (o : Option StatementEffect) → length (after_effect state entry.unit o).units ≡ length state.units
     by None = refl
     by (Some o) = length-set state.units (entry.unit - 1) o.unit
 
@@ -70,15 +70,15 @@ module _ (schema : Lists) (capacity units : ℕ) (past rest : List Entry) (entry
       }
 
 -- the entry of a statement that is made anew is the one that stood there
-same_answer : (o : Option Outcome) (outcome : Outcome) (answer : Answer) → o ≡ Some outcome → option_map (λ (x : Outcome). x.answer) o ≡ Some answer → outcome.answer ≡ answer
-same_answer o outcome answer is e = let h : Some outcome.answer ≡ Some answer = ap (option_map (λ (x : Outcome). x.answer)) (sym is) ∙ e in cc (h)
+same_answer : (o : Option StatementEffect) (outcome : StatementEffect) (answer : Answer) → o ≡ Some outcome → option_map (λ (x : StatementEffect). x.answer) o ≡ Some answer → outcome.answer ≡ answer
+same_answer o outcome answer is e = let h : Some outcome.answer ≡ Some answer = ap (option_map (λ (x : StatementEffect). x.answer)) (sym is) ∙ e in cc (h)
 
 pub makes_again : (schema : Lists) (capacity units : ℕ) (past : List Entry) (entry : Entry) (old new : Making) → old ≡ record { schema = schema; capacity = capacity; units = units; history = past }
     → Stands schema capacity units past entry → HasMade old entry.unit entry.statement new → new ≡ record { schema = schema; capacity = capacity; units = units; history = past ++ entry ∷ [] }
 makes_again schema capacity units past entry old new is s made =
     let before : Making = record { schema = schema; capacity = capacity; units = units; history = past } in
     let has : HasMade before entry.unit entry.statement new = subst (λ (m : Making). HasMade m entry.unit entry.statement new) is made in
-    let answer : has.outcome.answer ≡ entry.answer = same_answer (outcome_of schema capacity (state_now before) entry.unit entry.statement) has.outcome entry.answer has.outcome_is s.answer in
+    let answer : has.outcome.answer ≡ entry.answer = same_answer (effect_of_unit schema capacity (state_now before) entry.unit entry.statement) has.outcome entry.answer has.outcome_is s.answer in
     has.new_is ∙ (λ i. record { schema = schema; capacity = capacity; units = units; history = past ++ record { ticket = sym s.ticket i; unit = entry.unit; statement = entry.statement; answer = answer i } ∷ [] })
 
 -- THE LAST LINE OF A SCRIPT
@@ -179,7 +179,7 @@ module _ (schema : Lists) (capacity : ℕ) (old : Making) (scripts : List Script
     }
 
     made_once : IsHistoryOf schema capacity old.units (earlier ++ last ∷ []) → HasMade before u last.statement old
-    made_once h = by (outcome_of schema capacity (state_now before) u last.statement) refl
+    made_once h = by (effect_of_unit schema capacity (state_now before) u last.statement) refl
       where
         stands : Stands schema capacity old.units earlier last
         stands = stands_at schema capacity old.units earlier [] last h
@@ -187,17 +187,17 @@ module _ (schema : Lists) (capacity : ℕ) (old : Making) (scripts : List Script
         old_is : old ≡ record { schema = schema; capacity = capacity; units = old.units; history = earlier ++ last ∷ [] }
         old_is = λ i. record { schema = session.schema_is i; capacity = session.capacity_is i; units = old.units; history = is i }
 
-        by : (o : Option Outcome) → outcome_of schema capacity (state_now before) u last.statement ≡ o → HasMade before u last.statement old
-        by None e = let h : None ≡ Some last.answer = ap (option_map (λ (x : Outcome). x.answer)) (sym e) ∙ stands.answer in absurd (cc (h))
+        by : (o : Option StatementEffect) → effect_of_unit schema capacity (state_now before) u last.statement ≡ o → HasMade before u last.statement old
+        by None e = let h : None ≡ Some last.answer = ap (option_map (λ (x : StatementEffect). x.answer)) (sym e) ∙ stands.answer in absurd (cc (h))
         by (Some outcome) e =
-            let answer : outcome.answer ≡ last.answer = same_answer (outcome_of schema capacity (state_now before) u last.statement) outcome last.answer e stands.answer in
+            let answer : outcome.answer ≡ last.answer = same_answer (effect_of_unit schema capacity (state_now before) u last.statement) outcome last.answer e stands.answer in
             record {
               outcome = outcome;
               outcome_is = e;
               new_is = old_is ∙ (λ i. record { schema = schema; capacity = capacity; units = old.units; history = earlier ++ record { ticket = stands.ticket i; unit = u; statement = last.statement; answer = sym answer i } ∷ [] });
               state_is =
                   ap state_now old_is ∙ (replays_one_more schema capacity (opening_state schema old.units) earlier last).state_is
-                  ∙ ap (after_outcome (state_now before) u) e;
+                  ∙ ap (after_effect (state_now before) u) e;
             }
 
     texts_again : texts_in scripts ≡ slice_set (texts_in (slice_set scripts (u - 1) next)) (u - 1) (text_of (typed before (slice_set scripts (u - 1) next)) u ++ taken.1 ++ 10 ∷ [])

@@ -19,7 +19,7 @@ const LOADING: &str = "a file that is loaded cannot load another\n";
 
 /// How much of a line was kept: all of it, or the beginning of one that is too long.
 #[derive(Clone, Copy)]
-enum Kept {
+enum LinePart {
     All,
     Beginning,
 }
@@ -30,7 +30,7 @@ fn take_front<B: BufRead>(input: &mut B, line: &mut Vec<u8>) -> io::Result<usize
 }
 
 // Reads a line, without its line feed; None at the end of the input. The last line need not have a line feed.
-fn next_line<B: BufRead>(input: &mut B, line: &mut Vec<u8>) -> io::Result<Option<Kept>> {
+fn next_line<B: BufRead>(input: &mut B, line: &mut Vec<u8>) -> io::Result<Option<LinePart>> {
     line.clear();
     let count = take_front(input, line)?;
     if count == 0 {
@@ -38,13 +38,13 @@ fn next_line<B: BufRead>(input: &mut B, line: &mut Vec<u8>) -> io::Result<Option
     }
     if line.last() == Some(&b'\n') {
         let _ = line.pop();
-        return Ok(Some(Kept::All));
+        return Ok(Some(LinePart::All));
     }
     if (count as u64) < LINE_BYTES {
-        return Ok(Some(Kept::All));
+        return Ok(Some(LinePart::All));
     }
     input.skip_until(b'\n')?;
-    Ok(Some(Kept::Beginning))
+    Ok(Some(LinePart::Beginning))
 }
 
 /// Why a dialogue ends before the end of its input.
@@ -129,12 +129,12 @@ fn write_reply(
 // What a line does.
 fn reply_to<'b>(
     shell: &mut Shell<'_>,
-    kept: Kept,
+    kept: LinePart,
     line: &'b [u8],
 ) -> Result<Reply<'b>, AllocError> {
     match kept {
-        Kept::All => shell.take_line(line),
-        Kept::Beginning => shell.take_long_line(),
+        LinePart::All => shell.take_line(line),
+        LinePart::Beginning => shell.take_long_line(),
     }
 }
 
@@ -143,7 +143,7 @@ fn answer_loaded(
     rt: &HostRuntime,
     shell: &mut Shell<'_>,
     call: &Call<'_>,
-    kept: Kept,
+    kept: LinePart,
     line: &[u8],
 ) -> Result<bool, Broken> {
     let reply = reply_to(shell, kept, line);
@@ -215,7 +215,7 @@ fn answer(
     rt: &HostRuntime,
     shell: &mut Shell<'_>,
     call: &Call<'_>,
-    kept: Kept,
+    kept: LinePart,
     line: &[u8],
 ) -> Result<bool, Broken> {
     match reply_to(shell, kept, line) {

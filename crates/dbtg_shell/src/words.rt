@@ -6,7 +6,7 @@ ghost use Rattle.dbtg_cells.specs.Keys.{key_eq, owner_eq};
 ghost use Rattle.dbtg_unit.specs.Database.State.Units.{place_in};
 ghost use Rattle.dbtg_shell.specs.UnitWords.{among_words, area_lines, at_words, current_words, key_words, kept_line, kept_lines, kept_words, line_of, list_of, list_words, many_words, member_words, open_words, ordinal, ordinal_end, owner_words, place_words, set_lines, type_lines, unit_words};
 
-use dbtg_cells::{DbKey, Mode, Owner, same_key, same_owner};
+use dbtg_cells::{DbKey, Mode, Owner, key_eq, owner_eq};
 use dbtg_schema::{Area, MOST_SETS, RecordType, Row, Schema, SetNo, SetType};
 use dbtg_script::{push_key, push_mode, push_number};
 use dbtg_unit::{Image, Place, Unit, entry_at};
@@ -38,7 +38,7 @@ fn place_among(list: &[DbKey], key: &DbKey) -> Option<usize>
     ensures { result ≡ position_from (key_eq key.now) 1 list.now }
 {
     for (i, member) in list.iter().enumerate() {
-        if same_key(*key, *member) {
+        if key_eq(*key, *member) {
             return Some(i + 1);
         }
     }
@@ -130,7 +130,7 @@ fn list_among<'b>(lists: &'b [(Owner, Row<DbKey>)], owner: &Owner) -> Option<&'b
     ensures { option_map (λ l. l.now) result ≡ option_map (λ l. l.1) (find (λ l. owner_eq owner.now l.0) lists.now) }
 {
     for list in lists {
-        if same_owner(*owner, list.0) {
+        if owner_eq(*owner, list.0) {
             return Some(&list.1);
         }
     }
@@ -139,18 +139,18 @@ fn list_among<'b>(lists: &'b [(Owner, Row<DbKey>)], owner: &Owner) -> Option<&'b
 
 /// What is needed to describe units: the schema, and the image of the database.
 #[derive(Clone, Copy)]
-struct View<'a> {
+struct SchemaAndImage<'a> {
     schema: &'a Schema,
     image: &'a Image,
 }
 
-impl<'a> View<'a> {
+impl<'a> SchemaAndImage<'a> {
     fn is_stored(&self, key: &DbKey) -> bool
         ensures { result ≡ list_any (λ r. key_eq key.now r.0) self.now.image.now.records }
     {
         let image = self.image;
         let mut records = image.records.as_slice().iter();
-        records.any(|record| same_key(*key, record.0))
+        records.any(|record| key_eq(*key, record.0))
     }
 
     fn is_at_version(&self, kept: &(DbKey, u64)) -> bool
@@ -158,7 +158,7 @@ impl<'a> View<'a> {
     {
         let image = self.image;
         let mut versions = image.versions.as_slice().iter();
-        versions.any(|version| same_key(kept.0, version.0) && kept.1 == version.1)
+        versions.any(|version| key_eq(kept.0, version.0) && kept.1 == version.1)
     }
 
     fn list_of(&self, set: u8, owner: &Owner) -> Option<&'a Row<DbKey>>
@@ -371,7 +371,7 @@ pub fn unit_words(
 ) -> Result<Vec<u8>, AllocError>
     ensures { IfOk result (λ out. out.items ≡ unit_words schema.now image.now unit.now) }
 {
-    let view = View { schema, image };
+    let view = SchemaAndImage { schema, image };
     let mut out = Vec::new(alloc);
     push_number_of(&mut out, unit)?;
     view.push_current_line(&mut out, b"run-unit", b"", unit.currency.run_unit)?;

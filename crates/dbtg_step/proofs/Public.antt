@@ -97,13 +97,13 @@ pub use Rattle.dbtg_step.proofs.Network.TurnsBack.{needs_come_to_an_end}
 -- a history noted, and read again
 pub use Rattle.dbtg_step.proofs.TheCore.CellsFound.{entries_again}
 -- what is kept of a statement's needs stays right while more comes to hand
-pub use Rattle.dbtg_step.proofs.TheCore.CoursesKept.{course_stays}
+pub use Rattle.dbtg_step.proofs.TheCore.CoursesMatch.{course_stays}
 -- hands with one area more have all that they had
-pub use Rattle.dbtg_step.proofs.TheCore.CoursesKept.{more_by_area}
+pub use Rattle.dbtg_step.proofs.TheCore.CoursesMatch.{more_by_area}
 -- and with one cell more
-pub use Rattle.dbtg_step.proofs.TheCore.CoursesKept.{more_by_cell}
+pub use Rattle.dbtg_step.proofs.TheCore.CoursesMatch.{more_by_cell}
 -- nothing kept of a statement's needs is always right
-pub use Rattle.dbtg_step.proofs.TheCore.CoursesKept.{no_course}
+pub use Rattle.dbtg_step.proofs.TheCore.CoursesMatch.{no_course}
 -- there are as many guesses as sets after a statement too
 pub use Rattle.dbtg_step.proofs.TheCore.DrawnShown.{guesses_length}
 -- cells that show what the database has are what is due

@@ -3,7 +3,7 @@
 -- Promises: `Headlines`, `EveryRun`, `Waiting` and `Serials`, on which the laws of `src/laws.rt` rest.
 pub mod Chains
 pub mod EveryRun
-pub mod GuessesKept
+pub mod GuessesFit
 pub mod Headlines
 pub mod Histories
 pub mod Opening

@@ -5,7 +5,7 @@ pub mod Alone
 pub mod CellsFound
 pub mod CoreShown
 pub mod CourseAlone
-pub mod CoursesKept
+pub mod CoursesMatch
 pub mod DrawnShown
 pub mod EventsShown
 pub mod FollowsShown

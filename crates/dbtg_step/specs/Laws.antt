@@ -19,7 +19,7 @@ use Rattle.dbtg_unit.specs.Database.Statements.Fits.{fits}
 use Rattle.dbtg_unit.specs.Database.State.Image.{Image, image_of}
 use Rattle.dbtg_unit.specs.declared.moves.Move.{Move}
 use Rattle.dbtg_step.specs.Machine.SequentialDatabase.{HeldCell, NeedsCell, In, MayMake, NamesCells, SequentialDatabase, unit_at}
-use Rattle.dbtg_step.specs.Machine.Machine.{UnitState, Progress, State, SequentialState, HistoryEntry, replay}
+use Rattle.dbtg_step.specs.Machine.Machine.{UnitState, StatementProgress, State, SequentialState, HistoryEntry, replay}
 use Rattle.dbtg_step.specs.Machine.Step.{transition, MovedTo, next_need, run}
 use Rattle.dbtg_step.specs.Machine.Lawful.{Lawful, IsOpening, ImageHas}
 use Rattle.dbtg_step.specs.Machine.NeverStuck.{IsNotStuck, NeedsInOrder}
@@ -111,7 +111,7 @@ module _ (schema : Lists) (capacity : ℕ) where
   abbrev pub NeededCellsExist : Type 0
   NeededCellsExist =
       (scripts : List (List Statement)) (moves : List Move) → scripts_fit schema scripts ≡ true →
-      (u : ℕ) (state : UnitState D) (w : Progress D) (x : Statement) (xs : List Statement) (c : CellName) →
+      (u : ℕ) (state : UnitState D) (w : StatementProgress D) (x : Statement) (xs : List Statement) (c : CellName) →
       unit_at (machine_after schema capacity scripts moves).units u ≡ Some state → state.progress ≡ Some w → state.remaining ≡ x ∷ xs →
       next_need D (opening_before scripts) (machine_after schema capacity scripts moves) state w x ≡ NeedsCell c →
       is_cell schema capacity c ≡ true

@@ -72,7 +72,7 @@ fn takes_all(
 }
 
 // The image and the units of a database.
-fn outcome_of(database: WholeDatabase<'_>) -> Result<Option<(Image, Row<Unit>)>, AllocError>
+fn image_and_units(database: WholeDatabase<'_>) -> Result<Option<(Image, Row<Unit>)>, AllocError>
     ensures { IfOk result (λ found. IsAudited database.entry.schema database.entry.capacity database.entry.units database.entry.history found) }
 {
     match database.into_run() {
@@ -92,7 +92,7 @@ fn audit_from(
     ensures { IfOk result (λ found. IsAudited database.entry.schema database.entry.capacity database.entry.units history.now found) }
 {
     match takes_all(alloc, &mut database, history) {
-        Ok(true) => outcome_of(database),
+        Ok(true) => image_and_units(database),
         Ok(false) => {
             drop(database);
             Ok(None)

@@ -2,7 +2,7 @@
 ghost use Rattle.std.specs.Prelude.{◌≡◌};
 ghost use Rattle.std.specs.Bool.{Decides};
 
-use dbtg_cells::{DbKey, Value, same_values};
+use dbtg_cells::{DbKey, Value, values_eq};
 use dbtg_schema::Row;
 use dbtg_unit::{Answer, Status};
 
@@ -22,7 +22,7 @@ fn same_items(a: &Option<Row<Value>>, b: &Option<Row<Value>>) -> bool
     ensures { Decides result (a.now ≡ b.now) }
 {
     match (a, b) {
-        (Some(these), Some(those)) => same_values(these.as_slice(), those.as_slice()),
+        (Some(these), Some(those)) => values_eq(these.as_slice(), those.as_slice()),
         (None, None) => true,
         _ => false,
     }

@@ -9,13 +9,13 @@ ghost use Rattle.dbtg_unit.specs.Database.State.Legal.{pairwise};
 ghost use Rattle.dbtg_unit.specs.Hands.Local.{Agrees};
 ghost use Rattle.dbtg_unit.specs.Hands.Locality.{IsMadeOn, IsMadeOnEach, seen};
 ghost use Rattle.dbtg_unit.specs.Hands.Making.{MayPrepare, ShowsTheSame};
-ghost use Rattle.dbtg_step.specs.declared.parts.Runner.{Runner};
+ghost use Rattle.dbtg_step.specs.declared.parts.UnitState.{UnitState};
 ghost use Rattle.dbtg_step.specs.Inside.Stands.{StandsNeeding};
 ghost use Rattle.dbtg_step.specs.Inside.Leaves.{IsDrawn, IsUnmade};
 ghost use Rattle.dbtg_step.specs.Inside.Parts.{progress_while_held};
 ghost use Rattle.dbtg_step.specs.Inside.Events.{IsStepped, IsWell, NeedsNext};
 
-use crate::parts::{Parts, Runner, StatementProgress};
+use crate::parts::{Parts, StatementProgress, UnitState};
 use crate::runner::{close, pass, statement_of};
 use crate::statements::prepare;
 use dbtg_plan::{is_made_at_once, make_at_once};
@@ -95,7 +95,7 @@ pub fn enter(history: &mut Vec<Entry>, unit: u8, statement: Statement, answer: A
 }
 
 /// The statement has this ticket, and the unit goes on after it.
-fn go_on(runner: &mut Runner, progress: StatementProgress, ticket: u64)
+fn go_on(runner: &mut UnitState, progress: StatementProgress, ticket: u64)
     requires { runner.old.next < length runner.old.script }
     ensures { runner.new ≡ record runner.old { next = runner.old.next + 1; progress = progress_while_held runner.old.held.areas runner.old.held.cells (Some (record { exclusive = progress.exclusive; turning_back = false; ticket = Some ticket; linked = 0 })) } }
 {
@@ -115,7 +115,7 @@ fn draw(
     schema: &Schema,
     capacity: u16,
     history: &mut Vec<Entry>,
-    runner: &mut Runner,
+    runner: &mut UnitState,
     unit: u8,
     progress: StatementProgress,
 ) -> Result<(), AllocError>
@@ -156,7 +156,7 @@ pub fn ticket_event(
     requires numbered { 0 < unit }
     requires within { unit ≤ length parts.old.runners.items }
     requires well { IsWell schema.now capacity parts.old }
-    requires stands { (r : Runner) → slice_get parts.old.runners.items (unit - 1) ≡ Some r → StandsNeeding r progress }
+    requires stands { (r : UnitState) → slice_get parts.old.runners.items (unit - 1) ≡ Some r → StandsNeeding r progress }
     requires needs { NeedsNext schema.now capacity parts.old unit progress Need.Ready }
     ensures { IsStepped schema.now capacity unit result parts.old parts.new }
 {

@@ -7,7 +7,7 @@ ghost use Rattle.dbtg_unit.specs.Hands.InHand.{numbers_of, users_of};
 ghost use Rattle.dbtg_step.specs.Machine.SequentialDatabase.{unit_at};
 ghost use Rattle.dbtg_step.specs.Inside.Imaging.{cell_in, found_cell, found_in, generations_in, image_from, list_of, lists_of, next_in, occurrence_at, record_of, records_of, stored_at, version_of, versions_of};
 
-use crate::parts::{CellLocation, Parts, Runner};
+use crate::parts::{CellLocation, Parts, UnitState};
 use dbtg_cells::{
     Cell, CellName, DbKey, Extent, Mode, Owner, Ring, Stored, Usage, Value, cell_number, copy_items,
 };
@@ -28,13 +28,13 @@ fn place_at(table: &[CellLocation], number: usize) -> Option<&CellLocation>
     table.get(number)
 }
 
-fn runner_at(runners: &[Runner], index: usize) -> Option<&Runner>
+fn runner_at(runners: &[UnitState], index: usize) -> Option<&UnitState>
     ensures { option_copied result ≡ slice_get runners.now index }
 {
     runners.get(index)
 }
 
-fn holder(runners: &[Runner], unit: u8) -> Option<&Runner>
+fn holder(runners: &[UnitState], unit: u8) -> Option<&UnitState>
     ensures { option_copied result ≡ unit_at runners.now unit }
 {
     if unit == 0 {
@@ -43,7 +43,7 @@ fn holder(runners: &[Runner], unit: u8) -> Option<&Runner>
     runner_at(runners, unit as usize - 1)
 }
 
-fn held_cell<'a>(runners: &'a [Runner], unit: u8, name: &CellName) -> Option<&'a Cell>
+fn held_cell<'a>(runners: &'a [UnitState], unit: u8, name: &CellName) -> Option<&'a Cell>
     ensures { option_copied result ≡ option_and_then (λ r. cell_of name.now r.held.cells) (unit_at runners.now unit) }
 {
     match holder(runners, unit) {
@@ -52,7 +52,11 @@ fn held_cell<'a>(runners: &'a [Runner], unit: u8, name: &CellName) -> Option<&'a
     }
 }
 
-fn cell_in<'a>(runners: &'a [Runner], place: &'a CellLocation, name: &CellName) -> Option<&'a Cell>
+fn cell_in<'a>(
+    runners: &'a [UnitState],
+    place: &'a CellLocation,
+    name: &CellName,
+) -> Option<&'a Cell>
     ensures { option_copied result ≡ cell_in runners.now name.now place.now }
 {
     match place {

@@ -204,7 +204,7 @@ impl Core {
     }
 
     /// Where the unit with this number is.
-    pub fn position(&self, number: u8) -> Option<Position>
+    pub fn position_at(&self, number: u8) -> Option<Position>
         ensures { result ≡ position_at (network (machine self.now).schema (machine self.now).capacity) (machine self.now).state number }
     {
         if number == 0 || self.parts.runners.len() < number as usize {
@@ -214,7 +214,7 @@ impl Core {
     }
 
     /// What the unit with this number took last, of the areas and of the cells that it holds in mid-statement.
-    pub fn newest(&self, number: u8) -> Option<Newest>
+    pub fn newest_at(&self, number: u8) -> Option<Newest>
         ensures { result ≡ newest_at (machine self.now) number }
     {
         if number == 0 || self.parts.runners.len() < number as usize {

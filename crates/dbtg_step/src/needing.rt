@@ -5,7 +5,7 @@ ghost use Rattle.dbtg_cells.specs.Names.{name_eq};
 ghost use Rattle.dbtg_schema.specs.Lists.{Lists};
 ghost use Rattle.dbtg_unit.specs.declared.held.Need.{Need};
 ghost use Rattle.dbtg_unit.specs.declared.statement.Statement.{Statement};
-ghost use Rattle.dbtg_step.specs.declared.parts.Runner.{Runner};
+ghost use Rattle.dbtg_step.specs.declared.parts.UnitState.{UnitState};
 ghost use Rattle.dbtg_unit.specs.Database.State.Base.{Database};
 ghost use Rattle.dbtg_unit.specs.Database.State.Belongs.{IsUnitOf, IsWithin};
 ghost use Rattle.dbtg_unit.specs.Database.Statements.Fits.{fits};
@@ -13,13 +13,13 @@ ghost use Rattle.dbtg_unit.specs.Hands.Local.{Agrees};
 ghost use Rattle.dbtg_unit.specs.Hands.Needs.{need};
 ghost use Rattle.dbtg_step.specs.Machine.NeedOrder.{HasItsAreas};
 ghost use Rattle.dbtg_step.specs.Machine.Network.{noted_owners};
-ghost use Rattle.dbtg_step.specs.Core.Courses.{IsCourseKept};
+ghost use Rattle.dbtg_step.specs.Core.Courses.{CourseMatches};
 ghost use Rattle.dbtg_step.specs.Inside.Stands.{holds_against, StandsNeeding};
 ghost use Rattle.dbtg_step.specs.Inside.Leaves.{IsTaken};
 ghost use Rattle.dbtg_step.specs.Inside.Events.{ChangesCourseAlone, IsStepped, IsWell, NeedsNext};
 
 use crate::drawing::ticket_event;
-use crate::parts::{CellLocation, Parts, Runner, StatementProgress};
+use crate::parts::{CellLocation, Parts, StatementProgress, UnitState};
 use crate::runner::{statement_of, turn_back};
 use crate::statements::{area_next, next_need, true_guesses};
 use dbtg_cells::{Cell, CellName, cell_number};
@@ -33,15 +33,15 @@ fn need_of(
     alloc: Global,
     schema: &Schema,
     capacity: u16,
-    runner: &mut Runner,
+    runner: &mut UnitState,
 ) -> Result<Need, AllocError>
     requires left { runner.old.next < length runner.old.script }
-    requires kept { (x : Statement) → slice_get runner.old.script runner.old.next ≡ Some x → IsCourseKept schema.now capacity runner.old.held runner.old.unit x runner.old.course }
+    requires kept { (x : Statement) → slice_get runner.old.script runner.old.next ≡ Some x → CourseMatches schema.now capacity runner.old.held runner.old.unit x runner.old.course }
     requires fits { (x : Statement) → slice_get runner.old.script runner.old.next ≡ Some x → fits schema.now x ≡ true }
     requires of_schema { IsUnitOf schema.now runner.old.unit }
     requires within { IsWithin capacity runner.old.unit }
     ensures rest { runner.new ≡ record runner.old { course = runner.new.course } }
-    ensures kept { (x : Statement) → slice_get runner.old.script runner.old.next ≡ Some x → IsCourseKept schema.now capacity runner.old.held runner.old.unit x runner.new.course }
+    ensures kept { (x : Statement) → slice_get runner.old.script runner.old.next ≡ Some x → CourseMatches schema.now capacity runner.old.held runner.old.unit x runner.new.course }
     ensures need { IfOk result (λ n. (x : Statement) (db : Database) → slice_get runner.old.script runner.old.next ≡ Some x → Agrees schema.now capacity db runner.old.held runner.old.unit → n ≡ need schema.now capacity db runner.old.unit runner.old.held x) }
     ensures refused { OnErr result ((x : Statement) → slice_get runner.old.script runner.old.next ≡ Some x → HasItsAreas schema.now runner.old.unit runner.old.held x) }
 {
@@ -69,12 +69,12 @@ fn need_now(
     requires numbered { 0 < unit }
     requires within { unit ≤ length parts.old.runners.items }
     requires well { IsWell schema.now capacity parts.old }
-    requires stands { (r : Runner) → slice_get parts.old.runners.items (unit - 1) ≡ Some r → StandsNeeding r progress }
+    requires stands { (r : UnitState) → slice_get parts.old.runners.items (unit - 1) ≡ Some r → StandsNeeding r progress }
     ensures alone { ChangesCourseAlone unit parts.old parts.new }
     ensures well { IsWell schema.now capacity parts.new }
-    ensures stands { (r : Runner) → slice_get parts.new.runners.items (unit - 1) ≡ Some r → StandsNeeding r progress }
+    ensures stands { (r : UnitState) → slice_get parts.new.runners.items (unit - 1) ≡ Some r → StandsNeeding r progress }
     ensures need { IfOk result (λ n. NeedsNext schema.now capacity parts.new unit progress n) }
-    ensures refused { OnErr result ((r : Runner) (x : Statement) → slice_get parts.new.runners.items (unit - 1) ≡ Some r → slice_get r.script r.next ≡ Some x → HasItsAreas schema.now r.unit r.held x) }
+    ensures refused { OnErr result ((r : UnitState) (x : Statement) → slice_get parts.new.runners.items (unit - 1) ≡ Some r → slice_get r.script r.next ≡ Some x → HasItsAreas schema.now r.unit r.held x) }
 {
     // Unused here; the contract mentions it.
     let _ = progress.linked;
@@ -87,11 +87,11 @@ fn need_now(
 }
 
 // The area that the unit's statement needs next, if it still needs one. The unit keeps what is settled about its needs.
-fn area_of(schema: &Schema, capacity: u16, runner: &mut Runner) -> Option<AreaNo>
+fn area_of(schema: &Schema, capacity: u16, runner: &mut UnitState) -> Option<AreaNo>
     requires left { runner.old.next < length runner.old.script }
-    requires kept { (x : Statement) → slice_get runner.old.script runner.old.next ≡ Some x → IsCourseKept schema.now capacity runner.old.held runner.old.unit x runner.old.course }
+    requires kept { (x : Statement) → slice_get runner.old.script runner.old.next ≡ Some x → CourseMatches schema.now capacity runner.old.held runner.old.unit x runner.old.course }
     ensures rest { runner.new ≡ record runner.old { course = runner.new.course } }
-    ensures kept { (x : Statement) → slice_get runner.old.script runner.old.next ≡ Some x → IsCourseKept schema.now capacity runner.old.held runner.old.unit x runner.new.course }
+    ensures kept { (x : Statement) → slice_get runner.old.script runner.old.next ≡ Some x → CourseMatches schema.now capacity runner.old.held runner.old.unit x runner.new.course }
     ensures need { IfSome result (λ a. (x : Statement) (db : Database) → slice_get runner.old.script runner.old.next ≡ Some x → Agrees schema.now capacity db runner.old.held runner.old.unit → Need.Area a ≡ need schema.now capacity db runner.old.unit runner.old.held x) }
 {
     let statement = &runner.script.as_slice()[runner.next];
@@ -117,10 +117,10 @@ fn area_now(
     requires numbered { 0 < unit }
     requires within { unit ≤ length parts.old.runners.items }
     requires well { IsWell schema.now capacity parts.old }
-    requires stands { (r : Runner) → slice_get parts.old.runners.items (unit - 1) ≡ Some r → StandsNeeding r progress }
+    requires stands { (r : UnitState) → slice_get parts.old.runners.items (unit - 1) ≡ Some r → StandsNeeding r progress }
     ensures alone { ChangesCourseAlone unit parts.old parts.new }
     ensures well { IsWell schema.now capacity parts.new }
-    ensures stands { (r : Runner) → slice_get parts.new.runners.items (unit - 1) ≡ Some r → StandsNeeding r progress }
+    ensures stands { (r : UnitState) → slice_get parts.new.runners.items (unit - 1) ≡ Some r → StandsNeeding r progress }
     ensures need { IfSome result (λ a. NeedsNext schema.now capacity parts.new unit progress (Need.Area a)) }
 {
     // Unused here; the contract mentions it.
@@ -129,7 +129,7 @@ fn area_now(
 }
 
 /// Does the unit hold the area in a conflicting way?
-pub fn holds_against(runner: &Runner, exclusive: bool, area: AreaNo) -> bool
+pub fn holds_against(runner: &UnitState, exclusive: bool, area: AreaNo) -> bool
     ensures { result ≡ holds_against exclusive area runner.now }
 {
     match runner.progress {
@@ -139,7 +139,7 @@ pub fn holds_against(runner: &Runner, exclusive: bool, area: AreaNo) -> bool
 }
 
 // Does one of these units hold the area in a conflicting way?
-fn any_holds_against(runners: &[Runner], exclusive: bool, area: AreaNo) -> bool
+fn any_holds_against(runners: &[UnitState], exclusive: bool, area: AreaNo) -> bool
     ensures { result ≡ list_any (holds_against exclusive area) runners.now }
 {
     runners
@@ -148,7 +148,7 @@ fn any_holds_against(runners: &[Runner], exclusive: bool, area: AreaNo) -> bool
 }
 
 /// Does any other unit hold the area in a conflicting way?
-pub fn other_holds_against(runners: &[Runner], unit: u8, exclusive: bool, area: AreaNo) -> bool
+pub fn other_holds_against(runners: &[UnitState], unit: u8, exclusive: bool, area: AreaNo) -> bool
     requires numbered { 0 < unit }
     requires within { unit ≤ length runners.now }
     ensures { result ≡ list_any (holds_against exclusive area) (take (unit - 1) runners.now) || list_any (holds_against exclusive area) (drop unit runners.now) }
@@ -167,7 +167,7 @@ fn take_area_event(
 ) -> Stepped
     requires numbered { 0 < unit }
     requires within { unit ≤ length parts.old.runners.items }
-    requires stands { (r : Runner) → slice_get parts.old.runners.items (unit - 1) ≡ Some r → StandsNeeding r progress }
+    requires stands { (r : UnitState) → slice_get parts.old.runners.items (unit - 1) ≡ Some r → StandsNeeding r progress }
     ensures { (schema : Lists) (capacity : ℕ) → IsWell schema capacity parts.old → NeedsNext schema capacity parts.old unit progress (Need.Area area) → IsStepped schema capacity unit result parts.old parts.new }
 {
     if other_holds_against(&parts.runners, unit, progress.exclusive, area) {
@@ -236,7 +236,7 @@ fn take_cell_event(
     requires numbered { 0 < unit }
     requires within { unit ≤ length parts.old.runners.items }
     requires well { IsWell schema.now capacity parts.old }
-    requires stands { (r : Runner) → slice_get parts.old.runners.items (unit - 1) ≡ Some r → StandsNeeding r progress }
+    requires stands { (r : UnitState) → slice_get parts.old.runners.items (unit - 1) ≡ Some r → StandsNeeding r progress }
     requires needs { NeedsNext schema.now capacity parts.old unit progress (Need.Take name) }
     ensures { IsStepped schema.now capacity unit result parts.old parts.new }
 {
@@ -252,7 +252,7 @@ fn take_cell_event(
 }
 
 // The guesses with which the unit's statement goes on that turns back.
-fn noted_guesses(schema: &Schema, runner: &Runner) -> Owners
+fn noted_guesses(schema: &Schema, runner: &UnitState) -> Owners
     requires left { runner.now.next < length runner.now.script }
     requires fits { (x : Statement) → slice_get runner.now.script runner.now.next ≡ Some x → fits schema.now x ≡ true }
     requires count { length runner.now.held.guesses ≡ length schema.now.sets }
@@ -272,7 +272,7 @@ fn note_owners_event(
     requires numbered { 0 < unit }
     requires within { unit ≤ length parts.old.runners.items }
     requires well { IsWell schema.now capacity parts.old }
-    requires stands { (r : Runner) → slice_get parts.old.runners.items (unit - 1) ≡ Some r → StandsNeeding r progress }
+    requires stands { (r : UnitState) → slice_get parts.old.runners.items (unit - 1) ≡ Some r → StandsNeeding r progress }
     requires needs { NeedsNext schema.now capacity parts.old unit progress Need.Stale }
     ensures { IsStepped schema.now capacity unit result parts.old parts.new }
 {
@@ -298,7 +298,7 @@ fn need_event(
     requires numbered { 0 < unit }
     requires within { unit ≤ length parts.old.runners.items }
     requires well { IsWell schema.now capacity parts.old }
-    requires stands { (r : Runner) → slice_get parts.old.runners.items (unit - 1) ≡ Some r → StandsNeeding r progress }
+    requires stands { (r : UnitState) → slice_get parts.old.runners.items (unit - 1) ≡ Some r → StandsNeeding r progress }
     requires needs { NeedsNext schema.now capacity parts.old unit progress need }
     ensures { IsStepped schema.now capacity unit result parts.old parts.new }
 {
@@ -322,7 +322,7 @@ fn follows_need(
     requires numbered { 0 < unit }
     requires within { unit ≤ length parts.old.runners.items }
     requires well { IsWell schema.now capacity parts.old }
-    requires stands { (r : Runner) → slice_get parts.old.runners.items (unit - 1) ≡ Some r → StandsNeeding r progress }
+    requires stands { (r : UnitState) → slice_get parts.old.runners.items (unit - 1) ≡ Some r → StandsNeeding r progress }
     ensures { IsStepped schema.now capacity unit result parts.old parts.new }
 {
     match need_now(alloc, schema, capacity, parts, unit, progress) {
@@ -343,7 +343,7 @@ pub fn event_before_ticket(
     requires numbered { 0 < unit }
     requires within { unit ≤ length parts.old.runners.items }
     requires well { IsWell schema.now capacity parts.old }
-    requires stands { (r : Runner) → slice_get parts.old.runners.items (unit - 1) ≡ Some r → StandsNeeding r progress }
+    requires stands { (r : UnitState) → slice_get parts.old.runners.items (unit - 1) ≡ Some r → StandsNeeding r progress }
     ensures { IsStepped schema.now capacity unit result parts.old parts.new }
 {
     match area_now(schema, capacity, parts, unit, progress) {

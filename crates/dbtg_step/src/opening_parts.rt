@@ -12,7 +12,7 @@ ghost use Rattle.dbtg_unit.specs.Hands.Local.{AllAgree, names_of};
 ghost use Rattle.dbtg_step.specs.Core.Openings.{homes_of, homes_shown};
 ghost use Rattle.dbtg_step.specs.Inside.Openings.{locations_of, opening_runner, runners_from};
 
-use crate::parts::{CellLocation, Runner};
+use crate::parts::{CellLocation, UnitState};
 use dbtg_cells::{Cell, CellName, Extent, Layout, Owner, Ring, Slot, Usage};
 use dbtg_schema::{AreaNo, RecordNo, Row, Schema, SetNo};
 use dbtg_unit::{Currency, Held, Kept, LAST_UNIT, Owners, Statement, Unit};
@@ -244,12 +244,12 @@ fn new_runner(
     schema: &Schema,
     number: u8,
     script: Row<Statement>,
-) -> Result<Runner, AllocError>
+) -> Result<UnitState, AllocError>
     ensures { IfOk result (λ r. r ≡ opening_runner schema.now number script) }
 {
     let unit = opening_unit(alloc, schema, number)?;
     let held = Held::new(alloc, Owners::none(schema.sets().len()));
-    Ok(Runner {
+    Ok(UnitState {
         unit,
         held,
         script,
@@ -264,7 +264,7 @@ pub fn opening_runners(
     alloc: Global,
     schema: &Schema,
     scripts: Row<Row<Statement>>,
-) -> Result<Vec<Runner>, AllocError>
+) -> Result<Vec<UnitState>, AllocError>
     requires { length scripts ≤ LAST_UNIT }
     ensures { IfOk result (λ runners. runners.items ≡ runners_from schema.now 1 scripts) }
 {

@@ -24,7 +24,7 @@ pub struct StatementProgress {
 /// A run-unit: what it holds, its script, how many of its statements have their ticket, and, in mid-statement, its progress; `course`
 /// is how far its statement has come with its needs.
 #[derive(Drop)]
-pub struct Runner {
+pub struct UnitState {
     pub unit: Unit,
     pub held: Held,
     pub script: Row<Statement>,
@@ -38,5 +38,5 @@ pub struct Runner {
 pub struct Parts {
     pub table: Vec<CellLocation>,
     pub history: Vec<Entry>,
-    pub runners: Vec<Runner>,
+    pub runners: Vec<UnitState>,
 }

@@ -1,6 +1,6 @@
 //! A unit quits: before its ticket it gives back all that it holds. This takes no memory.
 ghost use Rattle.std.specs.Prelude.{◌≡◌, ◌≤◌, ◌<◌, ◌-◌, [], length, None, reverse, slice_get, Some};
-ghost use Rattle.dbtg_step.specs.declared.parts.Runner.{Runner};
+ghost use Rattle.dbtg_step.specs.declared.parts.UnitState.{UnitState};
 ghost use Rattle.dbtg_step.specs.Inside.Parts.{written_homes};
 ghost use Rattle.dbtg_step.specs.Inside.Stands.{HavePlaces, StandsUnticketed};
 ghost use Rattle.dbtg_step.specs.Inside.Events.{IsQuit, IsWell};
@@ -32,7 +32,7 @@ fn quit_event(schema: &Schema, capacity: u16, parts: &mut Parts, unit: u8) -> St
     requires numbered { 0 < unit }
     requires within { unit ≤ length parts.old.runners.items }
     requires well { IsWell schema.now capacity parts.old }
-    requires stands { (r : Runner) → slice_get parts.old.runners.items (unit - 1) ≡ Some r → StandsUnticketed r }
+    requires stands { (r : UnitState) → slice_get parts.old.runners.items (unit - 1) ≡ Some r → StandsUnticketed r }
     ensures { IsQuit schema.now capacity unit result parts.old parts.new }
 {
     let runner = &mut parts.runners[unit as usize - 1];

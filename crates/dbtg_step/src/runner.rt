@@ -5,7 +5,7 @@ ghost use Rattle.dbtg_step.specs.Inside.Parts.{progress_while_held};
 ghost use Rattle.dbtg_step.specs.Inside.Stands.{HasStatement, IsStanding};
 ghost use Rattle.dbtg_unit.specs.declared.statement.Statement.{Statement};
 
-use crate::parts::{Runner, StatementProgress};
+use crate::parts::{StatementProgress, UnitState};
 use dbtg_schema::Row;
 use dbtg_unit::{Statement, Unit};
 use std::alloc::{AllocError, Global};
@@ -26,7 +26,7 @@ pub enum Phase {
 }
 
 /// The phase in which the unit is.
-pub fn phase_of(runner: &Runner) -> Phase
+pub fn phase_of(runner: &UnitState) -> Phase
     requires { HasStatement runner.now }
     ensures { IsStanding runner.now result }
 {
@@ -51,7 +51,7 @@ pub fn phase_of(runner: &Runner) -> Phase
 }
 
 /// How far a unit in mid-statement is. It stands apart from the phase, so that each event reads of it only what it goes by.
-pub fn progress_of(runner: &Runner) -> StatementProgress
+pub fn progress_of(runner: &UnitState) -> StatementProgress
     requires { is_some runner.now.progress ≡ true }
     ensures { runner.now.progress ≡ Some result }
 {
@@ -62,7 +62,7 @@ pub fn progress_of(runner: &Runner) -> StatementProgress
 }
 
 /// The statement that is made, or comes next.
-pub fn statement_of(runner: &Runner) -> &Statement
+pub fn statement_of(runner: &UnitState) -> &Statement
     requires { runner.now.next < length runner.now.script }
     ensures { slice_get runner.now.script runner.now.next ≡ Some result.now }
 {
@@ -77,7 +77,7 @@ fn is_delete(statement: &Statement) -> bool
 }
 
 /// Begins the next statement; what is kept of the statement before it is dropped.
-pub fn begin(runner: &mut Runner)
+pub fn begin(runner: &mut UnitState)
     requires { runner.old.next < length runner.old.script }
     ensures { (x : Statement) → slice_get runner.old.script runner.old.next ≡ Some x → runner.new ≡ record runner.old { progress = Some (record { exclusive = is_delete x; turning_back = false; ticket = None; linked = 0 }); course = None } }
 {
@@ -92,7 +92,7 @@ pub fn begin(runner: &mut Runner)
 }
 
 /// Links a cell.
-pub fn link(runner: &mut Runner, progress: StatementProgress)
+pub fn link(runner: &mut UnitState, progress: StatementProgress)
     requires { progress.linked < length runner.old.held.cells }
     ensures { runner.new ≡ record runner.old { progress = Some (record progress { linked = progress.linked + 1 }) } }
 {
@@ -107,7 +107,7 @@ pub fn link(runner: &mut Runner, progress: StatementProgress)
 }
 
 /// The statement has its ticket.
-pub fn pass(runner: &mut Runner)
+pub fn pass(runner: &mut UnitState)
     requires { runner.old.next < length runner.old.script }
     ensures { runner.new ≡ record runner.old { next = runner.old.next + 1 } }
 {
@@ -117,7 +117,7 @@ pub fn pass(runner: &mut Runner)
 }
 
 /// Once nothing is held the statement is over.
-pub fn close(runner: &mut Runner)
+pub fn close(runner: &mut UnitState)
     ensures { runner.new ≡ record runner.old { progress = progress_while_held runner.old.held.areas runner.old.held.cells runner.old.progress } }
 {
     if runner.held.area_count() == 0 && runner.held.cell_count() == 0 {
@@ -126,7 +126,7 @@ pub fn close(runner: &mut Runner)
 }
 
 /// Turns back as long as a cell is held; what is kept of the cells that were held is dropped.
-pub fn turn_back(runner: &mut Runner, progress: StatementProgress)
+pub fn turn_back(runner: &mut UnitState, progress: StatementProgress)
     ensures { runner.new ≡ record runner.old { progress = Some (record progress { turning_back = nat_lt 0 (length runner.old.held.cells) }); course = None } }
 {
     runner.progress = Some(StatementProgress {
@@ -139,10 +139,10 @@ pub fn turn_back(runner: &mut Runner, progress: StatementProgress)
 }
 
 // The unit alone: everything else is dropped.
-fn unit_of(runner: Runner) -> Unit
+fn unit_of(runner: UnitState) -> Unit
     ensures { result ≡ runner.unit }
 {
-    let Runner {
+    let UnitState {
         unit,
         held,
         script,
@@ -156,7 +156,7 @@ fn unit_of(runner: Runner) -> Unit
 }
 
 /// The units alone, in their order.
-pub fn units_of(alloc: Global, runners: Vec<Runner>) -> Result<Row<Unit>, AllocError>
+pub fn units_of(alloc: Global, runners: Vec<UnitState>) -> Result<Row<Unit>, AllocError>
     ensures { IfOk result (λ units. units ≡ map (λ r. r.unit) runners.items) }
 {
     let mut units = Vec::with_capacity(alloc, runners.len())?;

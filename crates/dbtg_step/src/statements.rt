@@ -12,7 +12,7 @@ ghost use Rattle.dbtg_unit.specs.Hands.Local.{Agrees};
 ghost use Rattle.dbtg_unit.specs.Hands.Locality.{IsMadeOnEach, made_by};
 ghost use Rattle.dbtg_unit.specs.Hands.Making.{CanFinish, MayPrepare, ShowsTheSame};
 ghost use Rattle.dbtg_unit.specs.Hands.Needs.{areas_in_order, need, stale_owners};
-ghost use Rattle.dbtg_step.specs.Core.Courses.{AreCellsKept, IsAtCells, IsCourseKept};
+ghost use Rattle.dbtg_step.specs.Core.Courses.{CellsMatch, IsAtCells, CourseMatches};
 ghost use Rattle.dbtg_step.specs.Inside.Courses.{IsBehindAreas};
 ghost use Rattle.dbtg_step.specs.Machine.NeedOrder.{AreCellsOf, HasItsAreas, IsAboveHands, LiesInHeldArea, WasTakenInTurn};
 
@@ -41,7 +41,7 @@ fn area_left(
     course: &mut Option<Course>,
 ) -> Option<AreaNo>
     requires passed { refused_at_once schema.now capacity unit.now statement.now ≡ None }
-    ensures kept { IsCourseKept schema.now capacity held.now unit.now statement.now course.new }
+    ensures kept { CourseMatches schema.now capacity held.now unit.now statement.now course.new }
     ensures need { (a : ℕ) (db : Database) → result ≡ Some a → Need.Area a ≡ need schema.now capacity db unit.now held.now statement.now }
     ensures behind { IfNone result (IsBehindAreas course.new) }
 {
@@ -68,8 +68,8 @@ pub fn area_next(
     held: &Held,
     course: &mut Option<Course>,
 ) -> Option<AreaNo>
-    requires kept { IsCourseKept schema.now capacity held.now unit.now statement.now course.old }
-    ensures kept { IsCourseKept schema.now capacity held.now unit.now statement.now course.new }
+    requires kept { CourseMatches schema.now capacity held.now unit.now statement.now course.old }
+    ensures kept { CourseMatches schema.now capacity held.now unit.now statement.now course.new }
     ensures need { (a : ℕ) (db : Database) → result ≡ Some a → Need.Area a ≡ need schema.now capacity db unit.now held.now statement.now }
     ensures behind { IfNone result (IsBehindAreas course.new) }
 {
@@ -106,12 +106,12 @@ fn need_with_areas(
     held: &Held,
     course: &mut Option<dbtg_erase::Course>,
 ) -> Result<Need, AllocError>
-    requires kept { AreCellsKept schema.now capacity held.now unit.now statement.now course.old }
+    requires kept { CellsMatch schema.now capacity held.now unit.now statement.now course.old }
     requires fits { fits schema.now statement.now ≡ true }
     requires of_schema { IsUnitOf schema.now unit.now }
     requires within { IsWithin capacity unit.now }
     requires at { IsAtCells schema.now capacity held.now unit.now statement.now }
-    ensures kept { AreCellsKept schema.now capacity held.now unit.now statement.now course.new }
+    ensures kept { CellsMatch schema.now capacity held.now unit.now statement.now course.new }
     ensures need { IfOk result (λ n. (db : Database) → Agrees schema.now capacity db held.now unit.now → n ≡ need schema.now capacity db unit.now held.now statement.now) }
     ensures refused { OnErr result (is_delete statement.now ≡ true) }
 {
@@ -135,11 +135,11 @@ pub fn next_need(
     held: &Held,
     course: &mut Option<Course>,
 ) -> Result<Need, AllocError>
-    requires kept { IsCourseKept schema.now capacity held.now unit.now statement.now course.old }
+    requires kept { CourseMatches schema.now capacity held.now unit.now statement.now course.old }
     requires fits { fits schema.now statement.now ≡ true }
     requires of_schema { IsUnitOf schema.now unit.now }
     requires within { IsWithin capacity unit.now }
-    ensures kept { IsCourseKept schema.now capacity held.now unit.now statement.now course.new }
+    ensures kept { CourseMatches schema.now capacity held.now unit.now statement.now course.new }
     ensures need { IfOk result (λ n. (db : Database) → Agrees schema.now capacity db held.now unit.now → n ≡ need schema.now capacity db unit.now held.now statement.now) }
     ensures above { IfOk result (λ n. (db : Database) → IsSound schema.now → AreCellsOf schema.now capacity db unit.now statement.now held.now → WasTakenInTurn schema.now capacity unit.now statement.now held.now → IsAboveHands statement.now held.now n) }
     ensures in_area { IfOk result (λ n. (db : Database) → IsSound schema.now → AreCellsOf schema.now capacity db unit.now statement.now held.now → LiesInHeldArea schema.now held.now n) }

@@ -1,7 +1,7 @@
 //! The events of a unit, one per function; each is the machine's step in the state that it finds.
 ghost use Rattle.std.specs.Prelude.{◌≡◌, ℕ, ◌≤◌, ◌<◌, ◌-◌, length, slice_get, [], Some};
 ghost use Rattle.dbtg_schema.specs.Lists.{Lists};
-ghost use Rattle.dbtg_step.specs.declared.parts.Runner.{Runner};
+ghost use Rattle.dbtg_step.specs.declared.parts.UnitState.{UnitState};
 ghost use Rattle.dbtg_step.specs.Inside.Stands.{StandsBetween, StandsTicketed, StandsTurning};
 ghost use Rattle.dbtg_step.specs.Inside.Events.{IsStepped, IsWell};
 
@@ -17,7 +17,7 @@ use std::alloc::Global;
 pub fn begin_event(parts: &mut Parts, unit: u8) -> Stepped
     requires numbered { 0 < unit }
     requires within { unit ≤ length parts.old.runners.items }
-    requires stands { (r : Runner) → slice_get parts.old.runners.items (unit - 1) ≡ Some r → StandsBetween r }
+    requires stands { (r : UnitState) → slice_get parts.old.runners.items (unit - 1) ≡ Some r → StandsBetween r }
     ensures { (schema : Lists) (capacity : ℕ) → IsWell schema capacity parts.old → IsStepped schema capacity unit result parts.old parts.new }
 {
     begin(&mut parts.runners[unit as usize - 1]);
@@ -28,8 +28,8 @@ pub fn begin_event(parts: &mut Parts, unit: u8) -> Stepped
 pub fn link_event(parts: &mut Parts, unit: u8, progress: StatementProgress) -> Stepped
     requires numbered { 0 < unit }
     requires within { unit ≤ length parts.old.runners.items }
-    requires stands { (r : Runner) → slice_get parts.old.runners.items (unit - 1) ≡ Some r → StandsTicketed r progress }
-    requires left { (r : Runner) → slice_get parts.old.runners.items (unit - 1) ≡ Some r → progress.linked < length r.held.cells }
+    requires stands { (r : UnitState) → slice_get parts.old.runners.items (unit - 1) ≡ Some r → StandsTicketed r progress }
+    requires left { (r : UnitState) → slice_get parts.old.runners.items (unit - 1) ≡ Some r → progress.linked < length r.held.cells }
     ensures { (schema : Lists) (capacity : ℕ) → IsWell schema capacity parts.old → IsStepped schema capacity unit result parts.old parts.new }
 {
     link(&mut parts.runners[unit as usize - 1], progress);
@@ -47,9 +47,9 @@ pub fn give_cell_event(
     requires numbered { 0 < unit }
     requires within { unit ≤ length parts.old.runners.items }
     requires well { IsWell schema.now capacity parts.old }
-    requires stands { (r : Runner) → slice_get parts.old.runners.items (unit - 1) ≡ Some r → StandsTicketed r progress }
-    requires linked { (r : Runner) → slice_get parts.old.runners.items (unit - 1) ≡ Some r → length r.held.cells ≤ progress.linked }
-    requires cells { (r : Runner) → slice_get parts.old.runners.items (unit - 1) ≡ Some r → 0 < length r.held.cells }
+    requires stands { (r : UnitState) → slice_get parts.old.runners.items (unit - 1) ≡ Some r → StandsTicketed r progress }
+    requires linked { (r : UnitState) → slice_get parts.old.runners.items (unit - 1) ≡ Some r → length r.held.cells ≤ progress.linked }
+    requires cells { (r : UnitState) → slice_get parts.old.runners.items (unit - 1) ≡ Some r → 0 < length r.held.cells }
     ensures { IsStepped schema.now capacity unit result parts.old parts.new }
 {
     // Unused here; the contract mentions it.
@@ -64,8 +64,8 @@ pub fn give_cell_event(
 pub fn leave_area_event(parts: &mut Parts, unit: u8, progress: StatementProgress) -> Stepped
     requires numbered { 0 < unit }
     requires within { unit ≤ length parts.old.runners.items }
-    requires stands { (r : Runner) → slice_get parts.old.runners.items (unit - 1) ≡ Some r → StandsTicketed r progress }
-    requires cells { (r : Runner) → slice_get parts.old.runners.items (unit - 1) ≡ Some r → length r.held.cells ≡ 0 }
+    requires stands { (r : UnitState) → slice_get parts.old.runners.items (unit - 1) ≡ Some r → StandsTicketed r progress }
+    requires cells { (r : UnitState) → slice_get parts.old.runners.items (unit - 1) ≡ Some r → length r.held.cells ≡ 0 }
     ensures { (schema : Lists) (capacity : ℕ) → IsWell schema capacity parts.old → IsStepped schema capacity unit result parts.old parts.new }
 {
     // Unused here; the contract mentions it.
@@ -87,7 +87,7 @@ pub fn turn_back_event(
     requires numbered { 0 < unit }
     requires within { unit ≤ length parts.old.runners.items }
     requires well { IsWell schema.now capacity parts.old }
-    requires stands { (r : Runner) → slice_get parts.old.runners.items (unit - 1) ≡ Some r → StandsTurning r progress }
+    requires stands { (r : UnitState) → slice_get parts.old.runners.items (unit - 1) ≡ Some r → StandsTurning r progress }
     ensures { IsStepped schema.now capacity unit result parts.old parts.new }
 {
     let runner = &mut parts.runners[unit as usize - 1];
@@ -107,7 +107,7 @@ fn end_event(
     requires numbered { 0 < unit }
     requires within { unit ≤ length parts.old.runners.items }
     requires well { IsWell schema.now capacity parts.old }
-    requires stands { (r : Runner) → slice_get parts.old.runners.items (unit - 1) ≡ Some r → StandsTicketed r progress }
+    requires stands { (r : UnitState) → slice_get parts.old.runners.items (unit - 1) ≡ Some r → StandsTicketed r progress }
     ensures { IsStepped schema.now capacity unit result parts.old parts.new }
 {
     let count = parts.runners[unit as usize - 1].held.cell_count();

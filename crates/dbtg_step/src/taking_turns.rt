@@ -4,7 +4,7 @@ ghost use Rattle.std.specs.Bool.{Decides};
 ghost use Rattle.dbtg_schema.specs.Lists.{Lists};
 ghost use Rattle.dbtg_schema.specs.Sound.{IsSound};
 ghost use Rattle.dbtg_unit.specs.declared.moves.Move.{Move};
-ghost use Rattle.dbtg_step.specs.declared.parts.Runner.{Runner};
+ghost use Rattle.dbtg_step.specs.declared.parts.UnitState.{UnitState};
 ghost use Rattle.dbtg_step.specs.declared.taking_turns.Noted.{Noted};
 ghost use Rattle.dbtg_step.specs.Core.Runs.{IsHandedOut};
 ghost use Rattle.dbtg_step.specs.Laws.{scripts_fit};
@@ -16,7 +16,7 @@ ghost use Rattle.dbtg_step.specs.Core.Turns.{AllBetween, AreGiven, HaveTurned, I
 ghost use Rattle.dbtg_step.specs.Inside.Turns.{IsDone};
 
 use crate::machine::Core;
-use crate::parts::{Parts, Runner};
+use crate::parts::{Parts, UnitState};
 use crate::results::Run;
 use crate::stepping::step;
 use dbtg_schema::{Row, Schema};
@@ -91,14 +91,14 @@ impl Noted {
 }
 
 // How many statements the unit has left.
-fn statements_left(runner: &Runner) -> usize
+fn statements_left(runner: &UnitState) -> usize
     ensures { result ≡ length (drop runner.now.next runner.now.script) }
 {
     runner.script.len().saturating_sub(runner.next)
 }
 
 // Whether the unit is between statements, with at most `left` of them to make.
-fn is_done(runner: &Runner, left: usize) -> bool
+fn is_done(runner: &UnitState, left: usize) -> bool
     ensures { (schema : Lists) (capacity : ℕ) → Decides result (IsDone (network schema capacity) left (unit_state_of schema capacity runner.now)) }
 {
     runner.progress.is_none() & (statements_left(runner) <= left)

@@ -10,7 +10,7 @@ ghost use Rattle.dbtg_unit.specs.Database.State.Belongs.{IsUnitOf, IsWithin};
 ghost use Rattle.dbtg_unit.specs.Database.Statements.Fits.{fits};
 ghost use Rattle.dbtg_unit.specs.Hands.Local.{Agrees};
 ghost use Rattle.dbtg_unit.specs.Hands.Needs.{need};
-ghost use Rattle.dbtg_step.specs.declared.parts.Runner.{Runner};
+ghost use Rattle.dbtg_step.specs.declared.parts.UnitState.{UnitState};
 ghost use Rattle.dbtg_step.specs.declared.waiting.Awaited.{Awaited};
 ghost use Rattle.dbtg_step.specs.Machine.NeedOrder.{HasItsAreas};
 ghost use Rattle.dbtg_step.specs.Core.Parts.{location_at};
@@ -21,7 +21,7 @@ ghost use Rattle.dbtg_step.specs.Inside.Stands.{StandsNeeding};
 ghost use Rattle.dbtg_step.specs.Inside.Waiting.{IsAwaited, has_awaited, is_with_unit, numbers_from};
 
 use crate::needing::{holds_against, other_holds_against};
-use crate::parts::{CellLocation, Parts, Runner, StatementProgress};
+use crate::parts::{CellLocation, Parts, StatementProgress, UnitState};
 use crate::runner::{Phase, phase_of, progress_of, statement_of};
 use crate::statements::need_unless_delete;
 use dbtg_cells::{CellName, cell_number};
@@ -44,7 +44,7 @@ pub struct Blocking {
 }
 
 // What the unit's statement needs next, unless it is a DELETE that has its areas.
-fn need_of_runner(schema: &Schema, capacity: u16, runner: &Runner) -> Option<Need>
+fn need_of_runner(schema: &Schema, capacity: u16, runner: &UnitState) -> Option<Need>
     requires left { runner.now.next < length runner.now.script }
     requires fits { (x : Statement) → slice_get runner.now.script runner.now.next ≡ Some x → fits schema.now x ≡ true }
     requires of_schema { IsUnitOf schema.now runner.now.unit }
@@ -90,7 +90,7 @@ fn awaits_area(
 ) -> Option<Awaited>
     requires numbered { 0 < unit }
     requires within { unit ≤ length parts.now.runners.items }
-    requires stands { (r : Runner) → slice_get parts.now.runners.items (unit - 1) ≡ Some r → StandsNeeding r progress }
+    requires stands { (r : UnitState) → slice_get parts.now.runners.items (unit - 1) ≡ Some r → StandsNeeding r progress }
     ensures { (schema : Lists) (capacity : ℕ) → IsWell schema capacity parts.now → NeedsNext schema capacity parts.now unit progress (Need.Area area) → IsAwaited (core_of schema capacity parts.now) unit result }
 {
     let exclusive = progress.exclusive;
@@ -110,7 +110,7 @@ fn awaits_cell(
     requires numbered { 0 < unit }
     requires within { unit ≤ length parts.now.runners.items }
     requires well { IsWell schema.now capacity parts.now }
-    requires stands { (r : Runner) → slice_get parts.now.runners.items (unit - 1) ≡ Some r → StandsNeeding r progress }
+    requires stands { (r : UnitState) → slice_get parts.now.runners.items (unit - 1) ≡ Some r → StandsNeeding r progress }
     requires needs { NeedsNext schema.now capacity parts.now unit progress (Need.Take name) }
     ensures { IsAwaited (core_of schema.now capacity parts.now) unit result }
 {
@@ -133,7 +133,7 @@ fn awaited_by_need(
     requires numbered { 0 < unit }
     requires within { unit ≤ length parts.now.runners.items }
     requires well { IsWell schema.now capacity parts.now }
-    requires stands { (r : Runner) → slice_get parts.now.runners.items (unit - 1) ≡ Some r → StandsNeeding r progress }
+    requires stands { (r : UnitState) → slice_get parts.now.runners.items (unit - 1) ≡ Some r → StandsNeeding r progress }
     requires needs { NeedsNext schema.now capacity parts.now unit progress need }
     ensures { IsAwaited (core_of schema.now capacity parts.now) unit result }
 {
@@ -156,7 +156,7 @@ fn awaited_by_needing(
     requires numbered { 0 < unit }
     requires within { unit ≤ length parts.now.runners.items }
     requires well { IsWell schema.now capacity parts.now }
-    requires stands { (r : Runner) → slice_get parts.now.runners.items (unit - 1) ≡ Some r → StandsNeeding r progress }
+    requires stands { (r : UnitState) → slice_get parts.now.runners.items (unit - 1) ≡ Some r → StandsNeeding r progress }
     ensures { IsAwaited (core_of schema.now capacity parts.now) unit result }
 {
     match need_of_runner(schema, capacity, &parts.runners[unit as usize - 1]) {
@@ -195,7 +195,7 @@ fn has_cell(held: &Held, name: &CellName) -> bool
     }
 }
 
-fn has_awaited(runner: &Runner, awaited: &Awaited) -> bool
+fn has_awaited(runner: &UnitState, awaited: &Awaited) -> bool
     ensures { result ≡ has_awaited awaited.now runner.now }
 {
     match awaited {
@@ -207,7 +207,7 @@ fn has_awaited(runner: &Runner, awaited: &Awaited) -> bool
 // The other units that have it.
 fn holders_among(
     alloc: Global,
-    runners: &[Runner],
+    runners: &[UnitState],
     unit: u8,
     awaited: &Awaited,
 ) -> Result<Row<usize>, AllocError>

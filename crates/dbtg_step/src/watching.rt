@@ -6,7 +6,7 @@ ghost use Rattle.dbtg_step.specs.Core.Parts.{unit_state_of};
 ghost use Rattle.dbtg_step.specs.Core.Newest.{newest_of};
 ghost use Rattle.dbtg_step.specs.Core.Positions.{position_of};
 
-use crate::parts::Runner;
+use crate::parts::UnitState;
 use dbtg_cells::CellName;
 use dbtg_schema::AreaNo;
 
@@ -28,7 +28,7 @@ pub struct Position {
     pub progress: Option<Progress>,
 }
 
-fn progress_of(runner: &Runner) -> Option<Progress>
+fn progress_of(runner: &UnitState) -> Option<Progress>
     ensures { (schema : Lists) (capacity : ℕ) → result ≡ (position_of (network schema capacity) (unit_state_of schema capacity runner.now)).progress }
 {
     let progress = runner.progress?;
@@ -42,7 +42,7 @@ fn progress_of(runner: &Runner) -> Option<Progress>
 }
 
 /// Where the unit is.
-pub fn position_of(runner: &Runner) -> Position
+pub fn position_of(runner: &UnitState) -> Position
     ensures { (schema : Lists) (capacity : ℕ) → result ≡ position_of (network schema capacity) (unit_state_of schema capacity runner.now) }
 {
     let left = runner.script.len().saturating_sub(runner.next);
@@ -60,7 +60,7 @@ pub struct Newest {
 }
 
 /// What the unit took last.
-pub fn newest_of(runner: &Runner) -> Newest
+pub fn newest_of(runner: &UnitState) -> Newest
     ensures { (schema : Lists) (capacity : ℕ) → result ≡ newest_of (unit_state_of schema capacity runner.now) }
 {
     match runner.progress {

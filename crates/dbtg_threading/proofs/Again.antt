@@ -9,12 +9,12 @@ use Rattle.dbtg_schema.specs.Lists.{Lists}
 use Rattle.dbtg_unit.specs.declared.statement.Statement.{Statement}
 use Rattle.dbtg_unit.specs.declared.unit.Answer.{Answer}
 use Rattle.dbtg_unit.specs.declared.unit.Entry.{Entry}
-use Rattle.dbtg_unit.specs.Database.Statements.Effect.{Outcome}
-use Rattle.dbtg_unit.specs.Database.Laws.Replay.{AnswersHold, IsHistoryOf, State, after_entry, after_outcome, entries_of, opening_state, outcome_of, replay}
+use Rattle.dbtg_unit.specs.Database.Statements.Effect.{StatementEffect}
+use Rattle.dbtg_unit.specs.Database.Laws.Replay.{AnswersHold, IsHistoryOf, State, after_entry, after_effect, entries_of, opening_state, effect_of_unit, replay}
 use Rattle.dbtg_unit.proofs.Public.{opening_length, replays_one_more}
 use Rattle.dbtg_step.proofs.Public.{unit_is_there}
 use Rattle.dbtg_program.specs.declared.program.Program.{Program}
-use Rattle.dbtg_going.specs.Turns.{after_turn, after_turns, made, statement_of, with_outcome}
+use Rattle.dbtg_going.specs.Turns.{after_turn, after_turns, made, statement_of, with_effect_of}
 use Rattle.dbtg_going.proofs.Turning.{numbered_one}
 use Rattle.dbtg_threading.specs.Inside.Gone.{HaveMade, statement_after}
 
@@ -25,7 +25,7 @@ set_length [] n x = refl
 set_length (y ∷ ys) zero x = refl
 set_length (y ∷ ys) (suc n) x = ap suc (set_length ys n x)
 
-as_many : (state : State) (number : ℕ) (o : Option Outcome) → length (after_outcome state number o).units ≡ length state.units
+as_many : (state : State) (number : ℕ) (o : Option StatementEffect) → length (after_effect state number o).units ≡ length state.units
 as_many state number None = refl
 as_many state number (Some o) = set_length state.units (number - 1) o.unit
 
@@ -42,7 +42,7 @@ module _ (schema : Lists) (capacity : ℕ) (programs : List Program) where
   still_as_many : (state : State) (es : List Entry) → length (replay schema capacity state es).units ≡ length state.units
   unfolding replay
   still_as_many state [] = refl
-  still_as_many state (e ∷ es) = still_as_many (after_entry schema capacity state e) es ∙ as_many state e.unit (outcome_of schema capacity state e.unit e.statement)
+  still_as_many state (e ∷ es) = still_as_many (after_entry schema capacity state e) es ∙ as_many state e.unit (effect_of_unit schema capacity state e.unit e.statement)
 
   units_are : (es : List Entry) → length (now es).units ≡ length programs
   units_are es = still_as_many (opening_state schema (length programs)) es ∙ opening_length schema (length programs)
@@ -57,7 +57,7 @@ module _ (schema : Lists) (capacity : ℕ) (programs : List Program) where
       = ap (entries_of e.unit) is ∙ filter-append (λ (f : Entry). f.unit == e.unit) before (e ∷ behind) ∙ ap (λ es. entries_of e.unit before ++ es) (mine e behind) in
       ap (option_and_then (λ (p : Program). statement_after schema p (entries_of e.unit before))) program.1 ∙ (all e.unit program.0 program.1).in_turn (entries_of e.unit before) e (entries_of e.unit behind) own
 
-  with_answer : (before : List Entry) (e : Entry) (o : Option Outcome) → option_map (λ (o : Outcome). o.answer) o ≡ Some e.answer → length before ≡ e.ticket → with_outcome before e.unit e.statement o ≡ before ++ e ∷ []
+  with_answer : (before : List Entry) (e : Entry) (o : Option StatementEffect) → option_map (λ (o : StatementEffect). o.answer) o ≡ Some e.answer → length before ≡ e.ticket → with_effect_of before e.unit e.statement o ≡ before ++ e ∷ []
   with_answer before e None h ticket = absurd cc
   with_answer before e (Some o) h ticket =
       let answer : o.answer ≡ e.answer = cc in
@@ -75,7 +75,7 @@ module _ (schema : Lists) (capacity : ℕ) (programs : List Program) where
       let said = in_turn history before rest e all is there.0 (omega (arith, there.1, number)) in
       let ticket : length before ≡ e.ticket = cc (tickets) in
       let turn : after_turn schema capacity programs before e.unit ≡ before ++ e ∷ []
-      = ap (made schema capacity (length programs) before e.unit) said ∙ with_answer before e (outcome_of schema capacity (now before) e.unit e.statement) answers.0 ticket in
+      = ap (made schema capacity (length programs) before e.unit) said ∙ with_answer before e (effect_of_unit schema capacity (now before) e.unit e.statement) answers.0 ticket in
       let tail : map (λ (f : Entry). f.ticket) rest ≡ range_with_len (length before + 1) (length rest) = cc (tickets) in
       ap (λ es. after_turns schema capacity programs es (map (λ (f : Entry). f.unit) rest)) turn
       ∙ along history (before ++ e ∷ []) rest all (is ∙ sym (append_assoc before (e ∷ []) rest))

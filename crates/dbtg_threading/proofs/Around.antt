@@ -11,16 +11,16 @@ use Rattle.dbtg_schema.specs.Lists.{Lists}
 use Rattle.dbtg_unit.specs.declared.limits.TheConstants.{MOST_STATEMENTS}
 use Rattle.dbtg_unit.specs.declared.statement.Statement.{Statement}
 use Rattle.dbtg_unit.specs.declared.unit.Entry.{Entry}
-use Rattle.dbtg_unit.specs.Database.Statements.Effect.{Outcome}
+use Rattle.dbtg_unit.specs.Database.Statements.Effect.{StatementEffect}
 use Rattle.dbtg_unit.specs.Database.State.Image.{image_of}
-use Rattle.dbtg_unit.specs.Database.Laws.Replay.{IsHistoryOf, entries_of, opening_state, outcome_of, replay}
+use Rattle.dbtg_unit.specs.Database.Laws.Replay.{IsHistoryOf, entries_of, opening_state, effect_of_unit, replay}
 use Rattle.dbtg_unit.proofs.Public.{entries_other}
 use Rattle.dbtg_program.specs.declared.program.Program.{Program}
 use Rattle.dbtg_program.specs.Going.{AreOf}
 use Rattle.dbtg_step.specs.Machine.SequentialDatabase.{unit_at}
 use Rattle.dbtg_going.specs.declared.around.Around.{Around}
 use Rattle.dbtg_going.specs.declared.going.ProgramRun.{ProgramRun}
-use Rattle.dbtg_going.specs.Turns.{after_turn, after_turns, first_turns, have_ended, is_heard, last_turns, made, one_less, others, reached, statement_of, to_the_end, turns_before, turns_of, with_outcome}
+use Rattle.dbtg_going.specs.Turns.{after_turn, after_turns, first_turns, have_ended, is_heard, last_turns, made, one_less, others, reached, statement_of, to_the_end, turns_before, turns_of, with_effect_of}
 use Rattle.dbtg_going.proofs.Turning.{turns_behind}
 use Rattle.dbtg_run.specs.declared.settled.Settled.{Settled}
 use Rattle.dbtg_threading.specs.Threading.{IsRunOnThreads, is_between}
@@ -148,13 +148,13 @@ module _ (schema : Lists) (capacity : ℕ) (programs : List Program) where
 
   -- TURNS OF OTHERS
 
-  not_mine : (u v : ℕ) (h : List Entry) (s : Statement) (o : Option Outcome) → v ≢ u → entries_of u (with_outcome h v s o) ≡ entries_of u h
+  not_mine : (u v : ℕ) (h : List Entry) (s : Statement) (o : Option StatementEffect) → v ≢ u → entries_of u (with_effect_of h v s o) ≡ entries_of u h
   not_mine u v h s None other = refl
   not_mine u v h s (Some o) other = entries_other u h (record { ticket = length h; unit = v; statement = s; answer = o.answer }) other
 
   not_mine_made : (u v : ℕ) (h : List Entry) (s : Option Statement) → v ≢ u → entries_of u (made schema capacity (length programs) h v s) ≡ entries_of u h
   not_mine_made u v h None other = refl
-  not_mine_made u v h (Some s) other = not_mine u v h s (outcome_of schema capacity (replay schema capacity (opening_state schema (length programs)) h) v s) other
+  not_mine_made u v h (Some s) other = not_mine u v h s (effect_of_unit schema capacity (replay schema capacity (opening_state schema (length programs)) h) v s) other
 
   unmoved : (u : ℕ) (us : List ℕ) (h : List Entry) → Miss u us → entries_of u (after h us) ≡ entries_of u h
   unfolding after_turns

@@ -195,10 +195,10 @@ pub fn watch_move(alloc: Global, core: &mut Core, one: Move) -> Result<Event, Al
     ensures event { IfOk result (λ event. event ≡ event_of_move (machine core.old) one) }
 {
     let unit = unit_in(one);
-    let before = core.position(unit);
+    let before = core.position_at(unit);
     let stepped = make_move(core, one)?;
     let wait = wait_after(alloc, core, unit, stepped)?;
-    let after = core.position(unit);
+    let after = core.position_at(unit);
     Ok(shown(one, stepped, before, after, core.history(), wait))
 }
 

@@ -9,8 +9,8 @@ use Rattle.dbtg_cells.proofs.Public.{get_behind}
 use Rattle.dbtg_unit.specs.declared.limits.TheConstants.{MOST_STATEMENTS}
 use Rattle.dbtg_unit.specs.declared.statement.Statement.{Statement}
 use Rattle.dbtg_unit.specs.Database.Statements.Fits.{fits}
-use Rattle.dbtg_script.specs.declared.known.Seen.{Seen}
-use Rattle.dbtg_script.specs.Known.{IsKnown, IsRead}
+use Rattle.dbtg_script.specs.declared.line_cache.Seen.{Seen}
+use Rattle.dbtg_script.specs.LineCache.{IsKnown, IsRead}
 use Rattle.dbtg_script.specs.Lines.{trimmed}
 use Rattle.dbtg_script.specs.StatementFaults.{line_faults}
 use Rattle.dbtg_script.specs.Statements.{line_statement}

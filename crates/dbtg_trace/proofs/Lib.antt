@@ -3,7 +3,7 @@ mod ArrowSteps
 mod WordSteps
 mod EntrySteps
 mod KnownSteps
-mod AnswersKept
+mod CachedAnswers
 mod TraceSteps
 mod PrintedSteps
 mod ReadBack

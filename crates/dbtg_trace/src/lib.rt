@@ -2,8 +2,8 @@
 #![tactic(auto)]
 
 mod answer;
+mod answer_cache;
 mod fault;
-mod known;
 mod laws;
 mod parts;
 mod printed;

@@ -3,13 +3,13 @@
 ghost use Rattle.dbtg_schema.specs.Lists.{Lists};
 ghost use Rattle.dbtg_schema.specs.Lookups.{first};
 ghost use Rattle.dbtg_schema.specs.Sound.{IsSound};
-ghost use Rattle.dbtg_script.specs.Known.{IsKnown, IsRead};
+ghost use Rattle.dbtg_script.specs.LineCache.{IsKnown, IsRead};
 ghost use Rattle.dbtg_script.specs.Lines.{is_statement, trimmed};
 ghost use Rattle.dbtg_script.specs.StatementFaults.{count_after};
 ghost use Rattle.dbtg_script.specs.Statements.{line_statement};
 ghost use Rattle.dbtg_trace.specs.Faults.{refusal, whole_faults};
 ghost use Rattle.dbtg_trace.specs.Answers.{answer_in};
-ghost use Rattle.dbtg_trace.specs.Inside.Known.{AreSaid, IsKept};
+ghost use Rattle.dbtg_trace.specs.Inside.AnswerCache.{AreSaid, AreCached};
 ghost use Rattle.dbtg_trace.specs.Inside.Reading.{IsToldAtOnce, Refuses, at_line, entry_verdict, in_entry, line_verdict, part_verdict, statements_in};
 ghost use Rattle.dbtg_trace.specs.Parts.{is_unit};
 ghost use Rattle.dbtg_trace.specs.Reading.{RefusesTrace, entry_faults_at_once, faults_at_once, line_faults_at_once, part_faults_at_once};
@@ -21,8 +21,8 @@ ghost use Rattle.std.specs.Prelude.{◌≡◌, ◌++◌, ◌∷◌, [], IfErr, I
 ghost use Rattle.std.specs.List.{list_all};
 
 use crate::answer::answer_in;
+use crate::answer_cache::AnswerCache;
 use crate::fault::{EntryFault, TraceCause, TraceFault};
-use crate::known::AnswerCache;
 use crate::parts::{halves, unit_named};
 use crate::traced::{Said, Traced};
 use dbtg_schema::Schema;
@@ -178,7 +178,7 @@ fn read_entry<'a>(
     so_far: &mut ReadSoFar<'a>,
     line: NumberedLine<'a>,
 ) -> Result<Traced, EntryFault>
-    requires { IsKept schema.now so_far.old.entries.items so_far.old.known.places so_far.old.answers.places }
+    requires { AreCached schema.now so_far.old.entries.items so_far.old.known.places so_far.old.answers.places }
     ensures accepted { OnOk result (entry_verdict schema.now units line.entry.text.now ≡ None) }
     ensures known { IfOk result (λ t. IsKnown schema.now (statements_in so_far.old.entries.items ++ t.statement ∷ []) so_far.new.known.places) }
     ensures said { IfOk result (λ t. AreSaid schema.now (so_far.old.entries.items ++ t ∷ []) so_far.new.answers.places) }
@@ -239,8 +239,8 @@ fn take_line<'a>(
     so_far: &mut ReadSoFar<'a>,
     line: NumberedLine<'a>,
 ) -> Result<(), EntryFault>
-    requires { IsKept schema.now so_far.old.entries.items so_far.old.known.places so_far.old.answers.places }
-    ensures kept { OnOk result (IsKept schema.now so_far.new.entries.items so_far.new.known.places so_far.new.answers.places) }
+    requires { AreCached schema.now so_far.old.entries.items so_far.old.known.places so_far.old.answers.places }
+    ensures kept { OnOk result (AreCached schema.now so_far.new.entries.items so_far.new.known.places so_far.new.answers.places) }
     ensures accepted { OnOk result (line_verdict schema.now units (length so_far.old.entries.items) line.entry.text.now ≡ None) }
     ensures taken { OnOk result (so_far.new.entries.items ≡ so_far.old.entries.items ++ line_entry schema.now units line.entry.number line.entry.text.now) }
     ensures fitting { IsSound schema.now → OnOk result (list_all (λ t. fits schema.now t.statement) (line_entry schema.now units line.entry.number line.entry.text.now) ≡ true) }

@@ -187,21 +187,21 @@ pub use Rattle.dbtg_unit.proofs.Database.Legal.PassedChecks.{passes_check}
 -- where the checks of all numbers of a list pass, those of each number do
 pub use Rattle.dbtg_unit.proofs.Database.Legal.PassedChecks.{passes_each}
 -- the same CALC values make the same CALC items taken
-pub use Rattle.dbtg_unit.proofs.Database.Legal.SameView.{calc_taken_agrees}
+pub use Rattle.dbtg_unit.proofs.Database.Legal.SameFacts.{calc_taken_agrees}
 -- the same occurrence and key have the same checks at a place
-pub use Rattle.dbtg_unit.proofs.Database.Legal.SameView.{checks_at_agree}
+pub use Rattle.dbtg_unit.proofs.Database.Legal.SameFacts.{checks_at_agree}
 -- a record is the same in two views, an occurrence, and the numbers of a type
-pub use Rattle.dbtg_unit.proofs.Database.Legal.SameView.{SameNumbers, SameOccurrence, SameRecord}
+pub use Rattle.dbtg_unit.proofs.Database.Legal.SameFacts.{SameNumbers, SameOccurrence, SameRecord}
 -- an INSERT has the same checks where the record, its owner and the occurrence are the same
-pub use Rattle.dbtg_unit.proofs.Database.Legal.SameView.{insert_checks_agree}
+pub use Rattle.dbtg_unit.proofs.Database.Legal.SameFacts.{insert_checks_agree}
 -- of its sets a MODIFY asks only those in which the record has an owner
-pub use Rattle.dbtg_unit.proofs.Database.Legal.SameView.{modify_checks_agree}
+pub use Rattle.dbtg_unit.proofs.Database.Legal.SameFacts.{modify_checks_agree}
 -- the same record has the same checks of its own
-pub use Rattle.dbtg_unit.proofs.Database.Legal.SameView.{own_checks_agree}
+pub use Rattle.dbtg_unit.proofs.Database.Legal.SameFacts.{own_checks_agree}
 -- a REMOVE has the same checks where the record and its owner are the same
-pub use Rattle.dbtg_unit.proofs.Database.Legal.SameView.{remove_checks_agree}
+pub use Rattle.dbtg_unit.proofs.Database.Legal.SameFacts.{remove_checks_agree}
 -- the places of a new record are asked only where it gets a number and its CALC items are not taken
-pub use Rattle.dbtg_unit.proofs.Database.Legal.SameView.{store_checks_agree}
+pub use Rattle.dbtg_unit.proofs.Database.Legal.SameFacts.{store_checks_agree}
 -- a list after a record was placed has it, where it joins, and its old members
 pub use Rattle.dbtg_unit.proofs.Database.Legal.StoreLegal.{member_connected}
 -- a record that is not live is in no list

@@ -27,7 +27,7 @@ pub enum Question {
     Is(AreaNo),
 }
 
-fn ask(unit: &Unit, question: &Question, area: AreaNo) -> bool
+fn asks(unit: &Unit, question: &Question, area: AreaNo) -> bool
     ensures { result ≡ asks unit.now.modes question.now area }
 {
     match question {
@@ -46,7 +46,7 @@ fn ask_of_key(schema: &Schema, unit: &Unit, question: &Question, key: Option<DbK
     ensures { result ≡ list_any (asks unit.now.modes question.now) (area_of_current schema.now key) }
 {
     match key {
-        Some(key) => ask(unit, question, schema.area_of(key.rtype)),
+        Some(key) => asks(unit, question, schema.area_of(key.rtype)),
         None => false,
     }
 }
@@ -63,7 +63,7 @@ fn ask_of_automatic(schema: &Schema, unit: &Unit, question: &Question, rtype: Re
     ensures { result ≡ list_any (asks unit.now.modes question.now) (map (home schema.now) (automatic_sets schema.now rtype)) }
 {
     for set in schema.automatic_sets(rtype) {
-        if ask(unit, question, schema.home(*set)) {
+        if asks(unit, question, schema.home(*set)) {
             return true;
         }
     }
@@ -83,7 +83,7 @@ fn ask_of_rekeyed(
 {
     for s in 0..set_count(schema) {
         let set = SetNo::new(s);
-        if is_rekeyed_in(schema, set, rtype, changes) && ask(unit, question, schema.home(set)) {
+        if is_rekeyed_in(schema, set, rtype, changes) && asks(unit, question, schema.home(set)) {
             return true;
         }
     }
@@ -94,9 +94,7 @@ fn ask_of_rekeyed(
 fn ask_of_clauses(schema: &Schema, unit: &Unit, question: &Question, clauses: &[Member]) -> bool
     ensures { result ≡ list_any (λ m. asks unit.now.modes question.now (area_of schema.now m.rtype)) clauses.now }
 {
-    clauses
-        .iter()
-        .any(|clause| ask(unit, question, schema.area_of(clause.rtype)))
+    clauses.iter().any(|clause| asks(unit, question, schema.area_of(clause.rtype)))
 }
 
 // About the areas of the set's member types.
@@ -121,7 +119,7 @@ fn ask_of_named(
     ensures { result ≡ list_any (asks unit.now.modes question.now) (map (area_of schema.now) (unwrap_or (option_map (λ t. t ∷ []) rtype) (set_member_types schema.now set))) }
 {
     match rtype {
-        Some(rtype) => ask(unit, question, schema.area_of(rtype)),
+        Some(rtype) => asks(unit, question, schema.area_of(rtype)),
         None => ask_of_members(schema, unit, question, set),
     }
 }
@@ -130,7 +128,7 @@ fn ask_of_find(schema: &Schema, unit: &Unit, question: &Question, form: &Form) -
     ensures { result ≡ list_any (asks unit.now.modes question.now) (find_areas schema.now unit.now form.now) }
 {
     match form {
-        Form::Key(key) => ask(unit, question, schema.area_of(key.rtype)),
+        Form::Key(key) => asks(unit, question, schema.area_of(key.rtype)),
         Form::CurrentOfUnit => ask_of_key(schema, unit, question, unit.currency.run_unit),
         Form::CurrentOfSet(set) => { ask_of_key(schema, unit, question, unit.key_in(schema, *set)) }
         Form::CurrentOfArea(area) => {
@@ -138,16 +136,16 @@ fn ask_of_find(schema: &Schema, unit: &Unit, question: &Question, form: &Form) -
             ask_of_key(schema, unit, question, current)
         }
         Form::InSet { rtype, set, .. } => {
-            ask(unit, question, schema.home(*set))
+            asks(unit, question, schema.home(*set))
                 || ask_of_named(schema, unit, question, *set, *rtype)
         }
-        Form::InArea { area, .. } => ask(unit, question, *area),
-        Form::OwnerOf(set) => ask(unit, question, schema.home(*set)),
+        Form::InArea { area, .. } => asks(unit, question, *area),
+        Form::OwnerOf(set) => asks(unit, question, schema.home(*set)),
         Form::CurrentOfType(rtype) | Form::NextDuplicate(rtype) | Form::Calc { rtype, .. } => {
-            ask(unit, question, schema.area_of(*rtype))
+            asks(unit, question, schema.area_of(*rtype))
         }
         Form::Sorted { set, .. } => {
-            ask(unit, question, schema.home(*set)) || ask_of_members(schema, unit, question, *set)
+            asks(unit, question, schema.home(*set)) || ask_of_members(schema, unit, question, *set)
         }
     }
 }
@@ -156,7 +154,7 @@ fn ask_of_find(schema: &Schema, unit: &Unit, question: &Question, form: &Form) -
 fn ask_if_in(unit: &Unit, question: &Question, areas: &AreaSet, area: AreaNo) -> bool
     ensures { result ≡ (marked areas.now area && asks unit.now.modes question.now area) }
 {
-    areas.contains(area) && ask(unit, question, area)
+    areas.contains(area) && asks(unit, question, area)
 }
 
 // About the areas in the set.
@@ -184,19 +182,19 @@ pub(crate) fn ask_of_areas(
     ensures { result ≡ list_any (asks unit.now.modes question.now) (areas_of schema.now unit.now statement.now) }
 {
     match statement {
-        Statement::OpenArea { area, .. } => ask(unit, question, *area),
-        Statement::CloseArea(area) => ask(unit, question, *area),
+        Statement::OpenArea { area, .. } => asks(unit, question, *area),
+        Statement::CloseArea(area) => asks(unit, question, *area),
         Statement::Find(form, _) => ask_of_find(schema, unit, question, form),
         Statement::Store { rtype, .. } => {
-            ask(unit, question, schema.area_of(*rtype))
+            asks(unit, question, schema.area_of(*rtype))
                 || ask_of_automatic(schema, unit, question, *rtype)
         }
         Statement::Insert(set) | Statement::Remove(set) => {
-            ask(unit, question, schema.home(*set))
+            asks(unit, question, schema.home(*set))
                 || ask_of_key(schema, unit, question, unit.currency.run_unit)
         }
         Statement::Modify { rtype, changes } => {
-            ask(unit, question, schema.area_of(*rtype))
+            asks(unit, question, schema.area_of(*rtype))
                 || ask_of_rekeyed(schema, unit, question, *rtype, changes.as_slice())
         }
         Statement::Delete(_) => {

@@ -103,7 +103,7 @@ fn is_opening_again(unit: &Unit, statement: &Statement) -> bool
     }
 }
 
-fn goes_on(which: Which) -> bool
+fn needs_position(which: Which) -> bool
     ensures { result ≡ needs_position which }
 {
     matches!(which, Which::Next | Which::Prior)
@@ -121,7 +121,7 @@ fn find_lacks_current(schema: &Schema, unit: &Unit, form: &Form) -> bool
             entry_at(unit.currency.areas.as_slice(), area.index() as usize).is_none()
         }
         Form::InArea { which, area, .. } => {
-            goes_on(*which)
+            needs_position(*which)
                 & entry_at(unit.currency.areas.as_slice(), area.index() as usize).is_none()
         }
         Form::InSet { set, .. } | Form::OwnerOf(set) | Form::Sorted { set, .. } => {
@@ -160,7 +160,7 @@ fn lacks_current(schema: &Schema, unit: &Unit, statement: &Statement) -> bool
     }
 }
 
-fn is_open(statement: &Statement) -> bool
+fn is_open_statement(statement: &Statement) -> bool
     ensures { result ≡ is_open_statement statement.now }
 {
     matches!(statement, Statement::OpenArea { .. })
@@ -229,7 +229,7 @@ pub fn refused_at_once(
     if lacks_current(schema, unit, statement) {
         return Some(Cause::NoSuchCurrent);
     }
-    if !is_open(statement) & ask_of_areas(schema, unit, &Question::NotOpen, statement) {
+    if !is_open_statement(statement) & ask_of_areas(schema, unit, &Question::NotOpen, statement) {
         return Some(Cause::AreaNotOpen);
     }
     if changes_records(statement) & ask_of_areas(schema, unit, &Question::NotUpdate, statement) {

@@ -33,7 +33,7 @@ fn is_number_of(value: u64, digits: u8) -> bool
     }
 }
 
-fn is_of_picture(value: &Value, picture: Picture) -> bool
+fn value_fits(value: &Value, picture: Picture) -> bool
     ensures { result ≡ value_fits picture value.now }
 {
     match picture {
@@ -60,7 +60,7 @@ fn are_of_items(values: &[Value], items: &[Item]) -> bool
     for (i, value) in values.iter().enumerate() {
         match items.get(i) {
             Some(item) => {
-                if !is_of_picture(value, item.picture) {
+                if !value_fits(value, item.picture) {
                     return false;
                 }
             }
@@ -88,7 +88,7 @@ fn are_of_numbers(schema: &Schema, rtype: RecordNo, items: &[ItemNo], values: &[
     for (i, value) in values.iter().enumerate() {
         match items.get(i) {
             Some(item) => {
-                if !is_of_picture(value, picture_or_none(schema, rtype, *item)) {
+                if !value_fits(value, picture_or_none(schema, rtype, *item)) {
                     return false;
                 }
             }
@@ -98,7 +98,7 @@ fn are_of_numbers(schema: &Schema, rtype: RecordNo, items: &[ItemNo], values: &[
     items.get(values.len()).is_none()
 }
 
-fn is_within(which: Which) -> bool
+fn which_fits(which: Which) -> bool
     ensures { result ≡ which_fits which }
 {
     match which {
@@ -107,7 +107,7 @@ fn is_within(which: Which) -> bool
     }
 }
 
-fn are_distinct(changes: &[Change]) -> bool
+fn distinct_items(changes: &[Change]) -> bool
     ensures { result ≡ distinct_items changes.now }
 {
     for (i, change) in changes.iter().enumerate() {
@@ -118,19 +118,19 @@ fn are_distinct(changes: &[Change]) -> bool
     true
 }
 
-fn has_type(schema: &Schema, rtype: RecordNo) -> bool
+fn is_type(schema: &Schema, rtype: RecordNo) -> bool
     ensures { result ≡ is_type schema.now rtype }
 {
     (rtype.index() as usize) < schema.types().len()
 }
 
-fn has_set(schema: &Schema, set: SetNo) -> bool
+fn is_set(schema: &Schema, set: SetNo) -> bool
     ensures { result ≡ is_set schema.now set }
 {
     (set.index() as usize) < schema.sets().len()
 }
 
-fn has_area(schema: &Schema, area: AreaNo) -> bool
+fn is_area(schema: &Schema, area: AreaNo) -> bool
     ensures { result ≡ is_area schema.now area }
 {
     (area.index() as usize) < schema.areas().len()
@@ -143,7 +143,7 @@ fn member_key_fits(schema: &Schema, member: &Member, value: &Value) -> bool
     match member.key {
         Some(item) => {
             match schema.picture_of(member.rtype, item) {
-                Some(picture) => is_of_picture(value, picture),
+                Some(picture) => value_fits(value, picture),
                 None => false,
             }
         }
@@ -176,7 +176,7 @@ fn change_fits(schema: &Schema, rtype: RecordNo, change: &Change) -> bool
     ensures { result ≡ change_fits schema.now rtype change.now }
 {
     match schema.picture_of(rtype, change.item) {
-        Some(picture) => is_of_picture(&change.value, picture),
+        Some(picture) => value_fits(&change.value, picture),
         None => false,
     }
 }
@@ -195,7 +195,7 @@ fn are_changes_of(schema: &Schema, rtype: RecordNo, changes: &[Change]) -> bool
 fn is_key_of(schema: &Schema, key: &DbKey) -> bool
     ensures { result ≡ form_fits schema.now (Form.Key key.now) }
 {
-    has_type(schema, key.rtype) & (0 < key.number) & (key.number <= 999_999) & (0 < key.generation)
+    is_type(schema, key.rtype) & (0 < key.number) & (key.number <= 999_999) & (0 < key.generation)
 }
 
 // Do these bits stand for sets of the schema alone?
@@ -220,7 +220,7 @@ fn is_in_area_or_none(schema: &Schema, area: AreaNo, rtype: Option<RecordNo>) ->
     ensures { result ≡ if_named (λ t. is_type schema.now t && area_of schema.now t == area) rtype }
 {
     match rtype {
-        Some(rtype) => { has_type(schema, rtype) && schema.area_of(rtype).index() == area.index() }
+        Some(rtype) => { is_type(schema, rtype) && schema.area_of(rtype).index() == area.index() }
         None => true,
     }
 }
@@ -242,18 +242,18 @@ impl Form {
         match self {
             Form::Key(key) => is_key_of(schema, key),
             Form::CurrentOfUnit => true,
-            Form::CurrentOfType(rtype) => has_type(schema, *rtype),
-            Form::CurrentOfSet(set) => has_set(schema, *set),
-            Form::CurrentOfArea(area) => has_area(schema, *area),
+            Form::CurrentOfType(rtype) => is_type(schema, *rtype),
+            Form::CurrentOfSet(set) => is_set(schema, *set),
+            Form::CurrentOfArea(area) => is_area(schema, *area),
             Form::InSet { which, rtype, set } => {
-                has_set(schema, *set) & is_within(*which) & is_member_or_none(schema, *set, *rtype)
+                is_set(schema, *set) & which_fits(*which) & is_member_or_none(schema, *set, *rtype)
             }
             Form::InArea { which, rtype, area } => {
-                has_area(schema, *area)
-                    & is_within(*which)
+                is_area(schema, *area)
+                    & which_fits(*which)
                     & is_in_area_or_none(schema, *area, *rtype)
             }
-            Form::OwnerOf(set) => has_set(schema, *set) & !schema.is_system(*set),
+            Form::OwnerOf(set) => is_set(schema, *set) & !schema.is_system(*set),
             Form::Calc { rtype, values } => are_calc_values(schema, *rtype, values.as_slice()),
             Form::NextDuplicate(rtype) => schema.calc_of(*rtype).is_some(),
             Form::Sorted { value, set } => key_fits(schema, *set, value),
@@ -267,12 +267,12 @@ impl Statement {
         ensures { result ≡ fits schema.now self.now }
     {
         match self {
-            Statement::OpenArea { area, .. } => has_area(schema, *area),
-            Statement::CloseArea(area) => has_area(schema, *area),
+            Statement::OpenArea { area, .. } => is_area(schema, *area),
+            Statement::CloseArea(area) => is_area(schema, *area),
             Statement::Find(form, suppress) => form.fits(schema) & suppress_fits(schema, suppress),
             Statement::Get(rtype) => {
                 match rtype {
-                    Some(rtype) => has_type(schema, *rtype),
+                    Some(rtype) => is_type(schema, *rtype),
                     None => true,
                 }
             }
@@ -281,14 +281,14 @@ impl Statement {
                 items,
                 suppress,
             } => {
-                has_type(schema, *rtype)
+                is_type(schema, *rtype)
                     & are_of_items(items.as_slice(), schema.items(*rtype))
                     & suppress_fits(schema, suppress)
             }
-            Statement::Insert(set) | Statement::Remove(set) => has_set(schema, *set),
+            Statement::Insert(set) | Statement::Remove(set) => is_set(schema, *set),
             Statement::Modify { rtype, changes } => {
-                has_type(schema, *rtype)
-                    & are_distinct(changes.as_slice())
+                is_type(schema, *rtype)
+                    & distinct_items(changes.as_slice())
                     & are_changes_of(schema, *rtype, changes.as_slice())
             }
             Statement::Delete(_) | Statement::Keep | Statement::Free { .. } => true,

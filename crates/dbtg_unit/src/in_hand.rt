@@ -8,7 +8,7 @@ ghost use Rattle.dbtg_unit.specs.Hands.Making.{HaveNextVersions};
 
 use crate::held::Held;
 use crate::unit::{Cause, Unit};
-use dbtg_cells::{Cell, CellName, DbKey, Extent, Owner, Ring, Stored, Usage, same_owner};
+use dbtg_cells::{Cell, CellName, DbKey, Extent, Owner, Ring, Stored, Usage, owner_eq};
 use dbtg_schema::{AreaNo, RecordNo, SetNo};
 
 /// The name of an owner's ring in a set.
@@ -53,7 +53,7 @@ pub fn next_version(held: &Held, key: &DbKey) -> u64
 }
 
 /// The owner of a record in a set, from its slot, which is held.
-pub fn owner_of(held: &Held, set: SetNo, key: &DbKey) -> Option<Owner>
+pub fn owner_in(held: &Held, set: SetNo, key: &DbKey) -> Option<Owner>
     ensures { result ≡ owner_in held.now set key.now }
 {
     match stored(held, key) {
@@ -83,7 +83,7 @@ pub fn occurrence<'a>(held: &'a Held, set: SetNo, owner: &Owner) -> Option<&'a R
     match held.cell(&ring_name(set, owner)) {
         Some(Cell::Ring(ring)) => match ring.owner() {
             Some(own) => {
-                if same_owner(own, *owner) {
+                if owner_eq(own, *owner) {
                     Some(ring)
                 } else {
                     None

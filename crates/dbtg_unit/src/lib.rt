@@ -42,7 +42,7 @@ pub use erased::Erased;
 pub use held::{Held, Need};
 pub use image::Image;
 pub use in_hand::{
-    next_version, numbers, occurrence, own_refusal, owner_of, owners_of, ring_name, stored, usage,
+    next_version, numbers, occurrence, own_refusal, owner_in, owners_of, ring_name, stored, usage,
 };
 pub use kept::Kept;
 pub use laws::{
@@ -57,7 +57,7 @@ pub use legality::{
 pub use limits::{LAST_UNIT, MOST_STATEMENTS};
 pub use moves::{Move, Stepped};
 pub use order::{has_area, next_area};
-pub use owners::{Owners, with_true_owners};
+pub use owners::{Owners, with_owners};
 pub use prepared::{Prepared, edit_cells, edit_held, finish, refused};
 pub use reserving::{reserve_member, reserve_user};
 pub use statement::{Change, Erase, Form, Statement, Suppress, Which};

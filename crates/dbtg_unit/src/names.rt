@@ -9,7 +9,7 @@ ghost use Rattle.indexmap.specs.IndexMap.{get};
 ghost use Rattle.dbtg_cells.specs.Names.{name_eq};
 ghost use Rattle.dbtg_unit.specs.Inside.HeldNames.{AreNumbered, IsIndexOf, entered, first_count, key_eq, left, name_key, up_to};
 
-use dbtg_cells::{CellName, Layout, same_name};
+use dbtg_cells::{CellName, Layout, name_eq};
 use indexmap::IndexMap;
 use std::alloc::AllocError;
 
@@ -54,7 +54,7 @@ pub(crate) struct NameKey {
     number: u32,
 }
 
-fn key_of(name: &CellName) -> NameKey
+fn name_key(name: &CellName) -> NameKey
     ensures { result ≡ name_key name.now }
 {
     let (kind, of, owner, number) = match name {
@@ -76,7 +76,7 @@ fn find_name(names: &[CellName], name: &CellName) -> Option<usize>
     ensures { result ≡ position_from (name_eq name.now) 0 names.now }
 {
     for (i, held) in names.iter().enumerate() {
-        if same_name(*name, *held) {
+        if name_eq(*name, *held) {
             return Some(i);
         }
     }
@@ -101,7 +101,7 @@ fn find_indexed(
     if names.len() <= 8 {
         return find_name(names, name);
     }
-    match find_key(index, &key_of(name)) {
+    match find_key(index, &name_key(name)) {
         Some(at) => Some(at),
         None => find_name(&names[..8], name),
     }
@@ -111,7 +111,7 @@ fn stands_at(names: &[CellName], at: usize, name: &CellName) -> bool
     ensures { result ≡ option_map_or (name_eq name.now) (slice_get names.now at) false }
 {
     match names.get(at) {
-        Some(held) => same_name(*name, *held),
+        Some(held) => name_eq(*name, *held),
         None => false,
     }
 }
@@ -134,7 +134,7 @@ pub(crate) fn find_place(
             if at < *count && stands_at(names, at, name) {
                 return Some(at);
             }
-            find_key(index, &key_of(name))
+            find_key(index, &name_key(name))
         }
     }
 }
@@ -153,7 +153,7 @@ pub(crate) fn enter(
     if place < first {
         return Ok(());
     }
-    index.insert(key_of(name), place)?;
+    index.insert(name_key(name), place)?;
     Ok(())
 }
 
@@ -169,7 +169,7 @@ pub(crate) fn leave(
     if place < first {
         return;
     }
-    let key = key_of(name);
+    let key = name_key(name);
     if let Some(at) = find_key(index, &key) {
         if at == place {
             let _ = index.swap_remove(&key);

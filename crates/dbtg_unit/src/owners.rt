@@ -71,7 +71,7 @@ impl Owners {
 }
 
 /// These guesses with the true owners: where there is a true owner it becomes the guess, elsewhere the guess stays.
-pub fn with_true_owners(guesses: &[Option<Owner>], mut owners: Owners) -> Owners
+pub fn with_owners(guesses: &[Option<Owner>], mut owners: Owners) -> Owners
     requires { length guesses.now ≡ length owners }
     ensures { result ≡ with_owners guesses.now owners }
 {

@@ -7,7 +7,7 @@ use crate::unit::{Place, Unit};
 use dbtg_cells::{DbKey, Owner};
 use dbtg_schema::{Schema, SetNo};
 
-fn owner_key(owner: Owner) -> Option<DbKey>
+fn key_of_owner(owner: Owner) -> Option<DbKey>
     ensures { result ≡ key_of_owner owner }
 {
     match owner {
@@ -23,7 +23,7 @@ impl Place {
     {
         match self.at {
             Some(key) => Some(key),
-            None => owner_key(self.owner),
+            None => key_of_owner(self.owner),
         }
     }
 }

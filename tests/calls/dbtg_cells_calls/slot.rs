@@ -6,7 +6,7 @@ use super::*;
 fn holds(rt: &HostRuntime, slot: &Slot, number: u64) -> Result<bool, AllocError> {
     let wanted = row(rt, number)?;
     match slot.record() {
-        Some(record) => Ok(same_values(
+        Some(record) => Ok(values_eq(
             copy_items(&record.items, rt.alloc())?.as_slice(),
             wanted.as_slice(),
         )),

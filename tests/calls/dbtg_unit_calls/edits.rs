@@ -10,7 +10,7 @@ use std::test::*;
 
 fn mode_in(cell: &Cell) -> Option<Mode> {
     match cell {
-        Cell::Usage(usage) => usage.mode_of(3),
+        Cell::Usage(usage) => usage.mode_in(3),
         _ => None,
     }
 }

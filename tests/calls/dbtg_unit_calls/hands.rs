@@ -51,7 +51,7 @@ fn enters(rt: &impl Abort, held: &mut Held, area: u8) -> bool {
 
 fn mode_in(held: &Held, area: u8) -> Option<Mode> {
     match held.cell(&CellName::Usage(AreaNo::new(area))) {
-        Some(Cell::Usage(usage)) => usage.mode_of(3),
+        Some(Cell::Usage(usage)) => usage.mode_in(3),
         _ => None,
     }
 }

@@ -19,10 +19,10 @@ use Rattle.dbtg_unit.specs.declared.unit.Unit.{Unit}
 use Rattle.dbtg_unit.specs.Database.State.Base.{Database, items_of}
 use Rattle.dbtg_unit.specs.Database.State.Units.{forgotten, noted, seen}
 use Rattle.dbtg_unit.specs.Database.Statements.Checks.{checks_on_cells, refused_at_once}
-use Rattle.dbtg_unit.specs.Database.Statements.Effect.{Outcome, deleted, done, done_on_cells, done_on_current, effect, effect_on_cells, finding, inserted, modified, refused, removed, unless_refused, version_of}
+use Rattle.dbtg_unit.specs.Database.Statements.Effect.{StatementEffect, deleted, done, done_on_cells, done_on_current, effect, effect_on_cells, finding, inserted, modified, refused, removed, unless_refused, version_of}
 use Rattle.dbtg_unit.specs.Database.Statements.Found.{found}
-use Rattle.dbtg_unit.specs.Database.Statements.View.{whole}
-use Rattle.dbtg_unit.specs.Database.Laws.Replay.{State, after, after_outcome, answers, outcome_of, unit_of}
+use Rattle.dbtg_unit.specs.Database.Statements.StoredFacts.{whole}
+use Rattle.dbtg_unit.specs.Database.Laws.Replay.{State, after, after_effect, answers, effect_of_unit, unit_of}
 use Rattle.dbtg_outcomes.specs.Alike.{GoOnAlike, unordered, uses_of}
 use Rattle.dbtg_unit.proofs.Public.{In, any_element, any_in, in_filter, of_filter}
 
@@ -59,7 +59,7 @@ swapped p q (x ∷ xs) = by (swapped p q xs) (p x) (q x) refl refl where
 -- ONE STATEMENT
 
 -- outcomes that are one but for the order of users
-record Alike (o p : Outcome) : Type 0 where
+record Alike (o p : StatementEffect) : Type 0 where
   answer : o.answer ≡ p.answer
   unit_is : o.unit ≡ p.unit
   records : o.database.records ≡ p.database.records
@@ -75,11 +75,11 @@ module _ (db : Database) (unit : Unit) (usage : ℕ → List (ℕ × Mode)) (sam
   refused_alike : (cause : Cause) → Alike (refused db unit cause) (refused eb unit cause)
   refused_alike cause = record { answer = refl; unit_is = refl; records = refl; lists = refl; last = refl; uses = same }
 
-  unless : (check : Option Cause) (o p : Outcome) → Alike o p → Alike (unless_refused db unit check o) (unless_refused eb unit check p)
+  unless : (check : Option Cause) (o p : StatementEffect) → Alike o p → Alike (unless_refused db unit check o) (unless_refused eb unit check p)
   unless None o p h = h
   unless (Some cause) o p h = refused_alike cause
 
-  on_current : (current : Option DbKey) (o p : DbKey → Outcome) → ((k : DbKey) → Alike (o k) (p k)) → Alike (done_on_current db unit current o) (done_on_current eb unit current p)
+  on_current : (current : Option DbKey) (o p : DbKey → StatementEffect) → ((k : DbKey) → Alike (o k) (p k)) → Alike (done_on_current db unit current o) (done_on_current eb unit current p)
   on_current None o p h = refused_alike _
   on_current (Some k) o p h = h k
 
@@ -153,8 +153,8 @@ module _ (db : Database) (unit : Unit) (usage : ℕ → List (ℕ × Mode)) (sam
 module _ (schema : Lists) (capacity : ℕ) where
   -- the answer, and the state after it
   pub record StepsAlike (one other : State) (u : ℕ) (s : Statement) : Type 0 where
-    pub answer : option_map (λ o. o.answer) (outcome_of schema capacity one u s) ≡ option_map (λ o. o.answer) (outcome_of schema capacity other u s)
-    pub alike : unordered (after_outcome one u (outcome_of schema capacity one u s)) ≡ unordered (after_outcome other u (outcome_of schema capacity other u s))
+    pub answer : option_map (λ o. o.answer) (effect_of_unit schema capacity one u s) ≡ option_map (λ o. o.answer) (effect_of_unit schema capacity other u s)
+    pub alike : unordered (after_effect one u (effect_of_unit schema capacity one u s)) ≡ unordered (after_effect other u (effect_of_unit schema capacity other u s))
 
   -- the state with these users
   abbrev with_usage : State → (ℕ → List (ℕ × Mode)) → State
@@ -163,7 +163,7 @@ module _ (schema : Lists) (capacity : ℕ) where
   unordered_same : (one : State) (usage : ℕ → List (ℕ × Mode)) → ((a : ℕ) → SameUsers (one.database.usage a) (usage a)) → unordered one ≡ unordered (with_usage one usage)
   unordered_same one usage same = λ i. record { records = one.database.records; lists = one.database.lists; last = one.database.last; uses = λ a u. same a u i; units = one.units }
 
-  after_alike : (one : State) (usage : ℕ → List (ℕ × Mode)) (u : ℕ) (o p : Outcome) → Alike o p → unordered (after one u o) ≡ unordered (after (with_usage one usage) u p)
+  after_alike : (one : State) (usage : ℕ → List (ℕ × Mode)) (u : ℕ) (o p : StatementEffect) → Alike o p → unordered (after one u o) ≡ unordered (after (with_usage one usage) u p)
   after_alike one usage u o p h =
       λ i. record { records = h.records i; lists = h.lists i; last = h.last i; uses = λ a v. h.uses a v i; units = slice_set one.units (u - 1) (h.unit_is i) }
 
@@ -185,5 +185,5 @@ module _ (schema : Lists) (capacity : ℕ) where
   go_on_alike one other [] e = record { answers_are = refl; alike = e }
   go_on_alike one other (s ∷ statements) e =
       let step = steps_alike one other s.0 s.1 e in
-      let rest = go_on_alike (after_outcome one s.0 (outcome_of schema capacity one s.0 s.1)) (after_outcome other s.0 (outcome_of schema capacity other s.0 s.1)) statements step.alike in
+      let rest = go_on_alike (after_effect one s.0 (effect_of_unit schema capacity one s.0 s.1)) (after_effect other s.0 (effect_of_unit schema capacity other s.0 s.1)) statements step.alike in
       record { answers_are = λ i. step.answer i ∷ rest.answers_are i; alike = rest.alike }

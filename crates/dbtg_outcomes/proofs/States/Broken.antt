@@ -9,7 +9,7 @@ use Rattle.std.proofs.lemmas.List.Elements.{Contains-push_cases}
 use Rattle.dbtg_unit.specs.declared.statement.Statement.{Statement}
 use Rattle.dbtg_unit.specs.declared.unit.Entry.{Entry}
 use Rattle.dbtg_unit.specs.Database.Statements.Codes.{status_code}
-use Rattle.dbtg_unit.specs.Database.Statements.Effect.{Outcome}
+use Rattle.dbtg_unit.specs.Database.Statements.Effect.{StatementEffect}
 use Rattle.dbtg_unit.specs.Database.Laws.Replaying.{statements_of}
 use Rattle.dbtg_unit.proofs.Public.{In, in_range, in_right, of_map}
 use Rattle.dbtg_step.specs.Machine.SequentialDatabase.{unit_at}
@@ -43,7 +43,7 @@ module _ (m : Meeting) (w : Wish) where
       let there = subst (λ (y : Statement). HasStatus m o w.unit y code) same h in
       let outcomes : Some there.outcome ≡ Some b.status.outcome = sym there.outcome_is ∙ b.status.outcome_is in
       let one : there.outcome ≡ b.status.outcome = cc in
-      let codes : code ≡ b.code = there.code_is ∙ ap (λ (z : Outcome). status_code b.statement z.answer.status) one ∙ sym b.status.code_is in
+      let codes : code ≡ b.code = there.code_is ∙ ap (λ (z : StatementEffect). status_code b.statement z.answer.status) one ∙ sym b.status.code_is in
       ap (breaks w) codes ∙ b.breaks_is
 
   -- so the status that is found decides

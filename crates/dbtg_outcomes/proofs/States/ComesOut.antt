@@ -11,9 +11,9 @@ use Rattle.dbtg_unit.specs.declared.statement.Statement.{Statement}
 use Rattle.dbtg_unit.specs.declared.unit.Answer.{Answer}
 use Rattle.dbtg_unit.specs.declared.unit.Entry.{Entry}
 use Rattle.dbtg_unit.specs.Database.Statements.Codes.{status_code}
-use Rattle.dbtg_unit.specs.Database.Statements.Effect.{Outcome}
+use Rattle.dbtg_unit.specs.Database.Statements.Effect.{StatementEffect}
 use Rattle.dbtg_unit.specs.Database.State.Image.{image_of}
-use Rattle.dbtg_unit.specs.Database.Laws.Replay.{AnswersHold, State, after_entry, entries_of, opening_state, outcome_of, replay, state_after}
+use Rattle.dbtg_unit.specs.Database.Laws.Replay.{AnswersHold, State, after_entry, entries_of, opening_state, effect_of_unit, replay, state_after}
 use Rattle.dbtg_unit.specs.Database.Laws.Replaying.{statements_of}
 use Rattle.dbtg_unit.proofs.Public.{In, of_map, opening_is_legal, opening_length, statements_determine}
 use Rattle.dbtg_step.specs.declared.results.Run.{Run}
@@ -72,17 +72,17 @@ module _ (schema : Lists) (capacity : ℕ) (scripts : List (List Statement)) (so
 module _ (schema : Lists) (capacity : ℕ) where
   -- the outcome of an entry in a history
   record HasOutcome (state : State) (e : Entry) : Type 0 where
-    outcome : Outcome
-    outcome_is : outcome_of schema capacity state e.unit e.statement ≡ Some outcome
+    outcome : StatementEffect
+    outcome_is : effect_of_unit schema capacity state e.unit e.statement ≡ Some outcome
     answer_is : outcome.answer ≡ e.answer
 
-  some_outcome : (state : State) (e : Entry) (o : Option Outcome) → outcome_of schema capacity state e.unit e.statement ≡ o → option_map (λ (o : Outcome). o.answer) o ≡ Some e.answer → HasOutcome state e
+  some_outcome : (state : State) (e : Entry) (o : Option StatementEffect) → effect_of_unit schema capacity state e.unit e.statement ≡ o → option_map (λ (o : StatementEffect). o.answer) o ≡ Some e.answer → HasOutcome state e
   some_outcome state e None f h = absurd (cc)
   some_outcome state e (Some o) f h = let same : o.answer ≡ e.answer = cc in record { outcome = o; outcome_is = f; answer_is = same }
 
   outcome_at : (state : State) (before : List Entry) (e : Entry) (rest : List Entry) → AnswersHold schema capacity state (before ++ e ∷ rest) → HasOutcome (state_after schema capacity state (statements_of before)) e
   unfolding AnswersHold
-  outcome_at state [] e rest h = some_outcome state e (outcome_of schema capacity state e.unit e.statement) refl h.0
+  outcome_at state [] e rest h = some_outcome state e (effect_of_unit schema capacity state e.unit e.statement) refl h.0
   outcome_at state (b ∷ before) e rest h = outcome_at (after_entry schema capacity state b) before e rest h.1
 
 -- RESULTS

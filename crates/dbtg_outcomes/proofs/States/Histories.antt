@@ -8,9 +8,9 @@ use Rattle.dbtg_script.specs.Printing.Texts.{answers_text}
 use Rattle.dbtg_unit.specs.declared.statement.Statement.{Statement}
 use Rattle.dbtg_unit.specs.declared.unit.Answer.{Answer}
 use Rattle.dbtg_unit.specs.declared.unit.Entry.{Entry}
-use Rattle.dbtg_unit.specs.Database.Statements.Effect.{Outcome}
+use Rattle.dbtg_unit.specs.Database.Statements.Effect.{StatementEffect}
 use Rattle.dbtg_unit.specs.Database.Statements.Fits.{fits}
-use Rattle.dbtg_unit.specs.Database.Laws.Replay.{AnswersHold, IsHistoryOf, State, after_entry, after_outcome, entries_of, opening_state, outcome_of}
+use Rattle.dbtg_unit.specs.Database.Laws.Replay.{AnswersHold, IsHistoryOf, State, after_entry, after_effect, entries_of, opening_state, effect_of_unit}
 use Rattle.dbtg_unit.specs.Database.Laws.Replaying.{statements_of}
 use Rattle.dbtg_unit.proofs.Public.{all_at, element_at, opening_length}
 use Rattle.dbtg_step.proofs.Public.{unit_is_there}
@@ -41,7 +41,7 @@ entries_untimed u (e ∷ es) =
     ]
 
 module _ (schema : Lists) (capacity : ℕ) where
-  entry_is : (e : Entry) (outcome : Option Outcome) → option_map (λ (o : Outcome). o.answer) outcome ≡ Some e.answer → option_to_list (option_map (λ (o : Outcome). record { ticket = 0; unit = e.unit; statement = e.statement; answer = o.answer }) outcome) ≡ untimed e ∷ []
+  entry_is : (e : Entry) (outcome : Option StatementEffect) → option_map (λ (o : StatementEffect). o.answer) outcome ≡ Some e.answer → option_to_list (option_map (λ (o : StatementEffect). record { ticket = 0; unit = e.unit; statement = e.statement; answer = o.answer }) outcome) ≡ untimed e ∷ []
   entry_is e None h = absurd (cc)
   entry_is e (Some o) h = let same : o.answer ≡ e.answer = cc in λ i. record { ticket = 0; unit = e.unit; statement = e.statement; answer = same i } ∷ []
 
@@ -49,7 +49,7 @@ module _ (schema : Lists) (capacity : ℕ) where
   unfolding AnswersHold
   entries_are state [] h = refl
   entries_are state (e ∷ es) h =
-      λ i. entry_is e (outcome_of schema capacity state e.unit e.statement) h.0 i ++ entries_are (after_entry schema capacity state e) es h.1 i
+      λ i. entry_is e (effect_of_unit schema capacity state e.unit e.statement) h.0 i ++ entries_are (after_entry schema capacity state e) es h.1 i
 
   -- UNITS
 
@@ -58,7 +58,7 @@ module _ (schema : Lists) (capacity : ℕ) where
   set_length (y ∷ ys) zero x = refl
   set_length (y ∷ ys) (suc n) x = ap suc (set_length ys n x)
 
-  pub as_many : (state : State) (number : ℕ) (o : Option Outcome) → length (after_outcome state number o).units ≡ length state.units
+  pub as_many : (state : State) (number : ℕ) (o : Option StatementEffect) → length (after_effect state number o).units ≡ length state.units
   as_many state number None = refl
   as_many state number (Some o) = set_length state.units (number - 1) o.unit
 
@@ -70,7 +70,7 @@ module _ (schema : Lists) (capacity : ℕ) where
       subst (λ (d : Entry). (0 < d.unit) × (d.unit ≤ length state.units)) same (unit_is_there schema capacity state f h.0)
   units_within state (f ∷ es) (suc i) e h g =
       let rest = units_within (after_entry schema capacity state f) es i e h.1 g in
-      let many = as_many state f.unit (outcome_of schema capacity state f.unit f.statement) in
+      let many = as_many state f.unit (effect_of_unit schema capacity state f.unit f.statement) in
       let high = rest.1 in
       (rest.0, omega arith)
 

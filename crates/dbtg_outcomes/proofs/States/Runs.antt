@@ -7,7 +7,7 @@ use Rattle.dbtg_unit.specs.declared.statement.Statement.{Statement}
 use Rattle.dbtg_unit.specs.declared.unit.Entry.{Entry}
 use Rattle.dbtg_unit.specs.Database.Statements.Codes.{status_code}
 use Rattle.dbtg_unit.specs.Database.State.Image.{image_of}
-use Rattle.dbtg_unit.specs.Database.Laws.Replay.{IsHistoryOf, State, after_outcome, opening_state, outcome_of, replay, state_after}
+use Rattle.dbtg_unit.specs.Database.Laws.Replay.{IsHistoryOf, State, after_effect, opening_state, effect_of_unit, replay, state_after}
 use Rattle.dbtg_unit.specs.Database.Laws.Replaying.{statements_of}
 use Rattle.dbtg_unit.proofs.Public.{opening_length, statements_determine}
 use Rattle.dbtg_step.specs.declared.results.Run.{Run}
@@ -54,13 +54,13 @@ module _ (m : Meeting) where
       let is : entry ≡ last = e ∙ ap (λ (k : Making). get_or k.history (length old.history) entry) g.new_is ∙ get_or-append_seam old.history last [] entry in
       record {
         outcome = g.outcome;
-        outcome_is = sym (λ i. outcome_of (h.same i).schema (h.same i).capacity (run_state_is o old h i) u x) ∙ g.outcome_is;
+        outcome_is = sym (λ i. effect_of_unit (h.same i).schema (h.same i).capacity (run_state_is o old h i) u x) ∙ g.outcome_is;
         code_is = ap (λ (k : Entry). status_code k.statement k.answer.status) is;
       }
 
   units_after : (state : State) (o : List (ℕ × Statement)) → length (state_after m.schema m.capacity state o).units ≡ length state.units
   units_after state [] = refl
-  units_after state (s ∷ o) = units_after (after_outcome state s.0 (outcome_of m.schema m.capacity state s.0 s.1)) o ∙ as_many m.schema m.capacity state s.0 (outcome_of m.schema m.capacity state s.0 s.1)
+  units_after state (s ∷ o) = units_after (after_effect state s.0 (effect_of_unit m.schema m.capacity state s.0 s.1)) o ∙ as_many m.schema m.capacity state s.0 (effect_of_unit m.schema m.capacity state s.0 s.1)
 
   pub units_after_order : (o : List (ℕ × Statement)) → length (state_of m o).units ≡ length m.scripts
   units_after_order o = units_after (opening_state m.schema (length m.scripts)) o ∙ opening_length m.schema (length m.scripts)

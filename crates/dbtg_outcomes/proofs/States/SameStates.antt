@@ -11,8 +11,8 @@ use Rattle.dbtg_unit.specs.declared.unit.Entry.{Entry}
 use Rattle.dbtg_unit.specs.Database.State.Image.{Image, image_of}
 use Rattle.dbtg_unit.specs.declared.unit.Answer.{Answer}
 use Rattle.dbtg_unit.specs.Database.Statements.Codes.{status_code}
-use Rattle.dbtg_unit.specs.Database.Statements.Effect.{Outcome}
-use Rattle.dbtg_unit.specs.Database.Laws.Replay.{State, after_outcome, entries_of, opening_state, outcome_of, state_after}
+use Rattle.dbtg_unit.specs.Database.Statements.Effect.{StatementEffect}
+use Rattle.dbtg_unit.specs.Database.Laws.Replay.{State, after_effect, entries_of, opening_state, effect_of_unit, state_after}
 use Rattle.dbtg_unit.specs.Database.Laws.StaysLegal.{IsLegalState}
 use Rattle.dbtg_unit.proofs.Public.{In, map_agrees}
 use Rattle.dbtg_step.specs.Machine.SequentialDatabase.{unit_at}
@@ -32,12 +32,12 @@ use Rattle.dbtg_outcomes.proofs.Orders.Begun.{made_more}
 module _ (m : Meeting) where
   state_more : (state : State) (o : List (ℕ × Statement)) (s : ℕ × Statement) → state_after m.schema m.capacity state (o ++ s ∷ []) ≡ state_after m.schema m.capacity (state_after m.schema m.capacity state o) (s ∷ [])
   state_more state [] s = refl
-  state_more state (t ∷ o) s = state_more (after_outcome state t.0 (outcome_of m.schema m.capacity state t.0 t.1)) o s
+  state_more state (t ∷ o) s = state_more (after_effect state t.0 (effect_of_unit m.schema m.capacity state t.0 t.1)) o s
 
   entries_more : (state : State) (o : List (ℕ × Statement)) (s : ℕ × Statement) → entries_in m.schema m.capacity state (o ++ s ∷ []) ≡ entries_in m.schema m.capacity state o ++ entry_in m.schema m.capacity (state_after m.schema m.capacity state o) s
   entries_more state [] s = append-nil _
   entries_more state (t ∷ o) s =
-      ap (λ l. entry_in m.schema m.capacity state t ++ l) (entries_more (after_outcome state t.0 (outcome_of m.schema m.capacity state t.0 t.1)) o s)
+      ap (λ l. entry_in m.schema m.capacity state t ++ l) (entries_more (after_effect state t.0 (effect_of_unit m.schema m.capacity state t.0 t.1)) o s)
       ∙ sym (append_assoc (entry_in m.schema m.capacity state t) _ _)
 
   answers_more : (u : ℕ) (o : List (ℕ × Statement)) (s : ℕ × Statement) → unit_answers m (o ++ s ∷ []) u ≡ unit_answers m o u ++ answers_text m.schema (entries_of u (entry_in m.schema m.capacity (state_of m o) s))
@@ -69,20 +69,20 @@ module _ (m : Meeting) where
   abbrev entry_with : ℕ × Statement → Option Answer → List Entry
   entry_with s a = option_to_list (option_map (entry_of s) a)
 
-  entry_by : (s : ℕ × Statement) (q : Option Outcome) → option_to_list (option_map (λ (o : Outcome). entry_of s o.answer) q) ≡ entry_with s (option_map (λ (o : Outcome). o.answer) q)
+  entry_by : (s : ℕ × Statement) (q : Option StatementEffect) → option_to_list (option_map (λ (o : StatementEffect). entry_of s o.answer) q) ≡ entry_with s (option_map (λ (o : StatementEffect). o.answer) q)
   entry_by s None = refl
   entry_by s (Some o) = refl
 
   entry_same : (o p : List (ℕ × Statement)) (s : ℕ × Statement) → SameState o p → entry_in m.schema m.capacity (state_of m o) s ≡ entry_in m.schema m.capacity (state_of m p) s
-  entry_same o p s h = entry_by s (outcome_of m.schema m.capacity (state_of m o) s.0 s.1) ∙ ap (entry_with s) (next_alike o p s h).answer ∙ sym (entry_by s (outcome_of m.schema m.capacity (state_of m p) s.0 s.1))
+  entry_same o p s h = entry_by s (effect_of_unit m.schema m.capacity (state_of m o) s.0 s.1) ∙ ap (entry_with s) (next_alike o p s h).answer ∙ sym (entry_by s (effect_of_unit m.schema m.capacity (state_of m p) s.0 s.1))
 
-  answered : (a : Answer) (q : Option Outcome) → option_map (λ (o : Outcome). o.answer) q ≡ Some a → (o : Outcome) × (q ≡ Some o) × (o.answer ≡ a)
+  answered : (a : Answer) (q : Option StatementEffect) → option_map (λ (o : StatementEffect). o.answer) q ≡ Some a → (o : StatementEffect) × (q ≡ Some o) × (o.answer ≡ a)
   answered a None e = absurd cc
   answered a (Some o) e = (o, refl, cc)
 
   pub status_same : (o p : List (ℕ × Statement)) (u : ℕ) (x : Statement) (code : ℕ) → SameState o p → HasStatus m o u x code → HasStatus m p u x code
   status_same o p u x code h has =
-      let there = answered has.outcome.answer (outcome_of m.schema m.capacity (state_of m p) u x) (sym (next_alike o p (u, x) h).answer ∙ ap (option_map (λ (o : Outcome). o.answer)) has.outcome_is) in
+      let there = answered has.outcome.answer (effect_of_unit m.schema m.capacity (state_of m p) u x) (sym (next_alike o p (u, x) h).answer ∙ ap (option_map (λ (o : StatementEffect). o.answer)) has.outcome_is) in
       record { outcome = there.0; outcome_is = there.1; code_is = has.code_is ∙ ap (λ (a : Answer). status_code x a.status) (sym there.2) }
 
   more_same : (o p : List (ℕ × Statement)) (s : ℕ × Statement) → SameState o p → SameState (o ++ s ∷ []) (p ++ s ∷ [])

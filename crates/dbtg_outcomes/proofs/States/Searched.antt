@@ -9,7 +9,7 @@ use Rattle.std.specs.List.{AllByRecursion}
 use Rattle.std.proofs.lemmas.Bool.{cases_lt}
 use Rattle.dbtg_unit.specs.declared.statement.Statement.{Statement}
 use Rattle.dbtg_unit.specs.Database.Statements.Codes.{status_code}
-use Rattle.dbtg_unit.specs.Database.Statements.Effect.{Outcome}
+use Rattle.dbtg_unit.specs.Database.Statements.Effect.{StatementEffect}
 use Rattle.dbtg_unit.specs.declared.unit.Entry.{Entry}
 use Rattle.dbtg_unit.specs.Database.Laws.Replay.{IsHistoryOf}
 use Rattle.dbtg_unit.specs.Database.Laws.Replaying.{statements_of}
@@ -324,5 +324,5 @@ module _ (m : Meeting) where
     is_note {code} comes has =
         let outcomes : Some has.is.status.outcome ≡ Some comes.status.outcome = sym has.is.status.outcome_is ∙ comes.status.outcome_is in
         let same : has.is.status.outcome ≡ comes.status.outcome = cc in
-        let status : has.note.status ≡ code = has.is.status.code_is ∙ ap (λ (o : Outcome). status_code comes.statement o.answer.status) same ∙ sym comes.status.code_is in
+        let status : has.note.status ≡ code = has.is.status.code_is ∙ ap (λ (o : StatementEffect). status_code comes.statement o.answer.status) same ∙ sym comes.status.code_is in
         λ i. record { unit = has.is.unit_is i; place = (has.is.place_is ∙ comes.place_is) i; status = status i }

@@ -31,7 +31,7 @@ use Rattle.dbtg_unit.specs.Database.State.Base.{Database, Record, is_live, items
 use Rattle.dbtg_unit.specs.Hands.CanEdit.{CanPlace}
 use Rattle.dbtg_unit.specs.Database.State.CellNames.{place_of, slot_name}
 use Rattle.dbtg_unit.specs.Hands.EditsOf.{placed_at}
-use Rattle.dbtg_unit.specs.Database.Statements.Effect.{Outcome, connected_in, effect, insert_checks, inserted, next_version, place_checks, raised, version_of}
+use Rattle.dbtg_unit.specs.Database.Statements.Effect.{StatementEffect, connected_in, effect, insert_checks, inserted, next_version, place_checks, raised, version_of}
 use Rattle.dbtg_unit.specs.Database.Statements.Fits.{values_fit}
 use Rattle.dbtg_unit.specs.Hands.Guesses.{guesses_after, noted_guesses}
 use Rattle.dbtg_unit.specs.Hands.Hands.{Hands}
@@ -45,7 +45,7 @@ use Rattle.dbtg_unit.specs.Inside.Prepared.{unless_refusal}
 use Rattle.dbtg_unit.specs.Hands.Reserving.{CanTakeMember, OfHeld}
 use Rattle.dbtg_unit.specs.Database.State.Units.{place_in}
 use Rattle.dbtg_unit.proofs.Public.{In, MayPlan, agrees_same, can_make_raised, holds_same, in_left, in_range, in_right, insert_checks_agree, items_in_hand, legal_after, live_in_hand, may_plan, member_connected, member_nowhere, member_owner_found, members_in_hand, occurrence_in_same, owner_in_hand, owner_leaves_version, passes_check, passes_without_cells, prepared_has_all, same_occurrence, same_record, same_sym, some_from_not_none, version_in_hand, versions_same}
-use Rattle.dbtg_unit.specs.Database.Statements.View.{View, whole}
+use Rattle.dbtg_unit.specs.Database.Statements.StoredFacts.{StoredFacts, whole}
 use Rattle.dbtg_unit.specs.Hands.PlanOf.{inserting, planned_on_current, joining_edit}
 use Rattle.dbtg_unit.specs.Inside.PlanOf.{plan_of}
 use Rattle.dbtg_plan.proofs.Plans.EffectIsPlan.{current_plan_is_effect, effect_in_hand, planned_cells}
@@ -57,7 +57,7 @@ use Rattle.dbtg_plan.proofs.Plans.IsEffect.{done_is_effect, noted_renoted}
 use Rattle.dbtg_plan.proofs.Plans.RingEdits.{can_edit_ring, free_owner}
 
 -- what the record's own checks, a test and further checks have passed
-pub own_passed : (view : View) (unit : Unit) (k : DbKey) (b : Bool) (cause : Cause) (rest : List (Bool × Cause)) → first_cause (own_checks view unit k ++ (b, cause) ∷ rest) ≡ None
+pub own_passed : (view : StoredFacts) (unit : Unit) (k : DbKey) (b : Bool) (cause : Cause) (rest : List (Bool × Cause)) → first_cause (own_checks view unit k ++ (b, cause) ∷ rest) ≡ None
     → (view.is_live k ≡ true) × (b ≡ false) × (first_cause rest ≡ None)
 own_passed view unit k b cause rest h =
     let there = passes_check _ Deleted _ h in
@@ -105,7 +105,7 @@ module _ (schema : Lists) (capacity : ℕ) (unit : Unit) (hands : Hands) (s : �
 
       owner_is : effect schema capacity db unit (Insert s) ≡ inserted schema db unit s k → owner_of schema capacity new s k ≡ Some here.owner
       owner_is done =
-          member_owner_found schema capacity new (subst (λ (o : Outcome). Legal schema capacity o.database) done (legal_after schema capacity db unit hands may.sound may.of_schema may.within (Insert s) may.fits agrees)) s here.owner k member
+          member_owner_found schema capacity new (subst (λ (o : StatementEffect). Legal schema capacity o.database) done (legal_after schema capacity db unit hands may.sound may.of_schema may.within (Insert s) may.fits agrees)) s here.owner k member
 
       unit_is : unit_after schema (inserting schema (whole schema capacity db) unit s k) unit ≡ (inserted schema db unit s k).unit
       unit_is =

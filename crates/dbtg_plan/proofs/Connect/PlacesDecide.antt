@@ -33,7 +33,7 @@ use Rattle.dbtg_unit.specs.Hands.Local.{Agrees, holds}
 use Rattle.dbtg_unit.specs.Database.Laws.Placing.{comparable, compares}
 use Rattle.dbtg_unit.proofs.Public.{all_members, checks_at_agree, divided_by_new_member, entries_in_hand, keys_compare, pairwise_weaker, passes_check, same_occurrence}
 use Rattle.dbtg_unit.specs.Hands.InHand.{in_hand}
-use Rattle.dbtg_unit.specs.Database.Statements.View.{whole}
+use Rattle.dbtg_unit.specs.Database.Statements.StoredFacts.{whole}
 use Rattle.dbtg_unit.specs.Database.Statements.Conditions.{joined_place}
 use Rattle.dbtg_plan.specs.Inside.Joining.{joined_occurrence}
 

@@ -26,7 +26,7 @@ use Rattle.dbtg_unit.specs.declared.unit.Unit.{Unit}
 use Rattle.dbtg_unit.specs.Database.State.Base.{Database, is_live, members_of, owner_of}
 use Rattle.dbtg_unit.specs.Database.State.CellNames.{place_of, slot_name}
 use Rattle.dbtg_unit.specs.Hands.EditsOf.{ring_edits, slot_edit}
-use Rattle.dbtg_unit.specs.Database.Statements.Effect.{Outcome, effect, remove_checks, removed, version_of, without}
+use Rattle.dbtg_unit.specs.Database.Statements.Effect.{StatementEffect, effect, remove_checks, removed, version_of, without}
 use Rattle.dbtg_unit.specs.Hands.Guesses.{guesses_after, noted_guesses}
 use Rattle.dbtg_unit.specs.Hands.Hands.{Hands}
 use Rattle.dbtg_unit.specs.Hands.InHand.{owner_in, version_in, in_hand}
@@ -35,7 +35,7 @@ use Rattle.dbtg_unit.specs.Hands.Making.{CanFinish, CanMake, HaveNextVersions, M
 use Rattle.dbtg_unit.specs.Hands.Needs.{is_wrong_guess, ring_names, slot_names}
 use Rattle.dbtg_unit.specs.Hands.Prepared.{IsEffect, IsPrepared, unit_after, refusal}
 use Rattle.dbtg_unit.specs.Inside.Prepared.{unless_refusal}
-use Rattle.dbtg_unit.specs.Database.Statements.View.{View, whole}
+use Rattle.dbtg_unit.specs.Database.Statements.StoredFacts.{StoredFacts, whole}
 use Rattle.dbtg_unit.specs.Inside.PlanOf.{plan_of}
 use Rattle.dbtg_unit.specs.Hands.PlanOf.{planned_on_current, removing}
 use Rattle.dbtg_plan.proofs.Plans.EffectIsPlan.{current_plan_is_effect, effect_in_hand, planned_cells}

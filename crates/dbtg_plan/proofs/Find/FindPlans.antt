@@ -30,7 +30,7 @@ use Rattle.dbtg_unit.specs.Database.State.Belongs.{IsUnitOf}
 use Rattle.dbtg_unit.specs.Database.State.CellNames.{slot_name}
 use Rattle.dbtg_unit.specs.Database.State.Cells.{cell}
 use Rattle.dbtg_unit.specs.Database.Statements.Checks.{refused_at_once}
-use Rattle.dbtg_unit.specs.Database.Statements.Effect.{Outcome, done, effect, finding}
+use Rattle.dbtg_unit.specs.Database.Statements.Effect.{StatementEffect, done, effect, finding}
 use Rattle.dbtg_unit.specs.Database.Statements.Fits.{form_fits, if_named, is_type}
 use Rattle.dbtg_unit.specs.Database.Statements.Found.{found, with_current}
 use Rattle.dbtg_unit.specs.Hands.Guesses.{guesses_after}
@@ -185,10 +185,10 @@ module _ (schema : Lists) (capacity : ℕ) (unit : Unit) (hands : Hands) (form :
         = effect_is_on_cells schema capacity db unit (Find form suppress) passes ∙ ap (λ (r : Result DbKey Cause). finding db unit r (λ k. seen schema capacity db unit k suppress)) is in
         let owners = owners_are k is in
         record {
-          answer = sym (ap (λ (o : Outcome). o.answer) e);
-          unit_is = ap (λ (os : List (Option Owner)). seen_with schema unit k os suppress) owners ∙ sym (ap (λ (o : Outcome). o.unit) e);
+          answer = sym (ap (λ (o : StatementEffect). o.answer) e);
+          unit_is = ap (λ (os : List (Option Owner)). seen_with schema unit k os suppress) owners ∙ sym (ap (λ (o : StatementEffect). o.unit) e);
           guesses_are = owners ∙ sym (ap (guesses_after schema capacity (Find form suppress) hands.guesses) e);
-          cells = λ c. ap (λ (o : Outcome). cell schema capacity o.database c) e;
+          cells = λ c. ap (λ (o : StatementEffect). cell schema capacity o.database c) e;
         }
 
     pub find_is_effect : IsEffect schema capacity db unit hands.guesses (Find form suppress) (plan_of_found hands suppress (found_in schema unit hands form))

@@ -29,7 +29,7 @@ use Rattle.dbtg_unit.specs.Hands.InHand.{in_hand, items_in, numbers_in, stored_i
 use Rattle.dbtg_unit.specs.Hands.Local.{Agrees, holds}
 use Rattle.dbtg_unit.specs.Hands.Making.{CanFinish, CanMake, HaveNextVersions, MayPrepare}
 use Rattle.dbtg_unit.specs.Hands.Prepared.{IsEffect, unit_after}
-use Rattle.dbtg_unit.specs.Database.Statements.View.{whole}
+use Rattle.dbtg_unit.specs.Database.Statements.StoredFacts.{whole}
 use Rattle.dbtg_unit.proofs.Public.{HasAll, MayPlan, changed_fit, items_in_hand, live_by_extent, live_in_hand, may_plan, modify_typed, numbers_in_hand, owner_in_hand, passes_check, prepared_has_all}
 use Rattle.dbtg_plan.specs.Inside.Modifying.{is_rekeyed}
 use Rattle.dbtg_plan.proofs.Plans.EffectIsPlan.{current_plan_is_effect, effect_in_hand, planned_cells}

@@ -20,8 +20,8 @@ use Rattle.dbtg_unit.specs.declared.unit.Unit.{Unit}
 use Rattle.dbtg_unit.specs.Database.State.Base.{Database, items_of, owner_of}
 use Rattle.dbtg_unit.specs.Database.State.Units.{forgotten, noted}
 use Rattle.dbtg_unit.specs.Database.Statements.Checks.{about, checks_on_cells, live_checks, refused_at_once, remove_checks}
-use Rattle.dbtg_unit.specs.Database.Statements.Effect.{Outcome, done, done_on_cells, done_on_current, effect, effect_on_cells, removed, unless_refused, version_of, without}
-use Rattle.dbtg_unit.specs.Database.Statements.View.{whole}
+use Rattle.dbtg_unit.specs.Database.Statements.Effect.{StatementEffect, done, done_on_cells, done_on_current, effect, effect_on_cells, removed, unless_refused, version_of, without}
+use Rattle.dbtg_unit.specs.Database.Statements.StoredFacts.{whole}
 use Rattle.dbtg_unit.specs.Hands.EditsOf.{edits_of, is_delete}
 use Rattle.dbtg_unit.specs.Hands.Guesses.{guesses_after, noted_guesses}
 use Rattle.dbtg_unit.specs.Hands.Hands.{Hands}
@@ -38,27 +38,27 @@ use Rattle.dbtg_plan.proofs.Plans.SamePlan.{alike_in_hand, is_planned, plan_agre
 module _ (schema : Lists) (capacity : ℕ) (unit : Unit) (hands : Hands) (statement : Statement) (may : MayPlan schema capacity unit hands statement) (passes : refused_at_once schema capacity unit statement ≡ None) where
   module _ (db : Database) (agrees : Agrees schema capacity db hands unit) (other : is_delete statement ≡ false) where
     -- a plan tells what an outcome does, but for the cells
-    pub record Tells (plan : Plan) (outcome : Outcome) : Type 0 where
+    pub record Tells (plan : Plan) (outcome : StatementEffect) : Type 0 where
       pub is_done : plan.answer.status ≡ Done
       pub answer : plan.answer ≡ outcome.answer
       pub unit_is : unit_after schema plan unit ≡ outcome.unit
       pub guesses_are : guesses_edited plan.unit hands.guesses ≡ guesses_after schema capacity statement hands.guesses outcome
 
-    pub tells_effect : (plan : Plan) (outcome : Outcome) → effect schema capacity db unit statement ≡ outcome → plan.cells ≡ edits_of schema capacity db unit statement → Tells plan outcome
+    pub tells_effect : (plan : Plan) (outcome : StatementEffect) → effect schema capacity db unit statement ≡ outcome → plan.cells ≡ edits_of schema capacity db unit statement → Tells plan outcome
         → IsEffect schema capacity db unit hands.guesses statement plan
     tells_effect plan outcome e edits tells =
-        done_is_effect schema capacity db unit hands statement plan other may agrees tells.is_done (tells.answer ∙ sym (ap (λ (o : Outcome). o.answer) e)) edits
-        (tells.unit_is ∙ sym (ap (λ (o : Outcome). o.unit) e)) (tells.guesses_are ∙ sym (ap (guesses_after schema capacity statement hands.guesses) e))
+        done_is_effect schema capacity db unit hands statement plan other may agrees tells.is_done (tells.answer ∙ sym (ap (λ (o : StatementEffect). o.answer) e)) edits
+        (tells.unit_is ∙ sym (ap (λ (o : StatementEffect). o.unit) e)) (tells.guesses_are ∙ sym (ap (guesses_after schema capacity statement hands.guesses) e))
 
     -- the checks stand before the plan as before the effect
-    pub behind_checks : (plan : Plan) (outcome : Outcome) (check : Option Cause) → effect schema capacity db unit statement ≡ unless_refused db unit check outcome
+    pub behind_checks : (plan : Plan) (outcome : StatementEffect) (check : Option Cause) → effect schema capacity db unit statement ≡ unless_refused db unit check outcome
         → (check ≡ None → effect schema capacity db unit statement ≡ outcome → IsEffect schema capacity db unit hands.guesses statement plan)
         → IsEffect schema capacity db unit hands.guesses statement (unless_refusal check plan)
     behind_checks plan outcome (Some cause) e h = refusal_is_effect schema capacity db unit hands.guesses statement cause e
     behind_checks plan outcome None e h = h refl e
 
     -- a statement about the current of run-unit
-    pub current_plan_is_effect : (checks : DbKey → List (Bool × Cause)) (plan : DbKey → Plan) (outcome : DbKey → Outcome)
+    pub current_plan_is_effect : (checks : DbKey → List (Bool × Cause)) (plan : DbKey → Plan) (outcome : DbKey → StatementEffect)
         → effect_on_cells schema capacity db unit statement ≡ unless_refused db unit (first_cause (about unit.currency.run_unit checks)) (done_on_current db unit unit.currency.run_unit outcome)
         → (planned_on_current unit.currency.run_unit plan).cells ≡ edits_of schema capacity db unit statement
         → ((k : DbKey) → unit.currency.run_unit ≡ Some k → first_cause (checks k) ≡ None → effect schema capacity db unit statement ≡ outcome k → Tells (plan k) (outcome k))

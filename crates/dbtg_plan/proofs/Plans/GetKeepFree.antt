@@ -19,7 +19,7 @@ use Rattle.dbtg_unit.specs.Hands.PlanOf.{done_plan, planned_on_current}
 use Rattle.dbtg_unit.specs.Inside.PlanOf.{plan_of}
 use Rattle.dbtg_unit.specs.Hands.Prepared.{IsEffect}
 use Rattle.dbtg_unit.specs.Database.State.Units.{forgotten, noted}
-use Rattle.dbtg_unit.specs.Database.Statements.View.{whole}
+use Rattle.dbtg_unit.specs.Database.Statements.StoredFacts.{whole}
 use Rattle.dbtg_unit.proofs.Public.{MayPlan, may_plan}
 use Rattle.dbtg_plan.proofs.Plans.EffectIsPlan.{current_plan_is_effect, effect_in_hand, planned_cells}
 use Rattle.dbtg_plan.proofs.Plans.PartByPart.{Makes, makes_done, makes_effect, makes_refusal, no_cells_can_finish}

@@ -17,7 +17,7 @@ use Rattle.dbtg_unit.specs.Database.State.Cells.{cell}
 use Rattle.dbtg_unit.specs.Database.Statements.Checks.{refused_at_once}
 use Rattle.dbtg_unit.specs.Hands.Edits.{edited_at}
 use Rattle.dbtg_unit.specs.Hands.EditsOf.{edits_of, is_delete}
-use Rattle.dbtg_unit.specs.Database.Statements.Effect.{Outcome, effect, effect_on_cells, refused, unless_refused, version_of}
+use Rattle.dbtg_unit.specs.Database.Statements.Effect.{StatementEffect, effect, effect_on_cells, refused, unless_refused, version_of}
 use Rattle.dbtg_unit.specs.Hands.Guesses.{guesses_after}
 use Rattle.dbtg_unit.specs.Hands.Hands.{Hands}
 use Rattle.dbtg_unit.specs.Database.State.Kept.{renoted_entry, noted_again}
@@ -35,10 +35,10 @@ effect_is_on_cells schema capacity db unit statement passes = ap (λ (o : Option
 pub refusal_is_effect : (schema : Lists) (capacity : ℕ) (db : Database) (unit : Unit) (guesses : List (Option Owner)) (statement : Statement) (cause : Cause)
     → effect schema capacity db unit statement ≡ refused db unit cause → IsEffect schema capacity db unit guesses statement (refusal cause)
 refusal_is_effect schema capacity db unit guesses statement cause e = record {
-  answer = sym (ap (λ (o : Outcome). o.answer) e);
-  unit_is = sym (ap (λ (o : Outcome). o.unit) e);
+  answer = sym (ap (λ (o : StatementEffect). o.answer) e);
+  unit_is = sym (ap (λ (o : StatementEffect). o.unit) e);
   guesses_are = sym (ap (guesses_after schema capacity statement guesses) e);
-  cells = λ c. ap (λ (o : Outcome). cell schema capacity o.database c) e;
+  cells = λ c. ap (λ (o : StatementEffect). cell schema capacity o.database c) e;
 }
 
 -- a plan is the effect of a statement that is done, where its edits are the statement's

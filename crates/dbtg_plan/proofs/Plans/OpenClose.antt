@@ -32,7 +32,7 @@ use Rattle.dbtg_unit.specs.Hands.Prepared.{IsEffect, refusal}
 use Rattle.dbtg_unit.specs.Inside.Prepared.{unless_refusal}
 use Rattle.dbtg_unit.specs.Hands.Reserving.{CanTakeUser, OfHeld}
 use Rattle.dbtg_unit.proofs.Public.{MayPlan, may_plan, may_prepare_same, prepared_has_all, users_in_hand, users_in_same}
-use Rattle.dbtg_unit.specs.Database.Statements.View.{whole}
+use Rattle.dbtg_unit.specs.Database.Statements.StoredFacts.{whole}
 use Rattle.dbtg_unit.specs.Hands.PlanOf.{mode_plan}
 use Rattle.dbtg_unit.specs.Inside.PlanOf.{plan_of}
 use Rattle.dbtg_plan.proofs.Plans.EffectIsPlan.{behind_checks, effect_in_hand, tells_effect}

@@ -19,7 +19,7 @@ use Rattle.dbtg_unit.specs.Database.State.Base.{Database}
 use Rattle.dbtg_unit.specs.Database.State.Cells.{cell}
 use Rattle.dbtg_unit.specs.Database.Statements.Checks.{refused_at_once}
 use Rattle.dbtg_unit.specs.Hands.Edits.{edited_at}
-use Rattle.dbtg_unit.specs.Database.Statements.Effect.{Outcome, done, effect, effect_on_cells, refused, unless_refused}
+use Rattle.dbtg_unit.specs.Database.Statements.Effect.{StatementEffect, done, effect, effect_on_cells, refused, unless_refused}
 use Rattle.dbtg_unit.specs.Hands.Guesses.{guesses_after}
 use Rattle.dbtg_unit.specs.Hands.Hands.{Hands}
 use Rattle.dbtg_unit.specs.Hands.Local.{Agrees, holds}
@@ -33,7 +33,7 @@ use Rattle.dbtg_plan.proofs.Plans.IsEffect.{effect_is_on_cells, refusal_is_effec
 
 module _ (schema : Lists) (capacity : ℕ) (db : Database) (unit : Unit) (guesses : List (Option Owner)) (statement : Statement) where
   -- answer, unit, guesses and each cell are those of the outcome
-  pub record Makes (plan : Plan) (outcome : Outcome) : Type 0 where
+  pub record Makes (plan : Plan) (outcome : StatementEffect) : Type 0 where
     pub answer : plan.answer ≡ outcome.answer
     pub unit_is : unit_after schema plan unit ≡ outcome.unit
     pub guesses_are : guesses_edited plan.unit guesses ≡ guesses_after schema capacity statement guesses outcome
@@ -48,12 +48,12 @@ module _ (schema : Lists) (capacity : ℕ) (db : Database) (unit : Unit) (guesse
   makes_done change key items items' after same is guesses_are = record { answer = λ i. record { status = Done; key = key; items = same i }; unit_is = is; guesses_are = guesses_are; cells = λ c. refl }
 
   -- a plan that makes the outcome of a statement is its effect
-  pub makes_is : (plan : Plan) (outcome : Outcome) → effect schema capacity db unit statement ≡ outcome → Makes plan outcome → IsEffect schema capacity db unit guesses statement plan
+  pub makes_is : (plan : Plan) (outcome : StatementEffect) → effect schema capacity db unit statement ≡ outcome → Makes plan outcome → IsEffect schema capacity db unit guesses statement plan
   makes_is plan outcome e makes = record {
-    answer = makes.answer ∙ sym (ap (λ (o : Outcome). o.answer) e);
-    unit_is = makes.unit_is ∙ sym (ap (λ (o : Outcome). o.unit) e);
+    answer = makes.answer ∙ sym (ap (λ (o : StatementEffect). o.answer) e);
+    unit_is = makes.unit_is ∙ sym (ap (λ (o : StatementEffect). o.unit) e);
     guesses_are = makes.guesses_are ∙ sym (ap (guesses_after schema capacity statement guesses) e);
-    cells = λ c. ap (λ (o : Outcome). cell schema capacity o.database c) e ∙ makes.cells c;
+    cells = λ c. ap (λ (o : StatementEffect). cell schema capacity o.database c) e ∙ makes.cells c;
   }
 
   -- so is one that makes the outcome on the cells, where no check without cells refuses

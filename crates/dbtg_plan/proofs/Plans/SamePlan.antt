@@ -29,7 +29,7 @@ use Rattle.dbtg_unit.specs.Database.State.Units.{noted, place_in}
 use Rattle.dbtg_unit.specs.Database.Statements.Checks.{about, insert_checks, live_checks, modify_checks, refused_at_once, remove_checks}
 use Rattle.dbtg_unit.specs.Database.Statements.Conditions.{calc_taken, changed_items, joined_place, names_calc}
 use Rattle.dbtg_unit.specs.Database.Statements.Effect.{conflict}
-use Rattle.dbtg_unit.specs.Database.Statements.View.{View, whole}
+use Rattle.dbtg_unit.specs.Database.Statements.StoredFacts.{StoredFacts, whole}
 use Rattle.dbtg_unit.specs.Hands.Hands.{Hands}
 use Rattle.dbtg_unit.specs.Hands.InHand.{in_hand}
 use Rattle.dbtg_unit.specs.Hands.Local.{Agrees, holds}
@@ -55,20 +55,20 @@ OfCurrent unit P = (k : DbKey) → unit.currency.run_unit ≡ Some k → P k
 
 -- the same of a record that is to have changes: of its CALC items where one is named, and of its owner and occurrence in each set in
 -- which it is placed anew
-pub record SameToChange (schema : Lists) (v w : View) (changes : List Change) (k : DbKey) : Type 0 where
+pub record SameToChange (schema : Lists) (v w : StoredFacts) (changes : List Change) (k : DbKey) : Type 0 where
   pub record_is : SameRecord v w k
   pub calc : names_calc schema k.rtype changes ≡ true → v.is_live k ≡ true → (values : List Value) → v.has_calc k.rtype values (Some k) ≡ w.has_calc k.rtype values (Some k)
   pub owners : (s : ℕ) → In s (rekeyed_sets schema k.rtype (map (λ c. c.item) changes)) → v.owner s k ≡ w.owner s k
   pub rings : (s : ℕ) (o : Owner) → In s (rekeyed_sets schema k.rtype (map (λ c. c.item) changes)) → w.owner s k ≡ Some o → SameOccurrence v w s o
 
 -- the same of a record type and of the occurrences that a new record of it joins, where it gets a number and its CALC items are not taken
-pub record SameToStore (schema : Lists) (v w : View) (unit : Unit) (t : ℕ) (items : List Value) : Type 0 where
+pub record SameToStore (schema : Lists) (v w : StoredFacts) (unit : Unit) (t : ℕ) (items : List Value) : Type 0 where
   pub numbers : SameNumbers v w t
   pub fresh : v.fresh t ≡ w.fresh t
   pub places : w.is_full t ≡ false → calc_taken schema w t items None ≡ false → (s : ℕ) → In s (automatic_sets schema t) → SameOccurrence v w s (joined_place schema unit s).owner
 
 -- the same where a statement asks
-abbrev pub SameFor : Lists → View → View → Unit → Statement → Type 0
+abbrev pub SameFor : Lists → StoredFacts → StoredFacts → Unit → Statement → Type 0
 SameFor schema v w unit (OpenArea a mode) = v.users a ≡ w.users a
 SameFor schema v w unit (Get r) = OfCurrent unit (SameRecord v w)
 SameFor schema v w unit (Store t items suppress) = SameToStore schema v w unit t items
@@ -85,7 +85,7 @@ current_agrees None checks checks' plan plan' h = refl
 current_agrees (Some k) checks checks' plan plan' h = let is = h k refl in λ i. unless_refusal (is.0 i) (is.1 i)
 
 -- the same record has the same plan of its changes
-modifying_agrees : (schema : Lists) (v w : View) (unit : Unit) (changes : List Change) (k : DbKey) → SameToChange schema v w changes k → modifying schema v unit changes k ≡ modifying schema w unit changes k
+modifying_agrees : (schema : Lists) (v w : StoredFacts) (unit : Unit) (changes : List Change) (k : DbKey) → SameToChange schema v w changes k → modifying schema v unit changes k ≡ modifying schema w unit changes k
 modifying_agrees schema v w unit changes k all =
     λ i. record { answer = done_answer; cells = cells i; versions = (k, all.record_is.version i + 1) ∷ []; unit = Same } where
       sets : List ℕ
@@ -103,7 +103,7 @@ modifying_agrees schema v w unit changes k all =
           ap (λ (edits : List CellEdit). calc_edits schema changes k items ++ (edits ++ slot_edit k (ChangeItems items) ∷ (slot_edit k RaiseVersion ∷ []))) (rings items))
 
 -- two views that answer alike where a statement asks have one plan
-pub plan_agrees : (schema : Lists) (v w : View) (unit : Unit) (statement : Statement) → is_planned statement ≡ true → SameFor schema v w unit statement
+pub plan_agrees : (schema : Lists) (v w : StoredFacts) (unit : Unit) (statement : Statement) → is_planned statement ≡ true → SameFor schema v w unit statement
     → plan_of schema v unit statement ≡ plan_of schema w unit statement
 plan_agrees schema v w unit (OpenArea a mode) planned same = λ i. unless_refusal (first_cause ((list_any (λ e. conflict e.1 mode) (same i), UsageConflict) ∷ [])) (mode_plan a (EnterUser unit.number mode) (Some mode))
 plan_agrees schema v w unit (CloseArea a) planned same = refl

@@ -15,8 +15,8 @@ use Rattle.dbtg_unit.specs.Database.State.Base.{Database}
 use Rattle.dbtg_unit.specs.Database.State.Legal.{Legal}
 use Rattle.dbtg_unit.specs.Database.State.Units.{owners_of, seen_with}
 use Rattle.dbtg_unit.specs.Database.Statements.Checks.{refused_at_once, store_checks}
-use Rattle.dbtg_unit.specs.Database.Statements.Effect.{Outcome, connected_in, effect, free_number, new_key, stored, with_new}
-use Rattle.dbtg_unit.specs.Database.Statements.View.{whole}
+use Rattle.dbtg_unit.specs.Database.Statements.Effect.{StatementEffect, connected_in, effect, free_number, new_key, stored, with_new}
+use Rattle.dbtg_unit.specs.Database.Statements.StoredFacts.{whole}
 use Rattle.dbtg_unit.specs.Hands.EditsOf.{first_owners}
 use Rattle.dbtg_unit.specs.Hands.Hands.{Hands}
 use Rattle.dbtg_unit.specs.Hands.InHand.{in_hand}
@@ -35,7 +35,7 @@ module _ (schema : Lists) (capacity : ℕ) (unit : Unit) (hands : Hands) (t : �
     abbrev k : DbKey
     k = new_key db t (unwrap_or (free_number capacity db t) 0)
 
-    abbrev outcome : Outcome
+    abbrev outcome : StatementEffect
     outcome = stored schema capacity db unit k items suppress
 
     -- the owners of the new record are those in which it is connected
@@ -43,7 +43,7 @@ module _ (schema : Lists) (capacity : ℕ) (unit : Unit) (hands : Hands) (t : �
         → owners_of schema capacity (connected_in schema (with_new schema db k items) unit (automatic_sets schema t) k) k ≡ first_owners schema unit t
     owners free is =
         let found = store_found schema capacity db unit agrees.legal t items (has_places schema capacity unit hands t items suppress may passes db agrees) free in
-        let legal_new : Legal schema capacity outcome.database = subst (λ (o : Outcome). Legal schema capacity o.database) is (legal_after schema capacity db unit hands may.sound may.of_schema may.within (Store t items suppress) may.fits agrees) in
+        let legal_new : Legal schema capacity outcome.database = subst (λ (o : StatementEffect). Legal schema capacity o.database) is (legal_after schema capacity db unit hands may.sound may.of_schema may.within (Store t items suppress) may.fits agrees) in
         owners_first schema capacity db unit k items agrees.legal found.counted refl found.unused found.stands legal_new
 
     store_is_effect : IsEffect schema capacity db unit hands.guesses (Store t items suppress) (plan_of schema (whole schema capacity db) unit (Store t items suppress))

@@ -12,7 +12,7 @@ use dbtg_schema::{AreaNo, RecordNo, Schema, SetNo};
 use dbtg_unit::{Cause, Held, Unit, entry_at, stored};
 
 /// The record, or the cause if it is not there.
-pub(crate) fn stored_key(held: &Held, key: DbKey, cause: Cause) -> Result<DbKey, Cause>
+pub(crate) fn stored_or(held: &Held, key: DbKey, cause: Cause) -> Result<DbKey, Cause>
     ensures { result ≡ stored_or cause held.now key }
 {
     match stored(held, &key) {
@@ -26,7 +26,7 @@ pub(crate) fn of_current(held: &Held, current: Option<DbKey>) -> Result<DbKey, C
     ensures { result ≡ with_current current (stored_or Deleted held.now) }
 {
     match current {
-        Some(key) => stored_key(held, key, Cause::Deleted),
+        Some(key) => stored_or(held, key, Cause::Deleted),
         None => Err(Cause::NoSuchCurrent),
     }
 }

@@ -11,7 +11,7 @@ use Rattle.dbtg_cells.specs.Keys.{is_member, key_eq, option_value_eq, owner_eq, 
 use Rattle.dbtg_cells.specs.Members.{is_left_out}
 use Rattle.dbtg_unit.specs.Database.State.Base.{calc_items, key_item}
 use Rattle.dbtg_unit.specs.Database.State.Image.{Image}
-use Rattle.dbtg_unit.specs.Database.Statements.View.{View}
+use Rattle.dbtg_unit.specs.Database.Statements.StoredFacts.{StoredFacts}
 use Rattle.dbtg_refusal.specs.Obstacles.{Holder, obstacle_by}
 use Rattle.dbtg_unit.specs.declared.statement.Statement.{Statement}
 use Rattle.dbtg_unit.specs.declared.unit.Cause.{Cause}
@@ -63,7 +63,7 @@ abbrev pub users_in : Image → ℕ → List (ℕ × Mode)
 users_in image a = unwrap_or (slice_get image.usage a) []
 
 -- the view of an image; no obstacle asks about free numbers
-abbrev pub imaged : Lists → Image → View
+abbrev pub imaged : Lists → Image → StoredFacts
 imaged schema image =
     record {
       is_live = live_in image;

@@ -25,7 +25,7 @@ use Rattle.dbtg_unit.specs.Hands.Local.{Agrees}
 use Rattle.dbtg_unit.specs.Hands.Needs.{need}
 use Rattle.dbtg_step.specs.Inside.SequentialDatabase.{IsSequentialDatabase}
 use Rattle.dbtg_step.specs.Machine.SequentialDatabase.{In}
-use Rattle.dbtg_step.specs.Machine.Machine.{Location, Home, HeldBy, Progress, relocated, held_cells}
+use Rattle.dbtg_step.specs.Machine.Machine.{CellLocation, Home, HeldBy, StatementProgress, relocated, held_cells}
 use Rattle.dbtg_step.specs.Core.Parts.{held_cells_of, held_of}
 use Rattle.dbtg_step.proofs.Public.{SafeUpdate, back_is_safe, held_behind, relocated_at, relocated_elsewhere, take_is_safe}
 use Rattle.dbtg_run.specs.declared.view.About.{About}
@@ -59,7 +59,7 @@ there_here (x ∷ xs) (suc i) a b e = there_here xs i a b e
 
 module _ (about : About) (s : State (Option Cell) SeatKnowledge) (K : LatchRule about s) (id : ℕ) (m : SeatUnit) (at : get_elem? s.views id ≡ some (lone about m)) where
   -- a step on the word of the slot k, which has the cell c; the unit then has other cells
-  pub cell_moved : (k x : ℕ) (c : CellName) (w : SeatUnit) (location : CellName → Location CellValue) (homes : List (maybe.Option (Option Cell))) → slot_name about k ≡ Some c
+  pub cell_moved : (k x : ℕ) (c : CellName) (w : SeatUnit) (location : CellName → CellLocation CellValue) (homes : List (maybe.Option (Option Cell))) → slot_name about k ≡ Some c
       → w.place ≡ m.place → w.unit ≡ m.unit → w.journal ≡ m.journal → ((y : Bool) (a : ℕ) → latched y a w ≡ latched y a m)
       → SafeUpdate (net about) (opens about) K.worded.machine (suc m.place) location (Some (progress_of about w))
       → ((d : CellName) → d ≢ c → location d ≡ K.worded.machine.location d)
@@ -128,10 +128,10 @@ module _ (about : About) (id : ℕ) (m : SeatUnit) (slots : ℕ) (rest : List (�
           let l = laws about s K id m at in
           let w = with_cell c (bare (shown h.value)) m in
           let area : In ((net about).area c) (progress_of about m).areas = area_of_cell_held about K.worded.machine K.worded.lawful m.place m my x g c fit wanted l in
-          let progress : ◌≡◌ {A = Progress (net about)} (record { exclusive = m.exclusive; areas = reverse m.areas; cells = record { name = c; value = shown h.value } ∷ held_cells_of m.held; turning_back = false; ticket = None; linked = 0 }) (progress_of about w) =
+          let progress : ◌≡◌ {A = StatementProgress (net about)} (record { exclusive = m.exclusive; areas = reverse m.areas; cells = record { name = c; value = shown h.value } ∷ held_cells_of m.held; turning_back = false; ticket = None; linked = 0 }) (progress_of about w) =
           λ i. record { exclusive = m.exclusive; areas = reverse m.areas; cells = ((λ j. record { name = c; value = sym (shown_bare (shown h.value)) j } ∷ held_cells_of m.held) ∙ sym (held_behind m.held (c, bare (shown h.value)))) i; turning_back = false; ticket = None; linked = 0 } in
           cell_moved about s K id m at k new c w (relocated (net about) K.worded.machine.location c (HeldBy (suc m.place))) (set s.homes k none) named refl refl refl (λ y a. latched_held y a m _)
-          (subst (λ (p : Progress (net about)). SafeUpdate (net about) (opens about) K.worded.machine (suc m.place) (relocated (net about) K.worded.machine.location c (HeldBy (suc m.place))) (Some p)) progress
+          (subst (λ (p : StatementProgress (net about)). SafeUpdate (net about) (opens about) K.worded.machine (suc m.place) (relocated (net about) K.worded.machine.location c (HeldBy (suc m.place))) (Some p)) progress
           (take_is_safe (net about) l (opens about) K.worded.machine (suc m.place) my.state (progress_of about m) c (shown h.value) K.worded.lawful my.found my.progress refl area h.location_is))
           (λ d ne. relocated_elsewhere (net about) l.names K.worded.machine.location c d (HeldBy (suc m.place)) ne)
           (λ j ne. set_else s.homes k j none ne)
@@ -159,7 +159,7 @@ puts_cell about id m slots zeros k c x y es rest is value named zero_is size s K
     l : IsSequentialDatabase (net about)
     l = laws about s K id m at
 
-    location : CellName → Location CellValue
+    location : CellName → CellLocation CellValue
     location = relocated (net about) K.worded.machine.location c (Home (shown y))
 
     word : bit_and (get_or s.words (cell_word about k) 0) zeros ≡ 0

@@ -8,9 +8,9 @@ use Rattle.dbtg_step.specs.Machine.Headline.{entry_of}
 use Rattle.dbtg_step.proofs.Public.{answers_same, entries_again, replays_same, tickets_in_order, unit_found}
 use Rattle.dbtg_run.specs.declared.view.About.{About}
 use Rattle.dbtg_run.specs.declared.view.SeatUnit.{SeatUnit}
-use Rattle.dbtg_run.specs.Inside.LatchRule.{net, opens, Worded}
+use Rattle.dbtg_run.specs.Inside.LatchRule.{net, opens, TableShows}
 
-module _ (about : About) (words : List ℕ) (homes : List (maybe.Option (Option Cell))) (all : ℕ → SeatUnit) (W : Worded about words homes all) where
+module _ (about : About) (words : List ℕ) (homes : List (maybe.Option (Option Cell))) (all : ℕ → SeatUnit) (W : TableShows about words homes all) where
   noted : map (entry_of {schema = about.schema.value} {capacity = about.capacity}) W.machine.history ≡ W.log
   noted = ap (map entry_of) W.history ∙ entries_again about.schema.value about.capacity W.log
 

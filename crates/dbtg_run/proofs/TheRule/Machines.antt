@@ -4,7 +4,7 @@ use Rattle.std.specs.List.{list_any}
 use Rattle.std.proofs.lemmas.Bool.{or_parts}
 use Rattle.dbtg_step.specs.Machine.SequentialDatabase.{SequentialDatabase, In, unit_at}
 use Rattle.dbtg_step.specs.Inside.SequentialDatabase.{IsSequentialDatabase}
-use Rattle.dbtg_step.specs.Machine.Machine.{Progress, UnitState, State, SequentialState, held_cells, held_areas, holds_exclusively, ticket_of}
+use Rattle.dbtg_step.specs.Machine.Machine.{StatementProgress, UnitState, State, SequentialState, held_cells, held_areas, holds_exclusively, ticket_of}
 use Rattle.dbtg_step.specs.Machine.Step.{any_but, any_other, conflicts}
 use Rattle.dbtg_step.specs.Machine.Lawful.{Holding, AreasShared, HoldsCell, Lawful}
 use Rattle.dbtg_step.proofs.Public.{SafeUpdate, and_false, any_other_false, holder_has_cell, list_any_true}
@@ -36,11 +36,11 @@ unfolding any_other
 others_none p u xs h = but_none p u xs h
 
 module _ (D : SequentialDatabase) (laws : IsSequentialDatabase D) (opening : SequentialState D) where
-  abbrev pub latching : Progress D → Bool → ℕ → Progress D
+  abbrev pub latching : StatementProgress D → Bool → ℕ → StatementProgress D
   latching w x a = record { exclusive = x; areas = a ∷ w.areas; cells = w.cells; turning_back = w.turning_back; ticket = w.ticket; linked = w.linked }
 
   -- one area more. Whether areas are held exclusively may change where none is held
-  pub latches_is_safe : (s : State D) (u : ℕ) (state : UnitState D) (w : Progress D) (x : Bool) (a : ℕ) → Lawful D opening s → unit_at s.units u ≡ Some state → state.progress ≡ Some w → (w.areas ≡ []) ⊎ (w.exclusive ≡ x) → any_other (conflicts D x a) u s.units ≡ false →
+  pub latches_is_safe : (s : State D) (u : ℕ) (state : UnitState D) (w : StatementProgress D) (x : Bool) (a : ℕ) → Lawful D opening s → unit_at s.units u ≡ Some state → state.progress ≡ Some w → (w.areas ≡ []) ⊎ (w.exclusive ≡ x) → any_other (conflicts D x a) u s.units ≡ false →
       SafeUpdate D opening s u s.location (Some (latching w x a))
   unfolding held_cells held_areas ticket_of holds_exclusively conflicts
   latches_is_safe s u state w x a l at is how free =

@@ -20,7 +20,7 @@ use Rattle.dbtg_unit.specs.declared.unit.Entry.{Entry}
 use Rattle.dbtg_unit.specs.Database.Laws.Replay.{entries_of}
 use Rattle.dbtg_step.specs.Inside.SequentialDatabase.{IsSequentialDatabase}
 use Rattle.dbtg_step.specs.Machine.SequentialDatabase.{unit_at, with_unit_at}
-use Rattle.dbtg_step.specs.Machine.Machine.{Location, HeldBy, UnitState, State as Machine, held_areas, holds_exclusively}
+use Rattle.dbtg_step.specs.Machine.Machine.{CellLocation, HeldBy, UnitState, State as Machine, held_areas, holds_exclusively}
 use Rattle.dbtg_step.specs.Machine.Step.{any_other, conflicts, updated}
 use Rattle.dbtg_step.proofs.Public.{SafeUpdate, any_reverse, network_is_sequential, safe_update_keeps, set_at, set_elsewhere}
 use Rattle.dbtg_run.specs.declared.view.About.{About}
@@ -28,7 +28,7 @@ use Rattle.dbtg_run.specs.declared.view.SeatUnit.{SeatUnit}
 use Rattle.dbtg_run.specs.declared.view.SeatKnowledge.{SeatKnowledge}
 use Rattle.dbtg_run.specs.Inside.Views.{put, Sits, latched, times, one_if}
 use Rattle.dbtg_run.specs.Views.{lone}
-use Rattle.dbtg_run.specs.Inside.LatchRule.{net, opens, area_count, area_word, cell_word, slot_name, progress_of, Shows, AreaOk, AtHome, Worded, LatchRule, FreeAlone}
+use Rattle.dbtg_run.specs.Inside.LatchRule.{net, opens, area_count, area_word, cell_word, slot_name, progress_of, Shows, AreaOk, AtHome, TableShows, LatchRule, FreeAlone}
 use Rattle.dbtg_run.proofs.TheRule.Base.{each_put, below_same, seats_changed}
 use Rattle.dbtg_run.proofs.TheRule.Areas.{had, ok_same, free_word}
 use Rattle.dbtg_run.proofs.TheRule.Machines.{others_none}
@@ -75,17 +75,17 @@ module _ (about : About) (s : State (Option Cell) SeatKnowledge) (K : LatchRule 
   pub mine : Shows about K.worded.machine m.place m
   mine = subst (Shows about K.worded.machine m.place) is_known (K.worded.shows m.place sits.inside)
 
-  abbrev pub next : (CellName → Location CellValue) → SeatUnit → Machine (net about)
+  abbrev pub next : (CellName → CellLocation CellValue) → SeatUnit → Machine (net about)
   next location w = updated (net about) K.worded.machine (suc m.place) mine.state location mine.state.guesses (Some (progress_of about w))
 
   -- the history stays
-  pub moved : (w : SeatUnit) (location : CellName → Location CellValue) (words : List ℕ) (homes : List (maybe.Option (Option Cell))) → w.place ≡ m.place → w.unit ≡ m.unit → w.journal ≡ m.journal
+  pub moved : (w : SeatUnit) (location : CellName → CellLocation CellValue) (words : List ℕ) (homes : List (maybe.Option (Option Cell))) → w.place ≡ m.place → w.unit ≡ m.unit → w.journal ≡ m.journal
       → SafeUpdate (net about) (opens about) K.worded.machine (suc m.place) location (Some (progress_of about w))
       → length words ≡ length s.words → get_or words 0 0 ≡ get_or s.words 0 0
       → ((a : ℕ) → a < area_count about → AreaOk (get_or words (area_word a) 0) (λ x u. latched x a (put K.all m.place w u)))
       → ((k : ℕ) (c : CellName) → slot_name about k ≡ Some c → get_or words (cell_word about k) 0 ≡ 0 → AtHome location (get_elem? homes k) c)
       → ((k : ℕ) (c : CellName) → slot_name about k ≡ Some c → get_or words (cell_word about k) 0 ≢ 0 → location c ≡ HeldBy (get_or words (cell_word about k) 0))
-      → Worded about words homes (put K.all m.place w)
+      → TableShows about words homes (put K.all m.place w)
   unfolding updated with_unit_at
   moved w location words homes place unit journal safe wide counter areas home out =
       let W = K.worded in
@@ -115,7 +115,7 @@ module _ (about : About) (s : State (Option Cell) SeatKnowledge) (K : LatchRule 
         out = out;
       }
 
-  pub kept_with : (w : SeatUnit) (words : List ℕ) (homes : List (maybe.Option (Option Cell))) → w.place ≡ m.place → Worded about words homes (put K.all m.place w) → LatchRule about record { words = words; homes = homes; views = set s.views id (lone about w) }
+  pub kept_with : (w : SeatUnit) (words : List ℕ) (homes : List (maybe.Option (Option Cell))) → w.place ≡ m.place → TableShows about words homes (put K.all m.place w) → LatchRule about record { words = words; homes = homes; views = set s.views id (lone about w) }
   kept_with w words homes place worded = record { sound = K.sound; few = K.few; all = put K.all m.place w; seats = seats_changed about K.all s.views id m w at place K.seats; worded = worded }
 
   -- nothing changes

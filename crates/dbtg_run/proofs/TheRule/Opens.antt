@@ -27,7 +27,7 @@ use Rattle.dbtg_run.specs.declared.view.SeatUnit.{SeatUnit}
 use Rattle.dbtg_run.specs.declared.view.SeatKnowledge.{SeatKnowledge}
 use Rattle.dbtg_run.specs.Views.{Has}
 use Rattle.dbtg_run.specs.Inside.Views.{Seated, total_below, latched, once_below, times_place}
-use Rattle.dbtg_run.specs.Inside.LatchRule.{net, opens as opening_units, area_count, cells_of_table, area_word, cell_word, slot_name, AreaOk, progress_of, Worded, LatchRule, numbered, first_view}
+use Rattle.dbtg_run.specs.Inside.LatchRule.{net, opens as opening_units, area_count, cells_of_table, area_word, cell_word, slot_name, AreaOk, progress_of, TableShows, LatchRule, numbered, first_view}
 use Rattle.dbtg_run.proofs.TheRule.Rested.{rested, rested_keeps}
 
 abbrev pub newcomer : About → ℕ → SeatUnit
@@ -82,7 +82,7 @@ module _ (about : About) (sound : IsSound about.schema.value) where
 
   pub worded : (words : List ℕ) (slots : List (Option Cell)) → length words ≡ 1 + area_count about + cells_of_table about → ((i : ℕ) → get_or words i 0 ≡ 0)
       → ((k : ℕ) (c : CellName) → slot_name about k ≡ Some c → (x : Cell) × (get_elem? slots k ≡ some (Some x)) × (shown x ≡ cell about.schema.value about.capacity (first_database about.schema.value) c))
-      → Worded about words (map (λ (x : Option Cell). some x) slots) (newcomer about)
+      → TableShows about words (map (λ (x : Option Cell). some x) slots) (newcomer about)
   unfolding unit_at
   worded words slots wide zeros homes = record {
     log = [];

@@ -1,11 +1,11 @@
 -- Where no unit has begun a statement, each may be seen as holding nothing.
 use Rattle.std.proofs.Common.{◌≡◌, ℕ, zero, suc, false, List, [], ◌∷◌, map, Some, None, slice_get, refl, ap, ◌∙◌, subst}
 use Rattle.dbtg_step.specs.Machine.SequentialDatabase.{SequentialDatabase, unit_at}
-use Rattle.dbtg_step.specs.Machine.Machine.{Progress, UnitState, State, SequentialState, held_cells, held_areas, holds_exclusively, ticket_of}
+use Rattle.dbtg_step.specs.Machine.Machine.{StatementProgress, UnitState, State, SequentialState, held_cells, held_areas, holds_exclusively, ticket_of}
 use Rattle.dbtg_step.specs.Machine.Lawful.{UnitLawful, AreasShared, HoldsCell, Lawful, AreDistinct}
 
 module _ (D : SequentialDatabase) (opening : SequentialState D) where
-  abbrev pub resting : Progress D
+  abbrev pub resting : StatementProgress D
   resting = record { exclusive = false; areas = []; cells = []; turning_back = false; ticket = None; linked = 0 }
 
   abbrev pub rested : UnitState D → UnitState D

@@ -9,7 +9,7 @@ use Rattle.atomic_table.specs.Table.{State, step, Act, keeps, stepped, Allows, c
 use Rattle.atomic_table.proofs.Lists.{exchanged}
 use Rattle.dbtg_cells.specs.declared.cell.Cell.{Cell}
 use Rattle.dbtg_cells.proofs.Public.{reverse_more}
-use Rattle.dbtg_step.specs.Machine.Machine.{Progress}
+use Rattle.dbtg_step.specs.Machine.Machine.{StatementProgress}
 use Rattle.dbtg_step.specs.Core.Parts.{held_cells_of}
 use Rattle.dbtg_step.proofs.Public.{SafeUpdate, leave_is_safe}
 use Rattle.dbtg_run.specs.declared.view.About.{About}
@@ -84,7 +84,7 @@ module _ (about : About) (id : ℕ) (m : SeatUnit) (slots : ℕ) (c : List (ℕ 
   )
 
   -- what the machine's unit has with one area more
-  with_more : (a : ℕ) (x : Bool) → ◌≡◌ {A = Progress (net about)} (record { exclusive = x; areas = a ∷ reverse m.areas; cells = held_cells_of m.held; turning_back = false; ticket = None; linked = 0 }) (progress_of about (with_area a x m))
+  with_more : (a : ℕ) (x : Bool) → ◌≡◌ {A = StatementProgress (net about)} (record { exclusive = x; areas = a ∷ reverse m.areas; cells = held_cells_of m.held; turning_back = false; ticket = None; linked = 0 }) (progress_of about (with_area a x m))
   with_more a x = λ i. record { exclusive = x; areas = sym (reverse_more m.areas a) i; cells = held_cells_of m.held; turning_back = false; ticket = None; linked = 0 }
 
   how_latched : (x : Bool) → (m.areas ≡ []) ⊎ (m.exclusive ≡ x) → ((progress_of about m).areas ≡ []) ⊎ (m.exclusive ≡ x)
@@ -113,7 +113,7 @@ module _ (about : About) (id : ℕ) (m : SeatUnit) (slots : ℕ) (c : List (ℕ 
       kept hit =
           let my = mine about s K id m at in
           area_moved about s K id m at a new (with_area a false m) l refl refl refl
-          (subst (λ (p : Progress (net about)). SafeUpdate (net about) (opens about) K.worded.machine (suc m.place) K.worded.machine.location (Some p)) (with_more a false)
+          (subst (λ (p : StatementProgress (net about)). SafeUpdate (net about) (opens about) K.worded.machine (suc m.place) K.worded.machine.location (Some p)) (with_more a false)
           (latches_is_safe (net about) (laws about s K id m at) (opens about) K.worded.machine (suc m.place) my.state (progress_of about m) false a K.worded.lawful my.found my.progress (how_latched false how)
           (nobody_shared about s K id m at a old l hit free)))
           (λ b y ne. latched_more b y false a m how ne)
@@ -144,7 +144,7 @@ module _ (about : About) (id : ℕ) (m : SeatUnit) (slots : ℕ) (c : List (ℕ 
       kept hit =
           let my = mine about s K id m at in
           area_moved about s K id m at a new (with_area a true m) l refl refl refl
-          (subst (λ (p : Progress (net about)). SafeUpdate (net about) (opens about) K.worded.machine (suc m.place) K.worded.machine.location (Some p)) (with_more a true)
+          (subst (λ (p : StatementProgress (net about)). SafeUpdate (net about) (opens about) K.worded.machine (suc m.place) K.worded.machine.location (Some p)) (with_more a true)
           (latches_is_safe (net about) (laws about s K id m at) (opens about) K.worded.machine (suc m.place) my.state (progress_of about m) true a K.worded.lawful my.found my.progress (how_latched true how)
           (nobody_alone about s K id m at a l hit)))
           (λ b y ne. latched_more b y true a m how ne)

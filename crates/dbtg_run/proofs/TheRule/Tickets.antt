@@ -24,7 +24,7 @@ use Rattle.dbtg_unit.specs.Hands.Prepared.{values_of}
 use Rattle.dbtg_unit.specs.Database.Laws.Replay.{entries_of, opening_state, replay, unit_of}
 use Rattle.dbtg_unit.proofs.Public.{entries_mine, entries_other}
 use Rattle.dbtg_step.specs.Machine.SequentialDatabase.{NeedsNothing}
-use Rattle.dbtg_step.specs.Machine.Machine.{Location, HeldBy, State as Machine}
+use Rattle.dbtg_step.specs.Machine.Machine.{CellLocation, HeldBy, State as Machine}
 use Rattle.dbtg_step.specs.Machine.Step.{due_cells}
 use Rattle.dbtg_step.specs.Core.Parts.{held_cells_of, note_of}
 use Rattle.dbtg_step.proofs.Public.{Drawn, draws as draws_anew, fits_more, held_are_due}
@@ -33,7 +33,7 @@ use Rattle.dbtg_run.specs.declared.view.SeatUnit.{SeatUnit}
 use Rattle.dbtg_run.specs.declared.view.SeatKnowledge.{SeatKnowledge}
 use Rattle.dbtg_run.specs.Inside.Views.{put, latched, drawn, total_below}
 use Rattle.dbtg_run.specs.Views.{lone}
-use Rattle.dbtg_run.specs.Inside.LatchRule.{net, opens, area_word, cell_word, progress_of, hands_of, AtHome, AreaOk, Shows, Worded, LatchRule, Recorded, Draws}
+use Rattle.dbtg_run.specs.Inside.LatchRule.{net, opens, area_word, cell_word, progress_of, hands_of, AtHome, AreaOk, Shows, TableShows, LatchRule, Recorded, Draws}
 use Rattle.dbtg_run.specs.Entries.{entry}
 use Rattle.dbtg_run.proofs.TheRule.Base.{put_here, put_else, each_put, below_put, below_same, seats_changed}
 use Rattle.dbtg_run.proofs.TheRule.Alone.{few_entries, tells_real}
@@ -127,7 +127,7 @@ module _ (about : About) (s : State (Option Cell) SeatKnowledge) (K : LatchRule 
   abbrev words_now : List ℕ
   words_now = set s.words 0 ((now + 1) % 2 ^ 64)
 
-  drew : Worded about words_now s.homes new_all
+  drew : TableShows about words_now s.homes new_all
   drew =
       let W = K.worded in
       let area : (a : ℕ) → get_or words_now (area_word a) 0 ≡ get_or s.words (area_word a) 0 = λ a. get_or-set_other s.words 0 (area_word a) ((now + 1) % 2 ^ 64) 0 (λ e. omega arith) in
@@ -154,8 +154,8 @@ module _ (about : About) (s : State (Option Cell) SeatKnowledge) (K : LatchRule 
             (ok_same (get_or s.words (area_word a) 0) (λ y u. latched y a (K.all u)) (λ y u. latched y a (new_all u))
             (λ y u. each_put (λ (u : ℕ) (z : SeatUnit). latched y a z ≡ latched y a (K.all u)) K.all m.place new_member (latched_drawn y a m new_entry unit' held' ∙ sym (ap (λ (z : SeatUnit). latched y a z) (is_known about s K id m at))) (λ u ne. refl) u)
             (W.areas a l));
-        home = λ k c named free. subst (λ (location : CellName → Location CellValue). AtHome location (get_elem? s.homes k) c) (sym draw.1.location) (W.home k c named (sym (cellw k) ∙ free));
-        out = λ k c named busy. ap (λ (location : CellName → Location CellValue). location c) draw.1.location ∙ (W.out k c named (λ z. busy (cellw k ∙ z)) ∙ ap (λ n. HeldBy n) (sym (cellw k)));
+        home = λ k c named free. subst (λ (location : CellName → CellLocation CellValue). AtHome location (get_elem? s.homes k) c) (sym draw.1.location) (W.home k c named (sym (cellw k) ∙ free));
+        out = λ k c named busy. ap (λ (location : CellName → CellLocation CellValue). location c) draw.1.location ∙ (W.out k c named (λ z. busy (cellw k ∙ z)) ∙ ap (λ n. HeldBy n) (sym (cellw k)));
       }
 
   kept_now : LatchRule about record { words = words_now; homes = s.homes; views = set s.views id (lone about new_member) }

@@ -9,13 +9,13 @@ use Rattle.dbtg_unit.specs.declared.unit.Unit.{Unit}
 use Rattle.dbtg_unit.specs.Hands.Hands.{Hands}
 use Rattle.dbtg_step.specs.declared.course.Course.{Course}
 use Rattle.dbtg_step.specs.Inside.Courses.{HasMore}
-use Rattle.dbtg_step.specs.Core.Courses.{IsCourseKept}
+use Rattle.dbtg_step.specs.Core.Courses.{CourseMatches}
 use Rattle.dbtg_step.proofs.Public.{course_stays, more_by_area, more_by_cell}
 
 -- of the same unit, with more in hand
-pub course_goes_on : (schema : Lists) (capacity : ℕ) (hands hands' : Hands) (unit unit' : Unit) (x : Statement) (course : Option Course) → unit' ≡ unit → HasMore hands hands' → IsCourseKept schema capacity hands unit x course → IsCourseKept schema capacity hands' unit' x course
+pub course_goes_on : (schema : Lists) (capacity : ℕ) (hands hands' : Hands) (unit unit' : Unit) (x : Statement) (course : Option Course) → unit' ≡ unit → HasMore hands hands' → CourseMatches schema capacity hands unit x course → CourseMatches schema capacity hands' unit' x course
 course_goes_on schema capacity hands hands' unit unit' x course same more kept =
-    subst (λ (u : Unit). IsCourseKept schema capacity hands' u x course) (sym same) (course_stays schema capacity hands unit hands' more x course kept)
+    subst (λ (u : Unit). CourseMatches schema capacity hands' u x course) (sym same) (course_stays schema capacity hands unit hands' more x course kept)
 
 -- where an area was taken, all is still in hand
 pub all_with_area : (taken : Bool) (old new : Hands) (a : ℕ) (P Q : Type 0) → MatchBool taken ((new ≡ record old { areas = old.areas ++ a ∷ [] }) × P) Q → taken ≡ true → HasMore old new

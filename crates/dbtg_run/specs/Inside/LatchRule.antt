@@ -30,7 +30,7 @@ use Rattle.dbtg_unit.specs.Hands.Local.{Agrees, holds}
 use Rattle.dbtg_unit.specs.Hands.Making.{HaveNextVersions}
 use Rattle.dbtg_unit.specs.Database.Laws.Replay.{IsHistoryOf, entries_of, opening_state, replay as replay_entries, unit_of}
 use Rattle.dbtg_step.specs.Machine.SequentialDatabase.{SequentialDatabase, unit_at}
-use Rattle.dbtg_step.specs.Machine.Machine.{Location, Home, HeldBy, Progress, UnitState, SequentialState, State as Machine}
+use Rattle.dbtg_step.specs.Machine.Machine.{CellLocation, Home, HeldBy, StatementProgress, UnitState, SequentialState, State as Machine}
 use Rattle.dbtg_step.specs.Machine.Lawful.{Lawful}
 use Rattle.dbtg_step.specs.Machine.Network.{network}
 use Rattle.dbtg_step.specs.Machine.Headline.{opening_of}
@@ -75,7 +75,7 @@ abbrev pub database_after : About → List Entry → Database
 database_after about log = (replay_entries about.schema.value about.capacity (opening_state about.schema.value about.units) log).database
 
 -- a member as a unit of the machine
-abbrev pub progress_of : (about : About) → SeatUnit → Progress (net about)
+abbrev pub progress_of : (about : About) → SeatUnit → StatementProgress (net about)
 progress_of about m = record { exclusive = m.exclusive; areas = reverse m.areas; cells = held_cells_of m.held; turning_back = false; ticket = None; linked = 0 }
 
 -- the machine has the member as its unit at place u, numbered from 0, in mid-statement
@@ -92,13 +92,13 @@ pub record AreaOk (word : ℕ) (has : Bool → ℕ → ℕ) : Type 0 where
   pub alone : (u : ℕ) → u < 8 → bit_at word (8 + u) ≡ has true u
 
 -- the slot has cell c, with the value that the machine has at home
-pub record AtHome (location : CellName → Location CellValue) (home : maybe.Option (maybe.Option (Option Cell))) (c : CellName) : Type 0 where
+pub record AtHome (location : CellName → CellLocation CellValue) (home : maybe.Option (maybe.Option (Option Cell))) (c : CellName) : Type 0 where
   pub value : Cell
   pub is : home ≡ some (some (Some value))
   pub location_is : location c ≡ Home (shown value)
 
 -- the words and the homes show the machine
-pub record Worded (about : About) (words : List ℕ) (homes : List (maybe.Option (Option Cell))) (all : ℕ → SeatUnit) : Type 0 where
+pub record TableShows (about : About) (words : List ℕ) (homes : List (maybe.Option (Option Cell))) (all : ℕ → SeatUnit) : Type 0 where
   -- there is such a state, lawful and with a history of statements that fit; and the table has its words
   pub log : List Entry
   pub machine : Machine (net about)
@@ -129,7 +129,7 @@ pub record LatchRule (about : About) (s : State (Option Cell) SeatKnowledge) : T
   pub few : about.units ≤ 8
   pub all : ℕ → SeatUnit
   pub seats : Seated about all s.views
-  pub worded : Worded about s.words s.homes all
+  pub worded : TableShows about s.words s.homes all
 
 -- what a seat has in a step: its view, and the slots in its hands
 abbrev pub Sat : Type 0

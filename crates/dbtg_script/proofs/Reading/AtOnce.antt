@@ -21,7 +21,7 @@ use Rattle.dbtg_script.specs.Inside.StatementGrammar.{Start}
 use Rattle.dbtg_script.specs.StatementFaults.{at_other, faults_from, line_faults, said, when}
 use Rattle.dbtg_script.specs.Statements.{line_statement, prepend, statement_of}
 use Rattle.dbtg_script.specs.Reading.{Refuses, faults_at_once, first_word_faults, lines_faults_at_once, script_faults_at_once}
-use Rattle.dbtg_script.specs.Known.{IsRead}
+use Rattle.dbtg_script.specs.LineCache.{IsRead}
 use Rattle.dbtg_script.specs.Inside.Reading.{MayTakeMemory, at_line}
 use Rattle.dbtg_script.proofs.Reading.Firsts.{first_else}
 use Rattle.dbtg_script.proofs.Reading.ScriptSteps.{none_of_map}

@@ -11,12 +11,12 @@ use Rattle.dbtg_unit.specs.declared.statement.Statement.{Statement}
 use Rattle.dbtg_unit.proofs.Public.{slice_get_front}
 use Rattle.dbtg_script.specs.declared.fault.Cause.{Cause}
 use Rattle.dbtg_script.specs.declared.fault.Cause.TheVariants as cause
-use Rattle.dbtg_script.specs.declared.known.Seen.{Seen}
+use Rattle.dbtg_script.specs.declared.line_cache.Seen.{Seen}
 use Rattle.dbtg_script.specs.Lines.{is_allowed, is_statement}
 use Rattle.dbtg_script.specs.StatementFaults.{statement_faults, when}
 use Rattle.dbtg_script.specs.Statements.{line_statement, prepend}
-use Rattle.dbtg_script.specs.Inside.Known.{Says}
-use Rattle.dbtg_script.specs.Known.{IsKnown, IsRead, IsReadAt}
+use Rattle.dbtg_script.specs.Inside.LineCache.{Says}
+use Rattle.dbtg_script.specs.LineCache.{IsKnown, IsRead, IsReadAt}
 
 -- KEPT AND FOUND
 

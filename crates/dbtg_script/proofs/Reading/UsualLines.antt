@@ -25,7 +25,7 @@ use Rattle.dbtg_script.specs.declared.automaton.State.TheVariants as state
 use Rattle.dbtg_script.specs.declared.fault.Cause.TheVariants as cause
 use Rattle.dbtg_script.specs.declared.role.Role.TheVariants as role
 use Rattle.dbtg_script.specs.Inside.Automaton.{rest_of}
-use Rattle.dbtg_script.specs.Inside.Known.{Says}
+use Rattle.dbtg_script.specs.Inside.LineCache.{Says}
 use Rattle.dbtg_script.specs.Lines.{ends_in_text, is_allowed, is_statement}
 use Rattle.dbtg_script.specs.Lookups.{item_named, set_named, sort_picture, type_named}
 use Rattle.dbtg_script.specs.Printing.Spelling.{is_key, is_signed, number}

@@ -1,7 +1,7 @@
 -- A statement that is never blocked and never turns back has 2 + 2a + 3c events.
 use Rattle.std.proofs.Common.{ℕ, zero, suc, ◌+◌, ◌*◌, ◌≡◌, ◌≤◌, Bool, true, false, ◌||◌, List, [], ◌∷◌, length, Some, None, slice_set, option_and_then, refl, sym, ap, ◌∙◌, subst, arith, lt-ltb, le-ltb, inl, inr}
 use Rattle.dbtg_step.specs.Machine.SequentialDatabase.{HeldCell, NextNeed, NeedsArea, NeedsCell, NeedsNothing, SequentialDatabase, NamesCells, NotAmong, unit_at, with_unit_at}
-use Rattle.dbtg_step.specs.Machine.Machine.{Location, Home, HeldBy, Progress, UnitState, State, SequentialState, replay, relocated, begun, unless_over}
+use Rattle.dbtg_step.specs.Machine.Machine.{CellLocation, Home, HeldBy, StatementProgress, UnitState, State, SequentialState, replay, relocated, begun, unless_over}
 use Rattle.dbtg_step.specs.Machine.Step.{next_need, any_but, any_other, conflicts, updated, with_progress, with_ticket, due_cells, after_ticket, takes_area, takes_cell, follows_need, step, MovedTo}
 use Rattle.dbtg_step.specs.Machine.EventCount.{progress_of, IsOverAfter, HasEvents, TakesAlone, NoneTaken, AreaTaken, CellTaken}
 use Rattle.dbtg_step.proofs.EachEvent.UnitLists.{set_at, relocated_elsewhere, set_again}
@@ -24,18 +24,18 @@ module _ (D : SequentialDatabase) (names : NamesCells D) (opening : SequentialSt
 
   -- AFTER THE TICKET
 
-  goes_on : (n m : ℕ) → m ≡ suc n → (s t : State D) (state : UnitState D) (w : Progress D) → unit_at s.units u ≡ Some state → state.progress ≡ Some w → step D opening s u ≡ MovedTo t → IsOverAfter D opening u n t → IsOverAfter D opening u m s
+  goes_on : (n m : ℕ) → m ≡ suc n → (s t : State D) (state : UnitState D) (w : StatementProgress D) → unit_at s.units u ≡ Some state → state.progress ≡ Some w → step D opening s u ≡ MovedTo t → IsOverAfter D opening u n t → IsOverAfter D opening u m s
   unfolding IsOverAfter
   goes_on n m e s t state w at is moves over = subst (λ k. IsOverAfter D opening u k s) (sym e) ((w, progress_here s state at ∙ is), (t, moves, over))
 
   in_all : (m n : ℕ) (s : State D) → m ≡ n → IsOverAfter D opening u m s → IsOverAfter D opening u n s
   in_all m n s e over = subst (λ k. IsOverAfter D opening u k s) e over
 
-  after_is : (s : State D) (state : UnitState D) (w : Progress D) (b b' : Bool) (cells cells' : List (HeldCell D.Cell D.Value)) (areas areas' : List ℕ) → b ≡ b' → cells ≡ cells' → areas ≡ areas' → after_ticket D s u state w b cells areas ≡ after_ticket D s u state w b' cells' areas'
+  after_is : (s : State D) (state : UnitState D) (w : StatementProgress D) (b b' : Bool) (cells cells' : List (HeldCell D.Cell D.Value)) (areas areas' : List ℕ) → b ≡ b' → cells ≡ cells' → areas ≡ areas' → after_ticket D s u state w b cells areas ≡ after_ticket D s u state w b' cells' areas'
   after_is s state w b b' cells cells' areas areas' e f g = λ i. after_ticket D s u state w (e i) (f i) (g i)
 
   -- all is linked: the cells go back, then the areas are left
-  gives_back : (cells : List (HeldCell D.Cell D.Value)) (areas : List ℕ) (s : State D) (state : UnitState D) (w : Progress D) (t : ℕ) → unit_at s.units u ≡ Some state → state.progress ≡ unless_over D w areas cells → w.ticket ≡ Some t → w.cells ≡ cells → w.areas ≡ areas → length cells ≤ w.linked → IsOverAfter D opening u (length cells + length areas) s
+  gives_back : (cells : List (HeldCell D.Cell D.Value)) (areas : List ℕ) (s : State D) (state : UnitState D) (w : StatementProgress D) (t : ℕ) → unit_at s.units u ≡ Some state → state.progress ≡ unless_over D w areas cells → w.ticket ≡ Some t → w.cells ≡ cells → w.areas ≡ areas → length cells ≤ w.linked → IsOverAfter D opening u (length cells + length areas) s
   unfolding unless_over after_ticket updated IsOverAfter
   gives_back [] [] s state w t at is ticket cs as_ l = progress_here s state at ∙ is
   gives_back [] (a ∷ areas) s state w t at is ticket cs as_ l =
@@ -52,7 +52,7 @@ module _ (D : SequentialDatabase) (names : NamesCells D) (opening : SequentialSt
       some (x ∷ xs) = refl
 
   -- k cells are left to link
-  links : (k : ℕ) (s : State D) (state : UnitState D) (w : Progress D) (t : ℕ) → unit_at s.units u ≡ Some state → state.progress ≡ Some w → w.ticket ≡ Some t → unless_over D w w.areas w.cells ≡ Some w → k + w.linked ≡ length w.cells → IsOverAfter D opening u (k + (length w.cells + length w.areas)) s
+  links : (k : ℕ) (s : State D) (state : UnitState D) (w : StatementProgress D) (t : ℕ) → unit_at s.units u ≡ Some state → state.progress ≡ Some w → w.ticket ≡ Some t → unless_over D w w.areas w.cells ≡ Some w → k + w.linked ≡ length w.cells → IsOverAfter D opening u (k + (length w.cells + length w.areas)) s
   unfolding after_ticket updated unless_over
   links zero s state w t at is ticket more l = in_all (length w.cells + length w.areas) _ s (omega arith) (gives_back w.cells w.areas s state w t at (is ∙ sym more) ticket refl refl (omega (arith, l)))
   links (suc k) s state w t at is ticket more l =
@@ -61,13 +61,13 @@ module _ (D : SequentialDatabase) (names : NamesCells D) (opening : SequentialSt
       (step_after_ticket D opening s u state at w is t ticket ∙ ap MovedTo (after_is s state w _ true _ w.cells _ w.areas (lt-ltb w.linked (length w.cells) (omega (arith, l))) refl refl))
       (links k _ _ next t (set_at s.units u state _ at) refl ticket (holds_on w next w.areas w.cells more) (omega (arith, l)))
     where
-      holds_on : (w v : Progress D) (areas : List ℕ) (cells : List (HeldCell D.Cell D.Value)) → unless_over D w areas cells ≡ Some w → unless_over D v areas cells ≡ Some v
+      holds_on : (w v : StatementProgress D) (areas : List ℕ) (cells : List (HeldCell D.Cell D.Value)) → unless_over D w areas cells ≡ Some w → unless_over D v areas cells ≡ Some v
       holds_on w v [] [] e = absurd (cc (e))
       holds_on w v [] (h ∷ hs) e = refl
       holds_on w v (a ∷ areas) cells e = refl
 
   -- it has just drawn its ticket
-  from_ticket : (s : State D) (state : UnitState D) (w : Progress D) (t : ℕ) → unit_at s.units u ≡ Some state → state.progress ≡ unless_over D w w.areas w.cells → w.ticket ≡ Some t → w.linked ≡ 0 → IsOverAfter D opening u (length w.cells + (length w.cells + length w.areas)) s
+  from_ticket : (s : State D) (state : UnitState D) (w : StatementProgress D) (t : ℕ) → unit_at s.units u ≡ Some state → state.progress ≡ unless_over D w w.areas w.cells → w.ticket ≡ Some t → w.linked ≡ 0 → IsOverAfter D opening u (length w.cells + (length w.cells + length w.areas)) s
   unfolding unless_over IsOverAfter
   from_ticket s state w t at is ticket l = go w.areas w.cells refl refl
     where
@@ -87,10 +87,10 @@ module _ (D : SequentialDatabase) (names : NamesCells D) (opening : SequentialSt
   -- BEFORE THE TICKET
 
   module _ (s : State D) (state : UnitState D) (at : unit_at s.units u ≡ Some state) (x : D.Statement) (xs : List D.Statement) (rest : state.remaining ≡ x ∷ xs) where
-    taking : List ℕ → List (HeldCell D.Cell D.Value) → Progress D
+    taking : List ℕ → List (HeldCell D.Cell D.Value) → StatementProgress D
     taking areas cells = record { exclusive = D.is_exclusive x; areas = areas; cells = cells; turning_back = false; ticket = None; linked = 0 }
 
-    taken_from : List (HeldCell D.Cell D.Value) → D.Cell → Location D.Value
+    taken_from : List (HeldCell D.Cell D.Value) → D.Cell → CellLocation D.Value
     taken_from [] = s.location
     taken_from (h ∷ hs) = relocated D (taken_from hs) h.name (HeldBy u)
 
@@ -116,7 +116,7 @@ module _ (D : SequentialDatabase) (names : NamesCells D) (opening : SequentialSt
     needs areas cells n e = step_follows D opening (having areas cells) u (its areas cells) (found_having areas cells) (taking areas cells) refl x xs refl rest (λ q. absurd (cc (q))) n e
 
     -- an update after an update
-    again : (areas areas' : List ℕ) (cells cells' : List (HeldCell D.Cell D.Value)) (location : D.Cell → Location D.Value) → location ≡ taken_from cells' →
+    again : (areas areas' : List ℕ) (cells cells' : List (HeldCell D.Cell D.Value)) (location : D.Cell → CellLocation D.Value) → location ≡ taken_from cells' →
         updated D (having areas cells) u (its areas cells) location state.guesses (Some (taking areas' cells')) ≡ having areas' cells'
     unfolding having updated its
     again areas areas' cells cells' location e = λ i. record { location = e i; history = s.history; counter = s.counter; units = set_again s.units u (its areas cells) (its areas' cells') i }

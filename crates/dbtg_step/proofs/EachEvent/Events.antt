@@ -2,7 +2,7 @@
 use Rattle.std.proofs.Common.{ℕ, ◌≡◌, ◌≢◌, Bool, true, false, ◌&&◌, ◌||◌, eqb, List, [], ◌∷◌, Some, None, slice_get, ◌⊎◌, inl, inr, refl, sym, ap, ◌∙◌, subst, zero, suc, eq-eqb}
 use Rattle.dbtg_step.specs.Machine.SequentialDatabase.{HeldCell, SequentialDatabase, In, NotAmong, unit_at}
 use Rattle.dbtg_step.specs.Inside.SequentialDatabase.{IsSequentialDatabase}
-use Rattle.dbtg_step.specs.Machine.Machine.{Location, Home, HeldBy, Progress, UnitState, HistoryEntry, State, SequentialState, replay, held_cells, held_areas, holds_exclusively, ticket_of, begun, relocated, all_home, unless_over}
+use Rattle.dbtg_step.specs.Machine.Machine.{CellLocation, Home, HeldBy, StatementProgress, UnitState, HistoryEntry, State, SequentialState, replay, held_cells, held_areas, holds_exclusively, ticket_of, begun, relocated, all_home, unless_over}
 use Rattle.std.specs.List.{list_any}
 use Rattle.std.proofs.lemmas.Bool.{or_right}
 use Rattle.dbtg_step.specs.Machine.Step.{any_but, any_other, conflicts}
@@ -49,7 +49,7 @@ any_other_false p zero xs (suc w) x e n g = list_any_found p xs w x e g
 any_other_false p (suc u) xs (suc w) x e n g = any_but_false p u xs w x e (λ q. n (ap suc q)) g
 
 module _ (D : SequentialDatabase) (laws : IsSequentialDatabase D) (opening : SequentialState D) where
-  pub holds_nothing : (location : D.Cell → Location D.Value) (past : List (HistoryEntry D)) (u : ℕ) → Holding D opening location past u None
+  pub holds_nothing : (location : D.Cell → CellLocation D.Value) (past : List (HistoryEntry D)) (u : ℕ) → Holding D opening location past u None
   unfolding held_cells held_areas ticket_of AreDistinct
   holds_nothing location past u = record {
     held = λ h i. absurd i;
@@ -79,7 +79,7 @@ module _ (D : SequentialDatabase) (laws : IsSequentialDatabase D) (opening : Seq
   }
 
   -- the same cells, areas and ticket
-  pub same_is_safe : (s : State D) (u : ℕ) (state : UnitState D) (v w : Progress D) → Lawful D opening s → unit_at s.units u ≡ Some state → state.progress ≡ Some v → w.cells ≡ v.cells → w.areas ≡ v.areas → w.ticket ≡ v.ticket → w.exclusive ≡ v.exclusive → SafeUpdate D opening s u s.location (Some w)
+  pub same_is_safe : (s : State D) (u : ℕ) (state : UnitState D) (v w : StatementProgress D) → Lawful D opening s → unit_at s.units u ≡ Some state → state.progress ≡ Some v → w.cells ≡ v.cells → w.areas ≡ v.areas → w.ticket ≡ v.ticket → w.exclusive ≡ v.exclusive → SafeUpdate D opening s u s.location (Some w)
   unfolding held_cells held_areas ticket_of holds_exclusively
   same_is_safe s u state v w l at is cs as_ ts xs =
       let old = subst (λ o. Holding D opening s.location s.history u o) is (l.each u state at).holding in
@@ -99,7 +99,7 @@ module _ (D : SequentialDatabase) (laws : IsSequentialDatabase D) (opening : Seq
         share = λ o b n e. rw (as_, xs) (subst (λ y. AreasShared D y b.progress) is (l.apart u o state b (λ q. n (sym q)) at e));
       }
 
-  pub area_is_safe : (s : State D) (u : ℕ) (state : UnitState D) (w : Progress D) (a : ℕ) → Lawful D opening s → unit_at s.units u ≡ Some state → state.progress ≡ Some w → any_other (conflicts D w.exclusive a) u s.units ≡ false → SafeUpdate D opening s u s.location (Some (record w { areas = a ∷ w.areas }))
+  pub area_is_safe : (s : State D) (u : ℕ) (state : UnitState D) (w : StatementProgress D) (a : ℕ) → Lawful D opening s → unit_at s.units u ≡ Some state → state.progress ≡ Some w → any_other (conflicts D w.exclusive a) u s.units ≡ false → SafeUpdate D opening s u s.location (Some (record w { areas = a ∷ w.areas }))
   unfolding held_cells held_areas ticket_of holds_exclusively conflicts
   area_is_safe s u state w a l at is free =
       let old = subst (λ o. Holding D opening s.location s.history u o) is (l.each u state at).holding in
@@ -125,7 +125,7 @@ module _ (D : SequentialDatabase) (laws : IsSequentialDatabase D) (opening : Seq
         ];
       }
 
-  pub take_is_safe : (s : State D) (u : ℕ) (state : UnitState D) (w : Progress D) (c : D.Cell) (v : D.Value) → Lawful D opening s → unit_at s.units u ≡ Some state → state.progress ≡ Some w → w.ticket ≡ None → In (D.area c) w.areas → s.location c ≡ Home v → SafeUpdate D opening s u (relocated D s.location c (HeldBy u)) (Some (record w { cells = record { name = c; value = v } ∷ w.cells }))
+  pub take_is_safe : (s : State D) (u : ℕ) (state : UnitState D) (w : StatementProgress D) (c : D.Cell) (v : D.Value) → Lawful D opening s → unit_at s.units u ≡ Some state → state.progress ≡ Some w → w.ticket ≡ None → In (D.area c) w.areas → s.location c ≡ Home v → SafeUpdate D opening s u (relocated D s.location c (HeldBy u)) (Some (record w { cells = record { name = c; value = v } ∷ w.cells }))
   unfolding held_cells held_areas ticket_of holds_exclusively AreDistinct
   take_is_safe s u state w c v l at is no_ticket within free =
       let old = subst (λ o. Holding D opening s.location s.history u o) is (l.each u state at).holding in
@@ -167,7 +167,7 @@ module _ (D : SequentialDatabase) (laws : IsSequentialDatabase D) (opening : Seq
       }
 
   -- the newest cell goes back
-  pub back_is_safe : (s : State D) (u : ℕ) (state : UnitState D) (v w : Progress D) (h : HeldCell D.Cell D.Value) → Lawful D opening s → unit_at s.units u ≡ Some state → state.progress ≡ Some v → v.cells ≡ h ∷ w.cells → w.areas ≡ v.areas → w.ticket ≡ v.ticket → w.exclusive ≡ v.exclusive → SafeUpdate D opening s u (relocated D s.location h.name (Home h.value)) (Some w)
+  pub back_is_safe : (s : State D) (u : ℕ) (state : UnitState D) (v w : StatementProgress D) (h : HeldCell D.Cell D.Value) → Lawful D opening s → unit_at s.units u ≡ Some state → state.progress ≡ Some v → v.cells ≡ h ∷ w.cells → w.areas ≡ v.areas → w.ticket ≡ v.ticket → w.exclusive ≡ v.exclusive → SafeUpdate D opening s u (relocated D s.location h.name (Home h.value)) (Some w)
   unfolding held_cells held_areas ticket_of holds_exclusively AreDistinct
   back_is_safe s u state v w h l at is cs as_ ts xs =
       let old = subst (λ o. Holding D opening s.location s.history u o) is (l.each u state at).holding in
@@ -207,7 +207,7 @@ module _ (D : SequentialDatabase) (laws : IsSequentialDatabase D) (opening : Seq
       }
 
   -- where no cell is held the newest area is left
-  pub leave_is_safe : (s : State D) (u : ℕ) (state : UnitState D) (v w : Progress D) (a : ℕ) → Lawful D opening s → unit_at s.units u ≡ Some state → state.progress ≡ Some v → v.cells ≡ [] → w.cells ≡ [] → v.areas ≡ a ∷ w.areas → w.ticket ≡ v.ticket → w.exclusive ≡ v.exclusive → SafeUpdate D opening s u s.location (Some w)
+  pub leave_is_safe : (s : State D) (u : ℕ) (state : UnitState D) (v w : StatementProgress D) (a : ℕ) → Lawful D opening s → unit_at s.units u ≡ Some state → state.progress ≡ Some v → v.cells ≡ [] → w.cells ≡ [] → v.areas ≡ a ∷ w.areas → w.ticket ≡ v.ticket → w.exclusive ≡ v.exclusive → SafeUpdate D opening s u s.location (Some w)
   unfolding held_cells held_areas ticket_of holds_exclusively AreDistinct
   leave_is_safe s u state v w a l at is none nothing as_ ts xs =
       let old = subst (λ o. Holding D opening s.location s.history u o) is (l.each u state at).holding in
@@ -228,7 +228,7 @@ module _ (D : SequentialDatabase) (laws : IsSequentialDatabase D) (opening : Seq
       }
 
   -- the statement of a unit that holds nothing any more is over
-  pub over_is_safe : (s : State D) (u : ℕ) (location : D.Cell → Location D.Value) (w : Progress D) (areas : List ℕ) (cells : List (HeldCell D.Cell D.Value)) → w.cells ≡ cells → SafeUpdate D opening s u location (Some w) → SafeUpdate D opening s u location (unless_over D w areas cells)
+  pub over_is_safe : (s : State D) (u : ℕ) (location : D.Cell → CellLocation D.Value) (w : StatementProgress D) (areas : List ℕ) (cells : List (HeldCell D.Cell D.Value)) → w.cells ≡ cells → SafeUpdate D opening s u location (Some w) → SafeUpdate D opening s u location (unless_over D w areas cells)
   unfolding held_cells held_areas ticket_of holds_exclusively unless_over
   over_is_safe s u location w [] [] cs q = record {
     holding = holds_nothing location s.history u;
@@ -241,13 +241,13 @@ module _ (D : SequentialDatabase) (laws : IsSequentialDatabase D) (opening : Seq
   over_is_safe s u location w [] (h ∷ hs) cs q = q
   over_is_safe s u location w (a ∷ areas) cells cs q = q
 
-  pub record WentHome (cells : List (HeldCell D.Cell D.Value)) (c : D.Cell) (q : Location D.Value) : Type 0 where
+  pub record WentHome (cells : List (HeldCell D.Cell D.Value)) (c : D.Cell) (q : CellLocation D.Value) : Type 0 where
     pub which : HeldCell D.Cell D.Value
     pub is_in : In which cells
     pub name : c ≡ which.name
     pub value : Home which.value ≡ q
 
-  pub all_home_found : (location : D.Cell → Location D.Value) (cells : List (HeldCell D.Cell D.Value)) (c : D.Cell) (q : Location D.Value) → all_home D location cells c ≡ q → WentHome cells c q ⊎ (NotAmong D c cells × (location c ≡ q))
+  pub all_home_found : (location : D.Cell → CellLocation D.Value) (cells : List (HeldCell D.Cell D.Value)) (c : D.Cell) (q : CellLocation D.Value) → all_home D location cells c ≡ q → WentHome cells c q ⊎ (NotAmong D c cells × (location c ≡ q))
   unfolding all_home
   all_home_found location [] c q e = inr ((λ h i. absurd i), e)
   all_home_found location (h ∷ hs) c q e = elim (all_home_found (relocated D location h.name (Home h.value)) hs c q e) [
@@ -258,14 +258,14 @@ module _ (D : SequentialDatabase) (laws : IsSequentialDatabase D) (opening : Seq
     ]
   ]
 
-  pub all_home_elsewhere : (location : D.Cell → Location D.Value) (cells : List (HeldCell D.Cell D.Value)) (c : D.Cell) → NotAmong D c cells → all_home D location cells c ≡ location c
+  pub all_home_elsewhere : (location : D.Cell → CellLocation D.Value) (cells : List (HeldCell D.Cell D.Value)) (c : D.Cell) → NotAmong D c cells → all_home D location cells c ≡ location c
   unfolding all_home
   all_home_elsewhere location [] c n = refl
   all_home_elsewhere location (h ∷ hs) c n =
       all_home_elsewhere (relocated D location h.name (Home h.value)) hs c (λ k i. n k (inr i))
       ∙ relocated_elsewhere D laws.names location h.name c (Home h.value) (λ q. n h (inl refl) (sym q))
 
-  pub quit_is_safe : (s : State D) (u : ℕ) (state : UnitState D) (w : Progress D) → Lawful D opening s → unit_at s.units u ≡ Some state → state.progress ≡ Some w → SafeUpdate D opening s u (all_home D s.location w.cells) None
+  pub quit_is_safe : (s : State D) (u : ℕ) (state : UnitState D) (w : StatementProgress D) → Lawful D opening s → unit_at s.units u ≡ Some state → state.progress ≡ Some w → SafeUpdate D opening s u (all_home D s.location w.cells) None
   unfolding held_cells held_areas ticket_of holds_exclusively AreDistinct
   quit_is_safe s u state w l at is =
       let old = subst (λ o. Holding D opening s.location s.history u o) is (l.each u state at).holding in

@@ -1,7 +1,7 @@
 -- The image of a lawful state shows the sequential database.
 use Rattle.std.proofs.Common.{ℕ, ◌≡◌, Option, Some, None, inl, inr, refl, subst, sym, ap, ◌∙◌, suc, take}
 use Rattle.dbtg_step.specs.Machine.SequentialDatabase.{HeldCell, SequentialDatabase, In, unit_at}
-use Rattle.dbtg_step.specs.Machine.Machine.{Location, Home, HeldBy, UnitState, State, SequentialState, replay, held_cells, ticket_of}
+use Rattle.dbtg_step.specs.Machine.Machine.{CellLocation, Home, HeldBy, UnitState, State, SequentialState, replay, held_cells, ticket_of}
 use Rattle.dbtg_step.specs.Machine.Lawful.{Lawful, ShownAs, ImageHas}
 
 module _ (D : SequentialDatabase) (opening : SequentialState D) (s : State D) (l : Lawful D opening s) where
@@ -24,7 +24,7 @@ module _ (D : SequentialDatabase) (opening : SequentialState D) (s : State D) (l
   pub image_has : (c : D.Cell) → (v : D.Value) × ImageHas D opening s c v
   image_has c = go (s.location c) refl
     where
-      go : (p : Location D.Value) → s.location c ≡ p → (v : D.Value) × ImageHas D opening s c v
+      go : (p : CellLocation D.Value) → s.location c ≡ p → (v : D.Value) × ImageHas D opening s c v
       go (Home v) e = (v, inl e)
       go (HeldBy u) e =
           let h = l.holder c u e in

@@ -1,7 +1,7 @@
 -- What a step is, by the case at hand.
 use Rattle.std.proofs.Common.{ℕ, ◌≡◌, Bool, true, false, ltb, List, [], ◌∷◌, length, Some, None, refl, ap, ◌∙◌}
 use Rattle.dbtg_step.specs.Machine.SequentialDatabase.{HeldCell, SequentialDatabase, NextNeed, NeedsArea, NeedsCell, unit_at}
-use Rattle.dbtg_step.specs.Machine.Machine.{Location, Home, Progress, UnitState, State, SequentialState, begun, relocated}
+use Rattle.dbtg_step.specs.Machine.Machine.{CellLocation, Home, StatementProgress, UnitState, State, SequentialState, begun, relocated}
 use Rattle.dbtg_step.specs.Machine.Step.{next_need, MovedTo, IsIdle, updated, conflicts, any_other, is_nonempty, after_ticket, takes_area, takes_cell, follows_need, before_ticket, in_statement, step_of_unit, step_if_unit, step}
 
 module _ (D : SequentialDatabase) (opening : SequentialState D) (s : State D) (u : ℕ) where
@@ -18,7 +18,7 @@ module _ (D : SequentialDatabase) (opening : SequentialState D) (s : State D) (u
     unfolding step step_if_unit step_of_unit
     step_begins x xs e r = ap (step_if_unit D opening s u) at ∙ (ap (λ w. step_of_unit D opening s u state w state.remaining) e ∙ ap (λ xs. step_of_unit D opening s u state None xs) r)
 
-    module _ (w : Progress D) (is : state.progress ≡ Some w) where
+    module _ (w : StatementProgress D) (is : state.progress ≡ Some w) where
       at_this : step D opening s u ≡ in_statement D opening s u state w w.ticket state.remaining
       unfolding step step_if_unit step_of_unit
       at_this = ap (step_if_unit D opening s u) at ∙ ap (λ o. step_of_unit D opening s u state o state.remaining) is
@@ -50,6 +50,6 @@ module _ (D : SequentialDatabase) (opening : SequentialState D) (s : State D) (u
         unfolding follows_need
         follows_area a b e = ap (takes_area D s u state w a) e
 
-        pub follows_cell : (c : D.Cell) (p : Location D.Value) → s.location c ≡ p → follows_need D opening s u state w x xs (NeedsCell c) ≡ takes_cell D s u state w c p
+        pub follows_cell : (c : D.Cell) (p : CellLocation D.Value) → s.location c ≡ p → follows_need D opening s u state w x xs (NeedsCell c) ≡ takes_cell D s u state w c p
         unfolding follows_need
         follows_cell c p e = ap (takes_cell D s u state w c) e

@@ -2,7 +2,7 @@
 use Rattle.std.proofs.Common.{ℕ, zero, suc, ◌≡◌, ◌≢◌, ◌≤◌, Bool, true, false, cond, eqb, eq-eqb, ne_eqb, List, [], ◌∷◌, ◌++◌, length, take, Option, Some, slice_get, ◌⊎◌, inl, inr, refl, sym, ap, ◌∙◌, subst, arith, length-append}
 use Rattle.std.proofs.lemmas.List.{take-append-le}
 use Rattle.dbtg_step.specs.Machine.SequentialDatabase.{HeldCell, SequentialDatabase, In, unit_at, with_unit_at}
-use Rattle.dbtg_step.specs.Machine.Machine.{Location, HeldBy, Progress, HistoryEntry, SequentialState, with_effect, after_entry, replay, AnswersHold, statements_of, held_cells, held_areas, holds_exclusively, ticket_of, unless_over}
+use Rattle.dbtg_step.specs.Machine.Machine.{CellLocation, HeldBy, StatementProgress, HistoryEntry, SequentialState, with_effect, after_entry, replay, AnswersHold, statements_of, held_cells, held_areas, holds_exclusively, ticket_of, unless_over}
 use Rattle.dbtg_step.specs.Machine.Step.{due_cells}
 use Rattle.dbtg_step.specs.Machine.Lawful.{Holding, AreasShared, HoldsCell, AreDistinct}
 
@@ -70,7 +70,7 @@ module _ (D : SequentialDatabase) where
   due_apart db (k ∷ ks) a = ((λ h i q. let d = due_found db ks h i in a.0 d.from d.is_in (sym d.name ∙ q)), due_apart db ks a.1)
 
   -- the same of a statement that is over, with nothing held
-  pub holding_over : (opening : SequentialState D) (location : D.Cell → Location D.Value) (past : List (HistoryEntry D)) (u : ℕ) (w : Progress D) (areas : List ℕ) (cells : List (HeldCell D.Cell D.Value)) → Holding D opening location past u (Some w) → Holding D opening location past u (unless_over D w areas cells)
+  pub holding_over : (opening : SequentialState D) (location : D.Cell → CellLocation D.Value) (past : List (HistoryEntry D)) (u : ℕ) (w : StatementProgress D) (areas : List ℕ) (cells : List (HeldCell D.Cell D.Value)) → Holding D opening location past u (Some w) → Holding D opening location past u (unless_over D w areas cells)
   unfolding unless_over held_cells held_areas ticket_of AreDistinct
   holding_over opening location past u w [] [] h = record {
     held = λ h i. absurd i;
@@ -83,19 +83,19 @@ module _ (D : SequentialDatabase) where
   holding_over opening location past u w [] (x ∷ xs) h = h
   holding_over opening location past u w (a ∷ areas) cells h = h
 
-  pub holds_over : (w : Progress D) (areas : List ℕ) (cells : List (HeldCell D.Cell D.Value)) (c : D.Cell) → w.cells ≡ cells → HoldsCell D (Some w) c → HoldsCell D (unless_over D w areas cells) c
+  pub holds_over : (w : StatementProgress D) (areas : List ℕ) (cells : List (HeldCell D.Cell D.Value)) (c : D.Cell) → w.cells ≡ cells → HoldsCell D (Some w) c → HoldsCell D (unless_over D w areas cells) c
   unfolding unless_over held_cells
   holds_over w [] [] c e h = let i = subst (λ x. In h.which x) e h.is_in in absurd i
   holds_over w [] (x ∷ xs) c e h = h
   holds_over w (a ∷ areas) cells c e h = h
 
-  pub shared_over : (w : Progress D) (areas : List ℕ) (cells : List (HeldCell D.Cell D.Value)) (v : Option (Progress D)) → AreasShared D (Some w) v → AreasShared D (unless_over D w areas cells) v
+  pub shared_over : (w : StatementProgress D) (areas : List ℕ) (cells : List (HeldCell D.Cell D.Value)) (v : Option (StatementProgress D)) → AreasShared D (Some w) v → AreasShared D (unless_over D w areas cells) v
   unfolding unless_over held_areas holds_exclusively
   shared_over w [] [] v h = λ a i j. absurd i
   shared_over w [] (x ∷ xs) v h = h
   shared_over w (a ∷ areas) cells v h = h
 
-  pub shared_back : (v w : Option (Progress D)) → AreasShared D v w → AreasShared D w v
+  pub shared_back : (v w : Option (StatementProgress D)) → AreasShared D v w → AreasShared D w v
   shared_back v w h = λ a i j. ((h a j i).1, (h a j i).0)
 
   -- the world after one more entry
@@ -104,7 +104,7 @@ module _ (D : SequentialDatabase) where
   state_next opening past e unit g = replay_next opening past e ∙ after_found (replay D opening past) e unit g
 
   -- what another unit holds stands, where the entry leaves these cells as they were
-  pub holding_stays : (opening : SequentialState D) (location : D.Cell → Location D.Value) (past : List (HistoryEntry D)) (e : HistoryEntry D) (u : ℕ) (progress : Option (Progress D)) →
+  pub holding_stays : (opening : SequentialState D) (location : D.Cell → CellLocation D.Value) (past : List (HistoryEntry D)) (e : HistoryEntry D) (u : ℕ) (progress : Option (StatementProgress D)) →
       ((c : D.Cell) → location c ≡ HeldBy u → D.cell (replay D opening (past ++ e ∷ [])).database c ≡ D.cell (replay D opening past).database c) →
       Holding D opening location past u progress → Holding D opening location (past ++ e ∷ []) u progress
   holding_stays opening location past e u progress same h = record {

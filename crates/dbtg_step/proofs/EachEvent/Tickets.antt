@@ -3,7 +3,7 @@ use Rattle.std.proofs.Common.{ℕ, suc, ◌≡◌, ◌≢◌, false, List, [], �
 use Rattle.std.proofs.lemmas.Bool.Decides.{eqb_tells}
 use Rattle.dbtg_step.specs.Machine.SequentialDatabase.{SequentialDatabase, In, NotAmong, NeedsNothing, unit_at, with_unit_at}
 use Rattle.dbtg_step.specs.Inside.SequentialDatabase.{IsSequentialDatabase}
-use Rattle.dbtg_step.specs.Machine.Machine.{HeldBy, Progress, UnitState, HistoryEntry, State, SequentialState, replay, statements_of, held_cells, held_areas, holds_exclusively, ticket_of, unless_over}
+use Rattle.dbtg_step.specs.Machine.Machine.{HeldBy, StatementProgress, UnitState, HistoryEntry, State, SequentialState, replay, statements_of, held_cells, held_areas, holds_exclusively, ticket_of, unless_over}
 use Rattle.dbtg_step.specs.Machine.Step.{with_ticket, due_cells, next_need}
 use Rattle.dbtg_step.specs.Machine.Lawful.{Holding, UnitLawful, AreasShared, HoldsCell, IsHolder, Lawful}
 use Rattle.dbtg_step.proofs.EachEvent.UnitLists.{set_found, set_at, set_elsewhere, map_set}
@@ -11,7 +11,7 @@ use Rattle.dbtg_step.proofs.EachEvent.UnitFacts.{holder_has_cell, may_make}
 use Rattle.dbtg_step.proofs.EachEvent.TicketParts.{append_found, take_all_more, answers_next, statements_of_it, statements_of_other, due_found, due_of, due_apart, holding_over, holds_over, shared_over, shared_back, state_next, holding_stays}
 
 module _ (D : SequentialDatabase) (laws : IsSequentialDatabase D) (opening : SequentialState D) where
-  pub ticket_keeps : (s : State D) (u : ℕ) (state : UnitState D) (w : Progress D) (x : D.Statement) (xs : List D.Statement) → Lawful D opening s → unit_at s.units u ≡ Some state → state.progress ≡ Some w → state.remaining ≡ x ∷ xs → next_need D opening s state w x ≡ NeedsNothing → Lawful D opening (with_ticket D opening s u state w x xs)
+  pub ticket_keeps : (s : State D) (u : ℕ) (state : UnitState D) (w : StatementProgress D) (x : D.Statement) (xs : List D.Statement) → Lawful D opening s → unit_at s.units u ≡ Some state → state.progress ≡ Some w → state.remaining ≡ x ∷ xs → next_need D opening s state w x ≡ NeedsNothing → Lawful D opening (with_ticket D opening s u state w x xs)
   unfolding with_ticket next_need held_cells held_areas ticket_of holds_exclusively
   ticket_keeps s u state w x xs l at is remaining ready =
       let past = s.history in
@@ -23,7 +23,7 @@ module _ (D : SequentialDatabase) (laws : IsSequentialDatabase D) (opening : Seq
       let next : replay D opening (past ++ entry ∷ []) ≡ record { database = e.database; units = with_unit_at q.units u e.unit } = state_next D opening past entry state.unit may.found in
       let next_db : (replay D opening (past ++ entry ∷ [])).database ≡ e.database = ap (λ (y : SequentialState D). y.database) next in
       let local = laws.local q.database q.units u state.unit x state.guesses w.areas w.cells may old.values ready in
-      let progress : Progress D = record { exclusive = w.exclusive; areas = w.areas; cells = due_cells D e.database w.cells; turning_back = false; ticket = Some s.counter; linked = 0 } in
+      let progress : StatementProgress D = record { exclusive = w.exclusive; areas = w.areas; cells = due_cells D e.database w.cells; turning_back = false; ticket = Some s.counter; linked = 0 } in
       let over = unless_over D progress w.areas (due_cells D e.database w.cells) in
       let new : UnitState D = record { unit = e.unit; guesses = D.guesses_after q.database state.unit x state.guesses; script = state.script; remaining = xs; progress = over } in
       let untouched : (c : D.Cell) → NotAmong D c w.cells → D.cell (replay D opening (past ++ entry ∷ [])).database c ≡ D.cell q.database c = λ c n. rw next_db (local.others c n) in

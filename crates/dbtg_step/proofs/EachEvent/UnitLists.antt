@@ -6,7 +6,7 @@ use Rattle.std.proofs.lemmas.Bool.{false_from_ne_true}
 use Rattle.std.proofs.lemmas.List.{set-set, map-set}
 use Rattle.dbtg_cells.proofs.Public.{get_set_other}
 use Rattle.dbtg_step.specs.Machine.SequentialDatabase.{SequentialDatabase, NamesCells, unit_at, with_unit_at}
-use Rattle.dbtg_step.specs.Machine.Machine.{Location, relocated}
+use Rattle.dbtg_step.specs.Machine.Machine.{CellLocation, relocated}
 
 -- BY INDEX
 
@@ -97,17 +97,17 @@ cond_tells true x y z e = inl (refl, e)
 cond_tells false x y z e = inr (refl, e)
 
 module _ (D : SequentialDatabase) (names : NamesCells D) where
-  pub relocated_found : (location : D.Cell → Location D.Value) (c d : D.Cell) (p q : Location D.Value) → relocated D location c p d ≡ q → ((d ≡ c) × (p ≡ q)) ⊎ ((d ≢ c) × (location d ≡ q))
+  pub relocated_found : (location : D.Cell → CellLocation D.Value) (c d : D.Cell) (p q : CellLocation D.Value) → relocated D location c p d ≡ q → ((d ≡ c) × (p ≡ q)) ⊎ ((d ≢ c) × (location d ≡ q))
   unfolding relocated
   relocated_found location c d p q e = elim (cond_tells (D.same_name d c) p (location d) q e) [
     | inl h ↦ inl (names.same_is d c h.0, h.1)
     | inr h ↦ inr ((λ k. let t : D.same_name d c ≡ true = subst (λ x. D.same_name d x ≡ true) k (names.same_self d) in cc), h.1)
   ]
 
-  pub relocated_at : (location : D.Cell → Location D.Value) (c : D.Cell) (p : Location D.Value) → relocated D location c p c ≡ p
+  pub relocated_at : (location : D.Cell → CellLocation D.Value) (c : D.Cell) (p : CellLocation D.Value) → relocated D location c p c ≡ p
   unfolding relocated
   relocated_at location c p = rw (names.same_self c)
 
-  pub relocated_elsewhere : (location : D.Cell → Location D.Value) (c d : D.Cell) (p : Location D.Value) → d ≢ c → relocated D location c p d ≡ location d
+  pub relocated_elsewhere : (location : D.Cell → CellLocation D.Value) (c d : D.Cell) (p : CellLocation D.Value) → d ≢ c → relocated D location c p d ≡ location d
   unfolding relocated
   relocated_elsewhere location c d p n = rw (false_from_ne_true (D.same_name d c) (λ t. n (names.same_is d c t)))

@@ -2,13 +2,13 @@
 use Rattle.std.proofs.Common.{ℕ, ◌≡◌, ◌≢◌, List, Option, Some, inl, inr, refl, sym, ◌∙◌, subst}
 use Rattle.std.proofs.lemmas.Bool.Decides.{eqb_tells}
 use Rattle.dbtg_step.specs.Machine.SequentialDatabase.{SequentialDatabase, unit_at, with_unit_at}
-use Rattle.dbtg_step.specs.Machine.Machine.{Location, Home, HeldBy, Progress, UnitState, HistoryEntry, State, SequentialState, replay}
+use Rattle.dbtg_step.specs.Machine.Machine.{CellLocation, Home, HeldBy, StatementProgress, UnitState, HistoryEntry, State, SequentialState, replay}
 use Rattle.dbtg_step.specs.Machine.Step.{updated}
 use Rattle.dbtg_step.specs.Machine.Lawful.{Holding, UnitLawful, AreasShared, HoldsCell, IsHolder, Lawful}
 use Rattle.dbtg_step.proofs.EachEvent.UnitLists.{set_found, set_at, set_elsewhere, map_set_same}
 
 module _ (D : SequentialDatabase) (opening : SequentialState D) where
-  pub record SafeUpdate (s : State D) (u : ℕ) (location : D.Cell → Location D.Value) (progress : Option (Progress D)) : Type 0 where
+  pub record SafeUpdate (s : State D) (u : ℕ) (location : D.Cell → CellLocation D.Value) (progress : Option (StatementProgress D)) : Type 0 where
     pub holding : Holding D opening location s.history u progress
     pub others : (c : D.Cell) (w : ℕ) → w ≢ u → s.location c ≡ HeldBy w → location c ≡ HeldBy w
     pub back : (c : D.Cell) (w : ℕ) → w ≢ u → location c ≡ HeldBy w → s.location c ≡ HeldBy w
@@ -17,13 +17,13 @@ module _ (D : SequentialDatabase) (opening : SequentialState D) where
     pub share : (w : ℕ) (b : UnitState D) → w ≢ u → unit_at s.units w ≡ Some b → AreasShared D progress b.progress
 
   -- what another unit holds is not touched
-  pub holding_carried : (location after : D.Cell → Location D.Value) (past : List (HistoryEntry D)) (w : ℕ) (progress : Option (Progress D)) → ((c : D.Cell) → location c ≡ HeldBy w → after c ≡ HeldBy w) → Holding D opening location past w progress → Holding D opening after past w progress
+  pub holding_carried : (location after : D.Cell → CellLocation D.Value) (past : List (HistoryEntry D)) (w : ℕ) (progress : Option (StatementProgress D)) → ((c : D.Cell) → location c ≡ HeldBy w → after c ≡ HeldBy w) → Holding D opening location past w progress → Holding D opening after past w progress
   holding_carried location after past w progress same h = record { held = λ x i. same x.name (h.held x i); values = h.values; in_area = h.in_area; distinct = h.distinct; ticket = h.ticket; due = h.due }
 
-  shared_turned : (v w : Option (Progress D)) → AreasShared D v w → AreasShared D w v
+  shared_turned : (v w : Option (StatementProgress D)) → AreasShared D v w → AreasShared D w v
   shared_turned v w h = λ a i j. ((h a j i).1, (h a j i).0)
 
-  pub safe_update_keeps : (s : State D) (u : ℕ) (state : UnitState D) (location : D.Cell → Location D.Value) (guesses : D.Guesses) (progress : Option (Progress D)) → Lawful D opening s → unit_at s.units u ≡ Some state → SafeUpdate s u location progress → Lawful D opening (updated D s u state location guesses progress)
+  pub safe_update_keeps : (s : State D) (u : ℕ) (state : UnitState D) (location : D.Cell → CellLocation D.Value) (guesses : D.Guesses) (progress : Option (StatementProgress D)) → Lawful D opening s → unit_at s.units u ≡ Some state → SafeUpdate s u location progress → Lawful D opening (updated D s u state location guesses progress)
   unfolding updated
   safe_update_keeps s u state location guesses progress l at q =
       let new : UnitState D = record { unit = state.unit; guesses = guesses; script = state.script; remaining = state.remaining; progress = progress } in

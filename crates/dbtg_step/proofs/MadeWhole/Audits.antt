@@ -11,10 +11,10 @@ use Rattle.dbtg_schema.specs.Lists.{Lists}
 use Rattle.dbtg_cells.proofs.Public.{get_behind}
 use Rattle.dbtg_unit.specs.declared.unit.Entry.{Entry}
 use Rattle.dbtg_unit.specs.declared.unit.Unit.{Unit}
-use Rattle.dbtg_unit.specs.Database.Statements.Effect.{Outcome, effect}
+use Rattle.dbtg_unit.specs.Database.Statements.Effect.{StatementEffect, effect}
 use Rattle.dbtg_unit.specs.Database.Statements.Fits.{fits}
 use Rattle.dbtg_unit.specs.Database.State.Image.{image_of}
-use Rattle.dbtg_unit.specs.Database.Laws.Replay.{State, AnswersHold, IsHistoryOf, TicketsInOrder, after_entry, after_outcome, answer_to, opening_state, outcome_of, replay}
+use Rattle.dbtg_unit.specs.Database.Laws.Replay.{State, AnswersHold, IsHistoryOf, TicketsInOrder, after_entry, after_effect, answer_to, opening_state, effect_of_unit, replay}
 use Rattle.dbtg_unit.proofs.Public.{answers_behind, opening_length, replays_one_more, slice_get_range}
 use Rattle.dbtg_step.specs.declared.results.Run.{Run}
 use Rattle.dbtg_step.specs.Inside.Audit.{GoesOn, HasJoined, MayStand}
@@ -49,12 +49,12 @@ on_err (Err e) P p = p
 pub unit_is_there : (schema : Lists) (capacity : ℕ) (state : State) (entry : Entry) → answer_to schema capacity state entry ≡ Some entry.answer → (0 < entry.unit) × (entry.unit ≤ length state.units)
 unit_is_there schema capacity state entry e = by entry.unit e
   where
-    within : (units : List Unit) (n : ℕ) (f : Unit → Outcome) → option_map (λ (o : Outcome). o.answer) (option_map f (slice_get units n)) ≡ Some entry.answer → n < length units
+    within : (units : List Unit) (n : ℕ) (f : Unit → StatementEffect) → option_map (λ (o : StatementEffect). o.answer) (option_map f (slice_get units n)) ≡ Some entry.answer → n < length units
     within [] n f e = absurd (cc (e))
     within (y ∷ ys) zero f e = omega arith
     within (y ∷ ys) (suc n) f e = let l = within ys n f e in omega (arith, l)
 
-    by : (number : ℕ) → option_map (λ (o : Outcome). o.answer) (outcome_of schema capacity state number entry.statement) ≡ Some entry.answer → (0 < number) × (number ≤ length state.units)
+    by : (number : ℕ) → option_map (λ (o : StatementEffect). o.answer) (effect_of_unit schema capacity state number entry.statement) ≡ Some entry.answer → (0 < number) × (number ≤ length state.units)
     by zero e = absurd (cc (e))
     by (suc n) e = let l = within state.units n (λ unit. effect schema capacity state.database unit entry.statement) e in (omega arith, omega (arith, l))
 
@@ -69,7 +69,7 @@ module _ (entry : Entry) (old new : Making) (has : HasMade old entry.unit entry.
   joined t e = has.new_is ∙ (λ i. record old { history = old.history ++ record { ticket = sym t i; unit = entry.unit; statement = entry.statement; answer = e i } ∷ [] })
 
   same_answer : GoesOn old entry → has.outcome.answer ≡ entry.answer
-  same_answer g = same_Some has.outcome.answer entry.answer (sym (ap (option_map (λ (o : Outcome). o.answer)) has.outcome_is) ∙ g.answer)
+  same_answer g = same_Some has.outcome.answer entry.answer (sym (ap (option_map (λ (o : StatementEffect). o.answer)) has.outcome_is) ∙ g.answer)
 
   pub decided : entry.ticket ≡ length old.history → (follows : Bool) → Decides follows (has.outcome.answer ≡ entry.answer) → MatchBool follows (HasJoined entry old new) (GoesOn old entry → ⊥)
   decided t true d = joined t (d.0 refl)
@@ -125,9 +125,9 @@ module _ (schema : Lists) (units : ℕ) where
 
 -- a statement makes no unit
 as_many : (schema : Lists) (capacity : ℕ) (state : State) (entry : Entry) → length (after_entry schema capacity state entry).units ≡ length state.units
-as_many schema capacity state entry = by (outcome_of schema capacity state entry.unit entry.statement)
+as_many schema capacity state entry = by (effect_of_unit schema capacity state entry.unit entry.statement)
   where
-    by : (o : Option Outcome) → length (after_outcome state entry.unit o).units ≡ length state.units
+    by : (o : Option StatementEffect) → length (after_effect state entry.unit o).units ≡ length state.units
     by None = refl
     by (Some o) = length-set state.units (entry.unit - 1) o.unit
 

@@ -16,7 +16,7 @@ use Rattle.dbtg_unit.specs.Database.Laws.Replaying.{statements_of}
 use Rattle.dbtg_unit.specs.Database.State.Units.{opening_unit}
 use Rattle.dbtg_unit.proofs.Public.{opening_is_legal, statements_determine}
 use Rattle.dbtg_step.specs.Machine.SequentialDatabase.{unit_at}
-use Rattle.dbtg_step.specs.Machine.Machine.{HistoryEntry, Location, SequentialState, State, UnitState, replay}
+use Rattle.dbtg_step.specs.Machine.Machine.{HistoryEntry, CellLocation, SequentialState, State, UnitState, replay}
 use Rattle.dbtg_step.specs.Machine.Lawful.{IsOpening}
 use Rattle.dbtg_step.specs.Inside.NeverStuck.{AllInTurn}
 use Rattle.dbtg_step.specs.Machine.Network.{network}
@@ -65,7 +65,7 @@ at_end xs ys y n e = ap (slice_get (xs ++ y ∷ ys)) e ∙ here xs
 abbrev before_script : (schema : Lists) (capacity n : ℕ) → List Statement → UnitState (network schema capacity)
 before_script schema capacity n script = record { unit = opening_unit schema n; guesses = replicate (length schema.sets) None; script = script; remaining = script; progress = None }
 
-module _ (schema : Lists) (capacity : ℕ) (location : CellName → Location CellValue) (history : List (HistoryEntry (network schema capacity))) (counter : ℕ) where
+module _ (schema : Lists) (capacity : ℕ) (location : CellName → CellLocation CellValue) (history : List (HistoryEntry (network schema capacity))) (counter : ℕ) where
   stand_from : (front : List (UnitState (network schema capacity))) (scripts : List (List Statement)) (n : ℕ) → n ≡ suc (length front) →
       Stand schema capacity scripts n (record { location = location; history = history; counter = counter; units = front ++ units_from schema capacity n scripts })
   unfolding unit_at

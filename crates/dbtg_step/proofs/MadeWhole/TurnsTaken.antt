@@ -14,7 +14,7 @@ use Rattle.dbtg_unit.specs.declared.statement.Statement.{Statement}
 use Rattle.dbtg_unit.specs.declared.unit.Entry.{Entry}
 use Rattle.dbtg_unit.proofs.Public.{opening_is_legal}
 use Rattle.dbtg_step.specs.declared.parts.Parts.{Parts}
-use Rattle.dbtg_step.specs.declared.parts.Runner.{Runner}
+use Rattle.dbtg_step.specs.declared.parts.UnitState.{UnitState as CoreUnit}
 use Rattle.dbtg_step.specs.declared.results.Run.{Run}
 use Rattle.dbtg_step.specs.declared.taking_turns.Noted.{Noted}
 use Rattle.dbtg_step.specs.Machine.SequentialDatabase.{SequentialDatabase, unit_at, with_unit_at}
@@ -165,7 +165,7 @@ pub record OnTheWay (schema : Lists) (capacity u n : ℕ) (old now : Parts) (bef
 
 module _ (schema : Lists) (capacity u n : ℕ) where
   -- before the first step
-  pub sets_out : (old : Parts) (noted : Noted) (r : Runner) → IsWell schema capacity old → AllBetween (network schema capacity) (state_of schema capacity old) → 0 < u → slice_get old.runners.items (u - 1) ≡ Some r →
+  pub sets_out : (old : Parts) (noted : Noted) (r : CoreUnit) → IsWell schema capacity old → AllBetween (network schema capacity) (state_of schema capacity old) → 0 < u → slice_get old.runners.items (u - 1) ≡ Some r →
       length (unit_state_of schema capacity r).remaining ≡ suc n → OnTheWay schema capacity u n old old noted noted
   unfolding AreEvents
   sets_out old noted r well between numbered at left =
@@ -196,7 +196,7 @@ module _ (schema : Lists) (capacity u n : ℕ) where
     same = same_Some way.alone.work.state way.steps.new (sym way.alone.work.found ∙ new_found)
 
     -- one step more
-    module _ (r : Runner) (numbered : 0 < u) (at : slice_get now.runners.items (u - 1) ≡ Some r) (busy : IsDone (network schema capacity) n (unit_state_of schema capacity r) → ⊥) (new : Parts) (stepped : IsStepped schema capacity u Moved now new) where
+    module _ (r : CoreUnit) (numbered : 0 < u) (at : slice_get now.runners.items (u - 1) ≡ Some r) (busy : IsDone (network schema capacity) n (unit_state_of schema capacity r) → ⊥) (new : Parts) (stepped : IsStepped schema capacity u Moved now new) where
       moved : step (network schema capacity) (opening_for schema capacity old) (state_of schema capacity now) u ≡ MovedTo (state_of schema capacity new)
       moved = subst (λ k. step (network schema capacity) (opening_of schema capacity k) (state_of schema capacity now) u ≡ MovedTo (state_of schema capacity new)) way.count stepped.tells
 
@@ -222,7 +222,7 @@ module _ (schema : Lists) (capacity u n : ℕ) where
           }
 
     -- the unit is between statements again
-    pub arrives : (r : Runner) → 0 < u → slice_get now.runners.items (u - 1) ≡ Some r → IsDone (network schema capacity) n (unit_state_of schema capacity r) → HaveTurned (core_of schema capacity old) (u ∷ []) (core_of schema capacity now) before after
+    pub arrives : (r : CoreUnit) → 0 < u → slice_get now.runners.items (u - 1) ≡ Some r → IsDone (network schema capacity) n (unit_state_of schema capacity r) → HaveTurned (core_of schema capacity old) (u ∷ []) (core_of schema capacity now) before after
     unfolding AreTurns
     arrives r numbered at done =
         let here = found schema capacity u now r way.well numbered at in
@@ -246,7 +246,7 @@ module _ (schema : Lists) (capacity u n : ℕ) where
   unfolding state_from
   not_there old none = ap (left_of (network schema capacity)) (map_at (unit_state_of schema capacity) old.runners.items u ∙ ap (option_map (unit_state_of schema capacity)) none)
 
-  pub at_its_end : (old : Parts) (r : Runner) → IsWell schema capacity old → 0 < u → slice_get old.runners.items (u - 1) ≡ Some r → length (drop r.next r.script) ≡ 0 → left_of (network schema capacity) (unit_at (state_of schema capacity old).units u) ≡ []
+  pub at_its_end : (old : Parts) (r : CoreUnit) → IsWell schema capacity old → 0 < u → slice_get old.runners.items (u - 1) ≡ Some r → length (drop r.next r.script) ≡ 0 → left_of (network schema capacity) (unit_at (state_of schema capacity old).units u) ≡ []
   at_its_end old r well numbered at none = ap (left_of (network schema capacity)) (found schema capacity u old r well numbered at) ∙ nil_from_length (drop r.next r.script) none
 
   -- no turn

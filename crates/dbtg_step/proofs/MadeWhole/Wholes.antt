@@ -29,7 +29,7 @@ use Rattle.dbtg_unit.specs.Database.State.Base.{Database, is_live, opening, owne
 use Rattle.dbtg_unit.specs.Database.State.Belongs.{IsUnitOf, IsWithin}
 use Rattle.dbtg_unit.specs.Database.State.Cells.{cell}
 use Rattle.dbtg_unit.specs.Database.Statements.Checks.{refused_at_once}
-use Rattle.dbtg_unit.specs.Database.Statements.Effect.{Outcome, effect}
+use Rattle.dbtg_unit.specs.Database.Statements.Effect.{StatementEffect, effect}
 use Rattle.dbtg_unit.specs.Database.Statements.Fits.{fits}
 use Rattle.dbtg_unit.specs.Hands.Guesses.{with_owners}
 use Rattle.dbtg_unit.specs.Hands.Hands.{Hands, cell_of}
@@ -41,7 +41,7 @@ use Rattle.dbtg_unit.specs.Hands.Locality.{IsMadeOn, seen}
 use Rattle.dbtg_unit.specs.Hands.Making.{HaveNextVersions, ShowsTheSame}
 use Rattle.dbtg_unit.specs.Hands.Needs.{areas_in_order, cells_of, guessed_sets, is_stale, is_wrong_guess, need, need_of_cells, next_of, stale_owners}
 use Rattle.dbtg_unit.specs.Hands.Prepared.{values_of}
-use Rattle.dbtg_unit.specs.Database.Laws.Replay.{State, AnswersHold, IsHistoryOf, after, after_outcome, opening_state, outcome_of, replay}
+use Rattle.dbtg_unit.specs.Database.Laws.Replay.{State, AnswersHold, IsHistoryOf, after, after_effect, opening_state, effect_of_unit, replay}
 use Rattle.dbtg_unit.proofs.Public.{In, all_agree_same, all_at, any_in, any_mapped, find_element, of_filter, opening_is_legal, replay_keeps_legal, replays_one_more, versions_are_bounded}
 use Rattle.dbtg_step.specs.Inside.Imaging.{image_from}
 use Rattle.dbtg_step.specs.Core.Whole.{HasMade, Making}
@@ -347,13 +347,13 @@ module _ (schema : Lists) (capacity : ℕ) (hands : Hands) (units : List Unit) (
     maker_agrees = record { legal = legal.legal; cells = w.cells; usage = maker.usage }
 
     module _ (x : Statement) where
-      abbrev outcome : Outcome
+      abbrev outcome : StatementEffect
       outcome = effect schema capacity now.database r x
 
-      outcome_found : outcome_of schema capacity now u x ≡ Some outcome
+      outcome_found : effect_of_unit schema capacity now u x ≡ Some outcome
       outcome_found = by u numbered found_unit
         where
-          by : (v : ℕ) → 0 < v → slice_get now.units (v - 1) ≡ Some r → outcome_of schema capacity now v x ≡ Some outcome
+          by : (v : ℕ) → 0 < v → slice_get now.units (v - 1) ≡ Some r → effect_of_unit schema capacity now v x ≡ Some outcome
           by zero l e = absurd (omega (arith, l))
           by (suc n) l e = let index : n ≡ suc n - 1 = omega arith in ap (option_map (λ unit. effect schema capacity now.database unit x)) (ap (slice_get now.units) index ∙ e)
 
@@ -365,7 +365,7 @@ module _ (schema : Lists) (capacity : ℕ) (hands : Hands) (units : List Unit) (
         first = opening_state schema (length units)
 
         after_is : replay schema capacity first (history ++ entry ∷ []) ≡ after now u outcome
-        after_is = (replays_one_more schema capacity first history entry).state_is ∙ ap (after_outcome now u) outcome_found
+        after_is = (replays_one_more schema capacity first history entry).state_is ∙ ap (after_effect now u) outcome_found
 
         count : length (slice_set units (u - 1) unit') ≡ length units
         count = length-set units (u - 1) unit'
@@ -379,7 +379,7 @@ module _ (schema : Lists) (capacity : ℕ) (hands : Hands) (units : List Unit) (
             record {
               tickets = more.tickets_on w.history_of.tickets refl;
               fitting = fits_more schema history entry w.history_of.fitting fit;
-              answers_hold = more.answers_on w.history_of.answers_hold (ap (option_map (λ (o : Outcome). o.answer)) outcome_found ∙ ap Some (sym made.answer_is));
+              answers_hold = more.answers_on w.history_of.answers_hold (ap (option_map (λ (o : StatementEffect). o.answer)) outcome_found ∙ ap Some (sym made.answer_is));
             }
 
         pub whole_then : IsWhole schema capacity new (slice_set units (u - 1) unit') (history ++ entry ∷ [])

@@ -25,7 +25,7 @@ use Rattle.dbtg_unit.specs.Hands.Needs.{cells_of, guessed_sets, is_wrong_guess, 
 use Rattle.dbtg_unit.specs.Database.State.Units.{opening_unit, owners_of}
 use Rattle.dbtg_unit.proofs.Public.{all_at, effect_keeps_legal, find_element, nothing_at, opening_is_legal}
 use Rattle.dbtg_step.specs.Machine.SequentialDatabase.{MayMake, NeedsCell, unit_at}
-use Rattle.dbtg_step.specs.Machine.Machine.{Progress, SequentialState, State, UnitState, replay}
+use Rattle.dbtg_step.specs.Machine.Machine.{StatementProgress, SequentialState, State, UnitState, replay}
 use Rattle.dbtg_step.specs.Machine.Step.{next_need}
 use Rattle.dbtg_step.specs.Machine.Headline.{machine_after, machine_of, opening_of, units_from}
 use Rattle.dbtg_step.specs.Laws.{NeededCellsExist}
@@ -33,7 +33,7 @@ use Rattle.dbtg_step.specs.Machine.Lawful.{Lawful}
 use Rattle.dbtg_step.specs.Inside.Events.{HaveRings}
 use Rattle.dbtg_step.specs.Machine.Network.{network}
 use Rattle.dbtg_step.proofs.Network.CellsExist.{cells_exist, has_ring, owner_exists}
-use Rattle.dbtg_step.proofs.Runs.GuessesKept.{AllGuesses, KeepsGuesses, run_keeps_guesses}
+use Rattle.dbtg_step.proofs.Runs.GuessesFit.{AllGuesses, KeepsGuesses, run_keeps_guesses}
 use Rattle.dbtg_step.proofs.Runs.Headlines as headlines
 use Rattle.dbtg_step.proofs.Network.NeededCells.{not_beyond, unit_is_in}
 use Rattle.dbtg_step.proofs.Network.NetworkFacts.{network_is_sequential}
@@ -173,7 +173,7 @@ module _ (schema : Lists) (capacity : ℕ) where
 -- THE LAW
 
 -- a cell that a unit needs in a lawful state, with guesses that have rings, is a cell of the schema
-pub needed_is_cell : (schema : Lists) (capacity : ℕ) → IsSound schema → (opening : SequentialState (network schema capacity)) (s : State (network schema capacity)) → Lawful (network schema capacity) opening s → (u : ℕ) (state : UnitState (network schema capacity)) (w : Progress (network schema capacity)) (x : Statement) (xs : List Statement) (c : CellName) →
+pub needed_is_cell : (schema : Lists) (capacity : ℕ) → IsSound schema → (opening : SequentialState (network schema capacity)) (s : State (network schema capacity)) → Lawful (network schema capacity) opening s → (u : ℕ) (state : UnitState (network schema capacity)) (w : StatementProgress (network schema capacity)) (x : Statement) (xs : List Statement) (c : CellName) →
     unit_at s.units u ≡ Some state → HaveRings schema capacity state.guesses → state.remaining ≡ x ∷ xs → next_need (network schema capacity) opening s state w x ≡ NeedsCell c → is_cell schema capacity c ≡ true
 unfolding next_need
 needed_is_cell schema capacity sound opening s lawful u state w x xs c found rings remaining e =

@@ -21,7 +21,7 @@ use Rattle.dbtg_unit.specs.Database.State.CellNames.{place_of}
 use Rattle.dbtg_unit.specs.Database.State.Cells.{cell}
 use Rattle.dbtg_cells.specs.Members.{is_left_out}
 use Rattle.dbtg_unit.specs.Database.Statements.Effect.{free_number, new_key, calc_taken}
-use Rattle.dbtg_unit.specs.Database.Statements.View.{whole}
+use Rattle.dbtg_unit.specs.Database.Statements.StoredFacts.{whole}
 use Rattle.dbtg_unit.specs.Database.Statements.Found.{has_type, with_calc}
 use Rattle.dbtg_unit.specs.Database.State.Legal.{Legal}
 use Rattle.dbtg_unit.proofs.Public.{In, calc_reads, extent_in, filter_agrees, last_reads, list_in, live_reads, map_same, none_pass, of_live_keys, of_map}

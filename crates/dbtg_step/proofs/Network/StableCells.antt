@@ -26,7 +26,7 @@ use Rattle.dbtg_unit.specs.Database.State.Belongs.{IsUnitOf}
 use Rattle.dbtg_unit.specs.Database.State.CellNames.{slot_name, place_of}
 use Rattle.dbtg_unit.specs.Database.State.Cells.{cell}
 use Rattle.dbtg_unit.specs.Database.Statements.Effect.{free_number, calc_taken, new_key}
-use Rattle.dbtg_unit.specs.Database.Statements.View.{whole}
+use Rattle.dbtg_unit.specs.Database.Statements.StoredFacts.{whole}
 use Rattle.dbtg_unit.specs.Database.Statements.Fits.{if_named}
 use Rattle.dbtg_unit.specs.Database.Statements.Found.{chosen, chosen_by_key, found_unless, has_type, is_lost, needs_position, with_calc}
 use Rattle.dbtg_unit.specs.Database.State.Legal.{Legal}

@@ -2,7 +2,7 @@
 use Rattle.std.proofs.Common.{ℕ, ◌≡◌, Bool, List, [], ◌∷◌, Some}
 use Rattle.dbtg_step.specs.Machine.SequentialDatabase.{SequentialDatabase, unit_at}
 use Rattle.dbtg_step.specs.Inside.SequentialDatabase.{IsSequentialDatabase}
-use Rattle.dbtg_step.specs.Machine.Machine.{Progress, UnitState, State, SequentialState}
+use Rattle.dbtg_step.specs.Machine.Machine.{StatementProgress, UnitState, State, SequentialState}
 use Rattle.dbtg_step.specs.Machine.Step.{Transition, MovedTo, IsBlocked, IsIdle, transition, state_after, run}
 use Rattle.dbtg_step.specs.Inside.Step.{IfMoved}
 use Rattle.dbtg_unit.specs.declared.moves.Move.{Move}
@@ -36,7 +36,7 @@ module _ (D : SequentialDatabase) (laws : IsSequentialDatabase D) (opening : Seq
   pub start_in_turn : (s : State D) → IsOpening D opening s → AllInTurn D below s
   start_in_turn s b = record { each = λ u state w at is t. let i = b.idle u state at in let e = i.0 in absurd (cc (e, is)) }
 
-  pub every_run_never_stuck : (s : State D) (ms : List (Move)) → (b : IsOpening D opening s) → (u : ℕ) (state : UnitState D) (w : Progress D) → unit_at (run D opening s ms).units u ≡ Some state → state.progress ≡ Some w →
+  pub every_run_never_stuck : (s : State D) (ms : List (Move)) → (b : IsOpening D opening s) → (u : ℕ) (state : UnitState D) (w : StatementProgress D) → unit_at (run D opening s ms).units u ≡ Some state → state.progress ≡ Some w →
       SomeUnitMoves D opening (run D opening s ms)
   every_run_never_stuck s ms b u state w at is =
       let first = opening_is_lawful D laws opening s b in

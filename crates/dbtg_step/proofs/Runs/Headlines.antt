@@ -15,7 +15,7 @@ use Rattle.dbtg_unit.specs.Database.Statements.Fits.{fits}
 use Rattle.dbtg_unit.specs.Database.State.Image.{image_of}
 use Rattle.dbtg_unit.specs.Database.State.LegalWith.{LegalWith}
 use Rattle.dbtg_unit.specs.Database.State.Units.{opening_unit}
-use Rattle.dbtg_unit.specs.Database.Laws.Replay.{State as DatabaseState, after_entry as after_one, entries_of, replay as replay_entries, AnswersHold as AnswersAre, TicketsInOrder, outcome_of, after_outcome}
+use Rattle.dbtg_unit.specs.Database.Laws.Replay.{State as DatabaseState, after_entry as after_one, entries_of, replay as replay_entries, AnswersHold as AnswersAre, TicketsInOrder, effect_of_unit, after_effect}
 use Rattle.dbtg_step.specs.Machine.SequentialDatabase.{In, unit_at, with_unit_at}
 use Rattle.dbtg_step.specs.Inside.SequentialDatabase.{IsSequentialDatabase}
 use Rattle.dbtg_step.specs.Machine.Machine.{UnitState, HistoryEntry, State, SequentialState, with_effect, after_entry, replay, AnswersHold, statements_of}
@@ -33,12 +33,12 @@ module _ (schema : Lists) (capacity : ℕ) where
   abbrev state_of : SequentialState (network schema capacity) → DatabaseState
   state_of q = record { database = q.database; units = q.units }
 
-  after_unit : (q : SequentialState (network schema capacity)) (u : ℕ) (x : Statement) → state_of (with_effect (network schema capacity) q u x (unit_at q.units u)) ≡ after_outcome (state_of q) u (outcome_of schema capacity (state_of q) u x)
+  after_unit : (q : SequentialState (network schema capacity)) (u : ℕ) (x : Statement) → state_of (with_effect (network schema capacity) q u x (unit_at q.units u)) ≡ after_effect (state_of q) u (effect_of_unit schema capacity (state_of q) u x)
   unfolding with_effect unit_at with_unit_at
   after_unit q zero x = refl
   after_unit q (suc n) x = go (slice_get q.units n)
     where
-      go : (o : Option Unit) → state_of (with_effect (network schema capacity) q (suc n) x o) ≡ after_outcome (state_of q) (suc n) (option_map (λ unit. effect schema capacity q.database unit x) o)
+      go : (o : Option Unit) → state_of (with_effect (network schema capacity) q (suc n) x o) ≡ after_effect (state_of q) (suc n) (option_map (λ unit. effect schema capacity q.database unit x) o)
       go None = refl
       go (Some unit) = let index : n ≡ suc n - 1 = omega arith in λ i. record { database = (effect schema capacity q.database unit x).database; units = slice_set q.units (index i) (effect schema capacity q.database unit x).unit }
 
@@ -52,7 +52,7 @@ module _ (schema : Lists) (capacity : ℕ) where
   replays_same q [] = refl
   replays_same q (e ∷ es) = replays_same (after_entry (network schema capacity) q e) es ∙ ap (λ s. replay_entries schema capacity s (map entry_of es)) (after_same q e)
 
-  answer_found : (q : SequentialState (network schema capacity)) (u : ℕ) (x : Statement) (unit : Unit) → unit_at q.units u ≡ Some unit → outcome_of schema capacity (state_of q) u x ≡ Some (effect schema capacity q.database unit x)
+  answer_found : (q : SequentialState (network schema capacity)) (u : ℕ) (x : Statement) (unit : Unit) → unit_at q.units u ≡ Some unit → effect_of_unit schema capacity (state_of q) u x ≡ Some (effect schema capacity q.database unit x)
   unfolding unit_at
   answer_found q zero x unit e = absurd (cc (e))
   answer_found q (suc n) x unit e = ap (option_map (λ unit. effect schema capacity q.database unit x)) e

@@ -3,7 +3,7 @@ use Rattle.std.proofs.Common.{ℕ, ◌≡◌, Bool, true, false, List, [], ◌�
 use Rattle.dbtg_unit.specs.declared.moves.Move.{Move}
 use Rattle.dbtg_unit.specs.declared.moves.Move.TheVariants.{Step, Quit}
 use Rattle.dbtg_step.specs.Machine.SequentialDatabase.{HeldCell, NextNeed, NeedsArea, NeedsCell, StaleGuesses, NeedsNothing, SequentialDatabase, unit_at}
-use Rattle.dbtg_step.specs.Machine.Machine.{Location, Home, HeldBy, Progress, UnitState, HistoryEntry, State, SequentialState}
+use Rattle.dbtg_step.specs.Machine.Machine.{CellLocation, Home, HeldBy, StatementProgress, UnitState, HistoryEntry, State, SequentialState}
 use Rattle.dbtg_step.proofs.EachEvent.UnitLists.{map_set_same}
 use Rattle.dbtg_step.specs.Machine.Step.{updated, with_ticket, after_ticket, takes_area, takes_cell, follows_need, before_ticket, in_statement, step_of_unit, step_if_unit, step, quit_unless_ticket, quit_of_unit, quit_if_unit, quit, Transition, MovedTo, IsBlocked, IsIdle, transition, state_after, run, any_other, conflicts}
 use Rattle.dbtg_step.specs.Inside.Step.{IfMoved}
@@ -19,22 +19,22 @@ module _ (D : SequentialDatabase) (opening : SequentialState D) (s : State D) wh
   extends_itself = record { more = []; history = sym (append-nil s.history); scripts = refl }
 
   module _ (u : ℕ) (state : UnitState D) (at : unit_at s.units u ≡ Some state) where
-    updated_extends : (location : D.Cell → Location D.Value) (g : D.Guesses) (p : Option (Progress D)) → Extends (updated D s u state location g p)
+    updated_extends : (location : D.Cell → CellLocation D.Value) (g : D.Guesses) (p : Option (StatementProgress D)) → Extends (updated D s u state location g p)
     unfolding updated
     updated_extends location g p = record { more = []; history = sym (append-nil s.history); scripts = map_set_same (λ (x : UnitState D). x.script) s.units u state _ at refl }
 
-    ticket_extends : (w : Progress D) (x : D.Statement) (xs : List D.Statement) → Extends (with_ticket D opening s u state w x xs)
+    ticket_extends : (w : StatementProgress D) (x : D.Statement) (xs : List D.Statement) → Extends (with_ticket D opening s u state w x xs)
     unfolding with_ticket
     ticket_extends w x xs = record { more = _; history = refl; scripts = map_set_same (λ (x : UnitState D). x.script) s.units u state _ at refl }
 
-    after_ticket_extends : (w : Progress D) (b : Bool) (cells : List (HeldCell D.Cell D.Value)) (areas : List ℕ) → Extends (after_ticket D s u state w b cells areas)
+    after_ticket_extends : (w : StatementProgress D) (b : Bool) (cells : List (HeldCell D.Cell D.Value)) (areas : List ℕ) → Extends (after_ticket D s u state w b cells areas)
     unfolding after_ticket
     after_ticket_extends w true cells areas = updated_extends _ _ _
     after_ticket_extends w false (h ∷ hs) areas = updated_extends _ _ _
     after_ticket_extends w false [] (a ∷ areas) = updated_extends _ _ _
     after_ticket_extends w false [] [] = updated_extends _ _ _
 
-    follows_need_extends : (w : Progress D) (x : D.Statement) (xs : List D.Statement) (n : NextNeed D.Cell D.Guesses) → IfMoved D (follows_need D opening s u state w x xs n) Extends
+    follows_need_extends : (w : StatementProgress D) (x : D.Statement) (xs : List D.Statement) (n : NextNeed D.Cell D.Guesses) → IfMoved D (follows_need D opening s u state w x xs n) Extends
     unfolding follows_need takes_area takes_cell IfMoved
     follows_need_extends w x xs (NeedsArea a) = go (any_other (conflicts D w.exclusive a) u s.units)
       where
@@ -43,31 +43,31 @@ module _ (D : SequentialDatabase) (opening : SequentialState D) (s : State D) wh
         go false = updated_extends _ _ _
     follows_need_extends w x xs (NeedsCell c) = go (s.location c)
       where
-        go : (p : Location D.Value) → IfMoved D (takes_cell D s u state w c p) Extends
+        go : (p : CellLocation D.Value) → IfMoved D (takes_cell D s u state w c p) Extends
         go (HeldBy v) = tt
         go (Home v) = updated_extends _ _ _
     follows_need_extends w x xs (StaleGuesses g) = updated_extends _ _ _
     follows_need_extends w x xs NeedsNothing = ticket_extends w x xs
 
-    before_ticket_extends : (w : Progress D) (x : D.Statement) (xs : List D.Statement) (b : Bool) (cells : List (HeldCell D.Cell D.Value)) → IfMoved D (before_ticket D opening s u state w x xs b cells) Extends
+    before_ticket_extends : (w : StatementProgress D) (x : D.Statement) (xs : List D.Statement) (b : Bool) (cells : List (HeldCell D.Cell D.Value)) → IfMoved D (before_ticket D opening s u state w x xs b cells) Extends
     unfolding before_ticket IfMoved
     before_ticket_extends w x xs true (h ∷ hs) = updated_extends _ _ _
     before_ticket_extends w x xs true [] = follows_need_extends w x xs _
     before_ticket_extends w x xs false cells = follows_need_extends w x xs _
 
-    in_statement_extends : (w : Progress D) (t : Option ℕ) (xs : List D.Statement) → IfMoved D (in_statement D opening s u state w t xs) Extends
+    in_statement_extends : (w : StatementProgress D) (t : Option ℕ) (xs : List D.Statement) → IfMoved D (in_statement D opening s u state w t xs) Extends
     unfolding in_statement IfMoved
     in_statement_extends w (Some t) xs = after_ticket_extends w _ _ _
     in_statement_extends w None (x ∷ xs) = before_ticket_extends w x xs _ _
     in_statement_extends w None [] = tt
 
-    step_of_unit_extends : (p : Option (Progress D)) (xs : List D.Statement) → IfMoved D (step_of_unit D opening s u state p xs) Extends
+    step_of_unit_extends : (p : Option (StatementProgress D)) (xs : List D.Statement) → IfMoved D (step_of_unit D opening s u state p xs) Extends
     unfolding step_of_unit IfMoved
     step_of_unit_extends (Some w) xs = in_statement_extends w _ xs
     step_of_unit_extends None (x ∷ xs) = updated_extends _ _ _
     step_of_unit_extends None [] = tt
 
-    quit_of_unit_extends : (p : Option (Progress D)) → IfMoved D (quit_of_unit D s u state p) Extends
+    quit_of_unit_extends : (p : Option (StatementProgress D)) → IfMoved D (quit_of_unit D s u state p) Extends
     unfolding quit_of_unit quit_unless_ticket IfMoved
     quit_of_unit_extends None = tt
     quit_of_unit_extends (Some w) = go w.ticket

@@ -2,12 +2,12 @@
 use Rattle.std.proofs.Common.{ℕ, ◌≡◌, List, [], Option, Some, None, refl, sym, subst}
 use Rattle.dbtg_step.specs.Machine.SequentialDatabase.{SequentialDatabase, unit_at}
 use Rattle.dbtg_step.specs.Inside.SequentialDatabase.{IsSequentialDatabase}
-use Rattle.dbtg_step.specs.Machine.Machine.{Location, Progress, UnitState, State, SequentialState, replay, AnswersHold, statements_of, held_areas}
+use Rattle.dbtg_step.specs.Machine.Machine.{CellLocation, StatementProgress, UnitState, State, SequentialState, replay, AnswersHold, statements_of, held_areas}
 use Rattle.dbtg_step.specs.Machine.Lawful.{Holding, UnitLawful, AreasShared, Lawful, IsOpening}
 use Rattle.dbtg_step.proofs.EachEvent.Events.{holds_nothing}
 
 module _ (D : SequentialDatabase) (laws : IsSequentialDatabase D) (opening : SequentialState D) where
-  shared_none : (v w : Option (Progress D)) → v ≡ None → AreasShared D v w
+  shared_none : (v w : Option (StatementProgress D)) → v ≡ None → AreasShared D v w
   unfolding held_areas
   shared_none v w e = rw e (λ a i j. absurd i)
 
@@ -17,7 +17,7 @@ module _ (D : SequentialDatabase) (laws : IsSequentialDatabase D) (opening : Seq
       let i = b.idle u state at in
       record { script = i.1; fits = λ x j. b.fits u state x at j; holding = subst (λ w. Holding D opening s.location [] u w) (sym i.0) (holds_nothing D laws opening s.location [] u) }
 
-  opening_lawful_of : (location : D.Cell → Location D.Value) (units : List (UnitState D)) → IsOpening D opening (record { location = location; history = []; counter = 0; units = units }) → Lawful D opening (record { location = location; history = []; counter = 0; units = units })
+  opening_lawful_of : (location : D.Cell → CellLocation D.Value) (units : List (UnitState D)) → IsOpening D opening (record { location = location; history = []; counter = 0; units = units }) → Lawful D opening (record { location = location; history = []; counter = 0; units = units })
   unfolding replay AnswersHold
   opening_lawful_of location units b = record {
     counter = refl;

@@ -2,7 +2,7 @@
 use Rattle.std.proofs.Common.{ℕ, ◌≡◌, Bool, true, false, List, [], ◌∷◌, Option, Some, None, ◌⊎◌, inl, inr, refl, sym, ap, ◌∙◌, subst}
 use Rattle.dbtg_step.specs.Machine.SequentialDatabase.{HeldCell, NextNeed, NeedsArea, NeedsCell, StaleGuesses, NeedsNothing, SequentialDatabase, In, Agrees, unit_at}
 use Rattle.dbtg_step.specs.Inside.SequentialDatabase.{IsSequentialDatabase}
-use Rattle.dbtg_step.specs.Machine.Machine.{Progress, UnitState, State, SequentialState, replay, held_cells}
+use Rattle.dbtg_step.specs.Machine.Machine.{StatementProgress, UnitState, State, SequentialState, replay, held_cells}
 use Rattle.dbtg_step.specs.Machine.Step.{next_need}
 use Rattle.dbtg_step.specs.Machine.Lawful.{Lawful}
 use Rattle.dbtg_step.proofs.EachEvent.UnitFacts.{may_make}
@@ -24,7 +24,7 @@ module _ (D : SequentialDatabase) (laws : IsSequentialDatabase D) (below : D.Cel
   wanted_cell (StaleGuesses g) c e = absurd (cc (e))
   wanted_cell NeedsNothing c e = absurd (cc (e))
 
-  module _ (u : ℕ) (state : UnitState D) (at : unit_at s.units u ≡ Some state) (w : Progress D) (is : state.progress ≡ Some w) (steady : w.ticket ≡ None → InTurn D below state w) where
+  module _ (u : ℕ) (state : UnitState D) (at : unit_at s.units u ≡ Some state) (w : StatementProgress D) (is : state.progress ≡ Some w) (steady : w.ticket ≡ None → InTurn D below state w) where
     wanted_is : wanted D below opening s state ≡ wanted_before_ticket D below opening s state w w.ticket state.remaining
     unfolding wanted wanted_in_progress
     wanted_is = ap (wanted_in_progress D below opening s state) is

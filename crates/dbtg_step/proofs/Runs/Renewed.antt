@@ -3,7 +3,7 @@ use Rattle.std.proofs.Common.{ℕ, zero, suc, ◌≡◌, ◌≢◌, Bool, false,
 use Rattle.std.proofs.lemmas.Bool.Decides.{eqb_tells}
 use Rattle.dbtg_step.specs.Machine.SequentialDatabase.{HeldCell, SequentialDatabase, In, NeedsNothing, unit_at, with_unit_at}
 use Rattle.dbtg_step.specs.Inside.SequentialDatabase.{IsSequentialDatabase}
-use Rattle.dbtg_step.specs.Machine.Machine.{HeldBy, Progress, UnitState, State, SequentialState, replay, statements_of, held_cells, held_areas, holds_exclusively, ticket_of, unless_over}
+use Rattle.dbtg_step.specs.Machine.Machine.{HeldBy, StatementProgress, UnitState, State, SequentialState, replay, statements_of, held_cells, held_areas, holds_exclusively, ticket_of, unless_over}
 use Rattle.dbtg_step.specs.Machine.Step.{updated, with_ticket, due_cells, next_need}
 use Rattle.dbtg_step.specs.Machine.Lawful.{Holding, UnitLawful, AreasShared, HoldsCell, IsHolder, Lawful, AreDistinct}
 use Rattle.dbtg_step.proofs.EachEvent.UnitLists.{set_found, set_at, set_elsewhere, map_set_same}
@@ -72,10 +72,10 @@ module _ (D : SequentialDatabase) (laws : IsSequentialDatabase D) (opening : Seq
       }
 
   -- the same areas and cells, with no ticket
-  abbrev pub unticketed : Progress D → Progress D
+  abbrev pub unticketed : StatementProgress D → StatementProgress D
   unticketed w = record { exclusive = w.exclusive; areas = w.areas; cells = w.cells; turning_back = false; ticket = None; linked = 0 }
 
-  forgets : (s : State D) (u : ℕ) (state : UnitState D) (w : Progress D) → Lawful D opening s → unit_at s.units u ≡ Some state → state.progress ≡ Some w → SafeUpdate D opening s u s.location (Some (unticketed w))
+  forgets : (s : State D) (u : ℕ) (state : UnitState D) (w : StatementProgress D) → Lawful D opening s → unit_at s.units u ≡ Some state → state.progress ≡ Some w → SafeUpdate D opening s u s.location (Some (unticketed w))
   unfolding held_cells held_areas ticket_of holds_exclusively
   forgets s u state w l at is =
       let old = subst (λ o. Holding D opening s.location s.history u o) is (l.each u state at).holding in
@@ -100,7 +100,7 @@ module _ (D : SequentialDatabase) (laws : IsSequentialDatabase D) (opening : Seq
   }
 
   -- whether the statement is over or not
-  pub forgotten : (s : State D) (u : ℕ) (state : UnitState D) (w : Progress D) → Lawful D opening s → unit_at s.units u ≡ Some state → state.progress ≡ unless_over D w w.areas w.cells → SafeUpdate D opening s u s.location (Some (unticketed w))
+  pub forgotten : (s : State D) (u : ℕ) (state : UnitState D) (w : StatementProgress D) → Lawful D opening s → unit_at s.units u ≡ Some state → state.progress ≡ unless_over D w w.areas w.cells → SafeUpdate D opening s u s.location (Some (unticketed w))
   unfolding unless_over
   forgotten s u state w l at is = go w.areas w.cells refl refl
     where
@@ -108,12 +108,12 @@ module _ (D : SequentialDatabase) (laws : IsSequentialDatabase D) (opening : Seq
       go [] [] ea ec =
           let none : state.progress ≡ None = is ∙ (ap (λ as_. unless_over D w as_ w.cells) ea ∙ ap (λ cs. unless_over D w [] cs) ec) in
           let same : record { exclusive = w.exclusive; areas = []; cells = []; turning_back = false; ticket = None; linked = 0 } ≡ unticketed w = λ i. record { exclusive = w.exclusive; areas = sym ea i; cells = sym ec i; turning_back = false; ticket = None; linked = 0 } in
-          subst (λ (p : Progress D). SafeUpdate D opening s u s.location (Some p)) same (nothing_left s u state w.exclusive l at none)
+          subst (λ (p : StatementProgress D). SafeUpdate D opening s u s.location (Some p)) same (nothing_left s u state w.exclusive l at none)
       go [] (h ∷ hs) ea ec = forgets s u state w l at (is ∙ (ap (λ as_. unless_over D w as_ w.cells) ea ∙ ap (λ cs. unless_over D w [] cs) ec))
       go (a ∷ as_) cells ea ec = forgets s u state w l at (is ∙ ap (λ as_. unless_over D w as_ w.cells) ea)
 
   -- the state after a whole draw
-  pub record Drawn (s : State D) (u : ℕ) (state : UnitState D) (w : Progress D) (x : D.Statement) (t : State D) : Type 0 where
+  pub record Drawn (s : State D) (u : ℕ) (state : UnitState D) (w : StatementProgress D) (x : D.Statement) (t : State D) : Type 0 where
     pub lawful : Lawful D opening t
     pub location : t.location ≡ s.location
     pub history : t.history ≡ s.history ++ record { ticket = s.counter; unit = u; statement = x; answer = (D.effect (replay D opening s.history).database state.unit x).answer } ∷ []
@@ -125,13 +125,13 @@ module _ (D : SequentialDatabase) (laws : IsSequentialDatabase D) (opening : Seq
     pub unit_is : state_now.unit ≡ (D.effect (replay D opening s.history).database state.unit x).unit
     pub progress_is : state_now.progress ≡ Some (unticketed (record w { cells = due_cells D (D.effect (replay D opening s.history).database state.unit x).database w.cells }))
 
-  abbrev drawn_once : State D → ℕ → UnitState D → Progress D → D.Statement → D.Guesses → State D
+  abbrev drawn_once : State D → ℕ → UnitState D → StatementProgress D → D.Statement → D.Guesses → State D
   drawn_once s u state w x g = with_ticket D opening (with_unit s u (asked s u state x g)) u (asked s u state x g) w x []
 
-  abbrev drawn_progress : State D → UnitState D → Progress D → D.Statement → Progress D
+  abbrev drawn_progress : State D → UnitState D → StatementProgress D → D.Statement → StatementProgress D
   drawn_progress s state w x = record { exclusive = w.exclusive; areas = w.areas; cells = due_cells D (D.effect (replay D opening s.history).database state.unit x).database w.cells; turning_back = false; ticket = Some s.counter; linked = 0 }
 
-  abbrev drawn_unit : State D → ℕ → UnitState D → Progress D → D.Statement → D.Guesses → UnitState D
+  abbrev drawn_unit : State D → ℕ → UnitState D → StatementProgress D → D.Statement → D.Guesses → UnitState D
   drawn_unit s u state w x g = record {
     unit = (D.effect (replay D opening s.history).database state.unit x).unit;
     guesses = D.guesses_after (replay D opening s.history).database state.unit x g;
@@ -140,7 +140,7 @@ module _ (D : SequentialDatabase) (laws : IsSequentialDatabase D) (opening : Seq
     progress = unless_over D (drawn_progress s state w x) w.areas (drawn_progress s state w x).cells;
   }
 
-  pub draws : (s : State D) (u : ℕ) (state : UnitState D) (w : Progress D) (x : D.Statement) (g : D.Guesses) → Lawful D opening s → unit_at s.units u ≡ Some state → state.progress ≡ Some w → D.Fits x →
+  pub draws : (s : State D) (u : ℕ) (state : UnitState D) (w : StatementProgress D) (x : D.Statement) (g : D.Guesses) → Lawful D opening s → unit_at s.units u ≡ Some state → state.progress ≡ Some w → D.Fits x →
       D.need (replay D opening s.history).database state.unit x g w.areas w.cells ≡ NeedsNothing → (t : State D) × Drawn s u state w x t
   unfolding with_ticket next_need updated
   draws s u state w x g l at is fit ready =

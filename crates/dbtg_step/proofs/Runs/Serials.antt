@@ -10,7 +10,7 @@ use Rattle.dbtg_unit.specs.declared.moves.Move.{Move}
 use Rattle.dbtg_unit.specs.declared.moves.Move.TheVariants.{Step}
 use Rattle.dbtg_unit.specs.declared.statement.Statement.{Statement}
 use Rattle.dbtg_step.specs.Machine.SequentialDatabase.{SequentialDatabase, unit_at}
-use Rattle.dbtg_step.specs.Machine.Machine.{HistoryEntry, Progress, SequentialState, State, UnitState}
+use Rattle.dbtg_step.specs.Machine.Machine.{HistoryEntry, StatementProgress, SequentialState, State, UnitState}
 use Rattle.dbtg_step.specs.Inside.Step.{IfMoved}
 use Rattle.dbtg_step.specs.Machine.Step.{IsIdle, MovedTo, run, state_after, step, step_if_unit, step_of_unit, transition}
 use Rattle.dbtg_step.specs.Machine.Lawful.{Lawful}
@@ -153,7 +153,7 @@ module _ (schema : Lists) (capacity : ℕ) where
                 | inr f ↦ (let same = f.0 in less g.after m b (omega (arith, same, few)) f.1)
               ])
 
-          by : (p : Option (Progress (network schema capacity))) (xs : List Statement) → a.state.progress ≡ p → a.state.remaining ≡ xs → Out s a.state.remaining
+          by : (p : Option (StatementProgress (network schema capacity))) (xs : List Statement) → a.state.progress ≡ p → a.state.remaining ≡ xs → Out s a.state.remaining
           by None [] p r = out_now s l a (record { between = p; ended = r })
           by None (x ∷ xs) p r = goes (never_waits schema capacity sound opening s l u a (λ h. let e = sym r ∙ h.ended in absurd (cc (e))))
           by (Some w) xs p r = goes (never_waits schema capacity sound opening s l u a (λ h. let e = sym p ∙ h.between in absurd (cc (e))))

@@ -5,7 +5,7 @@ use Rattle.std.proofs.lemmas.Bool.Decides.{eqb_tells}
 use Rattle.std.proofs.lemmas.Bool.{and_parts, or_cases}
 use Rattle.dbtg_step.specs.Machine.SequentialDatabase.{HeldCell, NextNeed, NeedsArea, NeedsCell, StaleGuesses, NeedsNothing, SequentialDatabase, In, unit_at}
 use Rattle.dbtg_step.specs.Inside.SequentialDatabase.{IsSequentialDatabase}
-use Rattle.dbtg_step.specs.Machine.Machine.{Location, Home, HeldBy, Progress, UnitState, State, SequentialState, held_cells, held_areas, holds_exclusively}
+use Rattle.dbtg_step.specs.Machine.Machine.{CellLocation, Home, HeldBy, StatementProgress, UnitState, State, SequentialState, held_cells, held_areas, holds_exclusively}
 use Rattle.dbtg_step.specs.Machine.Step.{MovedTo, next_need, conflicts, any_but, any_other, takes_area, takes_cell, follows_need, step}
 use Rattle.dbtg_step.specs.Machine.Lawful.{AreasShared, HoldsCell, Lawful}
 use Rattle.dbtg_step.specs.Machine.NeverStuck.{SomeUnitMoves}
@@ -79,7 +79,7 @@ module _ (D : SequentialDatabase) (laws : IsSequentialDatabase D) (opening : Seq
     who : ℕ
     location : s.location c ≡ HeldBy who
 
-  module _ (u : ℕ) (state : UnitState D) (w : Progress D) (at : unit_at s.units u ≡ Some state) (is : state.progress ≡ Some w) where
+  module _ (u : ℕ) (state : UnitState D) (w : StatementProgress D) (at : unit_at s.units u ≡ Some state) (is : state.progress ≡ Some w) where
     wanted_here : (x : D.Statement) (xs : List D.Statement) → w.ticket ≡ None → state.remaining ≡ x ∷ xs → wanted D below opening s state ≡ wanted_unless_turning D below opening s state w x w.turning_back w.cells
     unfolding wanted wanted_in_progress wanted_before_ticket
     wanted_here x xs q r = ap (wanted_in_progress D below opening s state) is ∙ (ap (λ t. wanted_before_ticket D below opening s state w t state.remaining) q ∙ ap (λ y. wanted_before_ticket D below opening s state w None y) r)
@@ -109,7 +109,7 @@ module _ (D : SequentialDatabase) (laws : IsSequentialDatabase D) (opening : Seq
         wanted_c : wanted D below opening s state ≡ Some (ACell c)
         wanted_c = wanted_here x xs q r ∙ (wanted_turned x w.turning_back w.cells f ∙ ap (wanted_by_need D below) e)
 
-        go : (p : Location D.Value) → s.location c ≡ p → SomeUnitMoves D opening s ⊎ (WaitsForArea u state ⊎ WaitsForCell u state)
+        go : (p : CellLocation D.Value) → s.location c ≡ p → SomeUnitMoves D opening s ⊎ (WaitsForArea u state ⊎ WaitsForCell u state)
         go (HeldBy v) p = inr (inr (record { c = c; wanted_is = wanted_c; who = v; location = p }))
         go (Home v) p = inl (record { who = u; after = _; moves = step_follows D opening s u state at w is x xs q r f _ e ∙ follows_cell D opening s u state at w is x xs q r c (Home v) p })
 
@@ -138,7 +138,7 @@ module _ (D : SequentialDatabase) (laws : IsSequentialDatabase D) (opening : Seq
   higher_cell u state r c at e h = record { who = u; what = ACell c; at = map_found (wanted D below opening s) s.units u state at ∙ ap Some e; higher = h }
 
   -- the holder of an area that is waited for
-  past_area : (a : ℕ) (v : ℕ) (state : UnitState D) (w : Progress D) → unit_at s.units v ≡ Some state → state.progress ≡ Some w → In a w.areas → SomeUnitMoves D opening s ⊎ Higher (Wanted D.Cell) (is_below D below) AllWanted (AnArea a)
+  past_area : (a : ℕ) (v : ℕ) (state : UnitState D) (w : StatementProgress D) → unit_at s.units v ≡ Some state → state.progress ≡ Some w → In a w.areas → SomeUnitMoves D opening s ⊎ Higher (Wanted D.Cell) (is_below D below) AllWanted (AnArea a)
   unfolding is_below
   past_area a v state w at is i = elim (moves_or_waits v state w at is) [
     | inl m ↦ inl m
@@ -147,7 +147,7 @@ module _ (D : SequentialDatabase) (laws : IsSequentialDatabase D) (opening : Seq
   ]
 
   -- a unit with its areas exclusively waits for no cell
-  not_exclusive : (v : ℕ) (state : UnitState D) (w : Progress D) → unit_at s.units v ≡ Some state → state.progress ≡ Some w → (b : WaitsForCell v state) → w.exclusive ≡ true → ⊥
+  not_exclusive : (v : ℕ) (state : UnitState D) (w : StatementProgress D) → unit_at s.units v ≡ Some state → state.progress ≡ Some w → (b : WaitsForCell v state) → w.exclusive ≡ true → ⊥
   unfolding held_cells held_areas holds_exclusively
   not_exclusive v state w at is b x =
       let begun = (o.each v state w at is).fresh b.c b.wanted_is in
@@ -169,7 +169,7 @@ module _ (D : SequentialDatabase) (laws : IsSequentialDatabase D) (opening : Seq
     pub event : step D opening s u ≡ MovedTo after
 
   -- a unit that holds its areas exclusively, and needs none more, goes on
-  pub exclusive_moves : (u : ℕ) (state : UnitState D) (w : Progress D) → unit_at s.units u ≡ Some state → state.progress ≡ Some w → (x : D.Statement) (xs : List D.Statement) → w.ticket ≡ None → state.remaining ≡ x ∷ xs → (w.turning_back ≡ true → w.cells ≡ []) →
+  pub exclusive_moves : (u : ℕ) (state : UnitState D) (w : StatementProgress D) → unit_at s.units u ≡ Some state → state.progress ≡ Some w → (x : D.Statement) (xs : List D.Statement) → w.ticket ≡ None → state.remaining ≡ x ∷ xs → (w.turning_back ≡ true → w.cells ≡ []) →
       w.exclusive ≡ true → (n : NextNeed D.Cell D.Guesses) → next_need D opening s state w x ≡ n → ((a : ℕ) → n ≡ NeedsArea a → ⊥) → Moves u
   unfolding next_need follows_need takes_cell wanted_by_need
   exclusive_moves u state w at is x xs q r f alone (NeedsArea a) e none = absurd (none a refl)
@@ -180,12 +180,12 @@ module _ (D : SequentialDatabase) (laws : IsSequentialDatabase D) (opening : Seq
       wanted_c : wanted D below opening s state ≡ Some (ACell c)
       wanted_c = wanted_here u state w at is x xs q r ∙ (wanted_turned u state w at is x w.turning_back w.cells f ∙ ap (wanted_by_need D below) e)
 
-      go : (p : Location D.Value) → s.location c ≡ p → Moves u
+      go : (p : CellLocation D.Value) → s.location c ≡ p → Moves u
       go (HeldBy v) p = absurd (not_exclusive u state w at is (record { c = c; wanted_is = wanted_c; who = v; location = p }) alone)
       go (Home v) p = record { after = _; event = step_follows D opening s u state at w is x xs q r f _ e ∙ follows_cell D opening s u state at w is x xs q r c (Home v) p }
 
   -- the holder of a cell that is waited for
-  past_cell : (c : D.Cell) (v : ℕ) (state : UnitState D) (w : Progress D) → unit_at s.units v ≡ Some state → state.progress ≡ Some w → (h : HeldCell D.Cell D.Value) → In h w.cells → h.name ≡ c → SomeUnitMoves D opening s ⊎ Higher (Wanted D.Cell) (is_below D below) AllWanted (ACell c)
+  past_cell : (c : D.Cell) (v : ℕ) (state : UnitState D) (w : StatementProgress D) → unit_at s.units v ≡ Some state → state.progress ≡ Some w → (h : HeldCell D.Cell D.Value) → In h w.cells → h.name ≡ c → SomeUnitMoves D opening s ⊎ Higher (Wanted D.Cell) (is_below D below) AllWanted (ACell c)
   unfolding is_below
   past_cell c v state w at is h i n = elim (moves_or_waits v state w at is) [
     | inl m ↦ inl m
@@ -215,18 +215,18 @@ module _ (D : SequentialDatabase) (laws : IsSequentialDatabase D) (opening : Seq
   chain (ACell a) (ACell b) (AnArea c) f g = absurd (cc (g))
   chain (ACell a) (ACell b) (ACell c) f g = order.chain a b c f g
 
-  past_area_of : (a : ℕ) (v : ℕ) (state : UnitState D) → unit_at s.units v ≡ Some state → (x : Option (Progress D)) → state.progress ≡ x → In a (held_areas D x) → SomeUnitMoves D opening s ⊎ Higher (Wanted D.Cell) (is_below D below) AllWanted (AnArea a)
+  past_area_of : (a : ℕ) (v : ℕ) (state : UnitState D) → unit_at s.units v ≡ Some state → (x : Option (StatementProgress D)) → state.progress ≡ x → In a (held_areas D x) → SomeUnitMoves D opening s ⊎ Higher (Wanted D.Cell) (is_below D below) AllWanted (AnArea a)
   unfolding held_areas
   past_area_of a v state at None is i = absurd i
   past_area_of a v state at (Some w) is i = past_area a v state w at is i
 
-  past_cell_of : (c : D.Cell) (v : ℕ) (state : UnitState D) → unit_at s.units v ≡ Some state → (x : Option (Progress D)) → state.progress ≡ x → HoldsCell D x c → SomeUnitMoves D opening s ⊎ Higher (Wanted D.Cell) (is_below D below) AllWanted (ACell c)
+  past_cell_of : (c : D.Cell) (v : ℕ) (state : UnitState D) → unit_at s.units v ≡ Some state → (x : Option (StatementProgress D)) → state.progress ≡ x → HoldsCell D x c → SomeUnitMoves D opening s ⊎ Higher (Wanted D.Cell) (is_below D below) AllWanted (ACell c)
   unfolding held_cells
   past_cell_of c v state at None is h = absurd h.is_in
   past_cell_of c v state at (Some w) is h = past_cell c v state w at is h.which h.is_in h.name
 
   -- who waits finds somebody that moves, or waits for more
-  next_unit : (u : ℕ) (state : UnitState D) (r : Wanted D.Cell) → unit_at s.units u ≡ Some state → wanted D below opening s state ≡ Some r → (x : Option (Progress D)) → state.progress ≡ x → SomeUnitMoves D opening s ⊎ Higher (Wanted D.Cell) (is_below D below) AllWanted r
+  next_unit : (u : ℕ) (state : UnitState D) (r : Wanted D.Cell) → unit_at s.units u ≡ Some state → wanted D below opening s state ≡ Some r → (x : Option (StatementProgress D)) → state.progress ≡ x → SomeUnitMoves D opening s ⊎ Higher (Wanted D.Cell) (is_below D below) AllWanted r
   next_unit u state r at e None is = absurd (wanted_nothing u state r is e)
   next_unit u state r at e (Some w) is = elim (moves_or_waits u state w at is) [
     | inl m ↦ inl m
@@ -244,7 +244,7 @@ module _ (D : SequentialDatabase) (laws : IsSequentialDatabase D) (opening : Seq
   next u r e = let f = came_from (wanted D below opening s) s.units u (Some r) e in next_unit u f.it r f.at f.is f.it.progress refl
 
   -- where a unit is in mid-statement, some unit's next step is an event
-  pub never_stuck : (u : ℕ) (state : UnitState D) (w : Progress D) → unit_at s.units u ≡ Some state → state.progress ≡ Some w → SomeUnitMoves D opening s
+  pub never_stuck : (u : ℕ) (state : UnitState D) (w : StatementProgress D) → unit_at s.units u ≡ Some state → state.progress ≡ Some w → SomeUnitMoves D opening s
   unfolding AllWanted
   never_stuck u state w at is = elim (moves_or_waits u state w at is) [
     | inl m ↦ m

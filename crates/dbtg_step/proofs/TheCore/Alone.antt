@@ -2,13 +2,13 @@
 use Rattle.std.proofs.Common.{ℕ, suc, ◌≡◌, Bool, true, false, List, [], ◌∷◌, ◌++◌, Option, Some, None, ◌⊎◌, inl, inr, length, refl, sym, ap, subst, arith}
 use Rattle.std.proofs.lemmas.Option.{same_Some}
 use Rattle.dbtg_step.specs.Machine.SequentialDatabase.{HeldCell, NextNeed, NeedsArea, NeedsCell, StaleGuesses, NeedsNothing, SequentialDatabase, unit_at, with_unit_at}
-use Rattle.dbtg_step.specs.Machine.Machine.{Location, Home, HeldBy, Progress, UnitState, HistoryEntry, State, SequentialState, unless_over}
+use Rattle.dbtg_step.specs.Machine.Machine.{CellLocation, Home, HeldBy, StatementProgress, UnitState, HistoryEntry, State, SequentialState, unless_over}
 use Rattle.dbtg_step.specs.Machine.Step.{updated, with_progress, with_ticket, after_ticket, takes_area, takes_cell, follows_need, before_ticket, in_statement, step_of_unit, step_if_unit, step, Transition, MovedTo, IsBlocked, IsIdle, any_other, conflicts}
 use Rattle.dbtg_step.specs.Inside.Step.{IfMoved}
 
 -- in mid-statement without a ticket
-abbrev pub Unticketed : (D : SequentialDatabase) → Option (Progress D) → Type 0
-Unticketed D p = (w : Progress D) × (p ≡ Some w) × (w.ticket ≡ None)
+abbrev pub Unticketed : (D : SequentialDatabase) → Option (StatementProgress D) → Type 0
+Unticketed D p = (w : StatementProgress D) × (p ≡ Some w) × (w.ticket ≡ None)
 
 module _ (D : SequentialDatabase) (opening : SequentialState D) (s : State D) (u : ℕ) (state : UnitState D) where
   -- the next statement drew its ticket
@@ -34,7 +34,7 @@ module _ (D : SequentialDatabase) (opening : SequentialState D) (s : State D) (u
     pub drew : DrawsNext alone.new t → Unticketed D state.progress
     pub undrawn : Unticketed D alone.new.progress → (alone.new.remaining ≡ state.remaining) × ((state.progress ≡ None) ⊎ Unticketed D state.progress)
 
-  updated_alone : (location : D.Cell → Location D.Value) (g : D.Guesses) (p : Option (Progress D)) → (Unticketed D p → (state.progress ≡ None) ⊎ Unticketed D state.progress) → OneStep (updated D s u state location g p)
+  updated_alone : (location : D.Cell → CellLocation D.Value) (g : D.Guesses) (p : Option (StatementProgress D)) → (Unticketed D p → (state.progress ≡ None) ⊎ Unticketed D state.progress) → OneStep (updated D s u state location g p)
   unfolding updated
   updated_alone location g p f = record {
     alone = record { new = with_progress D state g p; units = refl; drawn = inl (refl, refl) };
@@ -43,24 +43,24 @@ module _ (D : SequentialDatabase) (opening : SequentialState D) (s : State D) (u
   }
 
   -- with a ticket
-  ticketed : (v : Progress D) (t : ℕ) → v.ticket ≡ Some t → Unticketed D (Some v) → ⊥
-  ticketed v t has q = let k : v.ticket ≡ q.0.ticket = ap (λ (y : Progress D). y.ticket) (same_Some v q.0 q.1) in let none = q.2 in absurd (cc (has, k, none))
+  ticketed : (v : StatementProgress D) (t : ℕ) → v.ticket ≡ Some t → Unticketed D (Some v) → ⊥
+  ticketed v t has q = let k : v.ticket ≡ q.0.ticket = ap (λ (y : StatementProgress D). y.ticket) (same_Some v q.0 q.1) in let none = q.2 in absurd (cc (has, k, none))
 
-  over_ticketed : (v : Progress D) (areas : List ℕ) (cells : List (HeldCell D.Cell D.Value)) (t : ℕ) → v.ticket ≡ Some t → Unticketed D (unless_over D v areas cells) → ⊥
+  over_ticketed : (v : StatementProgress D) (areas : List ℕ) (cells : List (HeldCell D.Cell D.Value)) (t : ℕ) → v.ticket ≡ Some t → Unticketed D (unless_over D v areas cells) → ⊥
   unfolding unless_over
   over_ticketed v [] [] t has q = let e = q.1 in absurd (cc (e))
   over_ticketed v [] (h ∷ hs) t has q = ticketed v t has q
   over_ticketed v (a ∷ areas) cells t has q = ticketed v t has q
 
-  after_ticket_alone : (w : Progress D) (t : ℕ) → w.ticket ≡ Some t → (b : Bool) (cells : List (HeldCell D.Cell D.Value)) (areas : List ℕ) → OneStep (after_ticket D s u state w b cells areas)
+  after_ticket_alone : (w : StatementProgress D) (t : ℕ) → w.ticket ≡ Some t → (b : Bool) (cells : List (HeldCell D.Cell D.Value)) (areas : List ℕ) → OneStep (after_ticket D s u state w b cells areas)
   unfolding after_ticket
   after_ticket_alone w t has true cells areas = updated_alone _ _ _ (λ q. absurd (ticketed (record w { linked = suc w.linked }) t has q))
   after_ticket_alone w t has false (h ∷ hs) areas = updated_alone _ _ _ (λ q. absurd (over_ticketed (record w { cells = hs }) areas hs t has q))
   after_ticket_alone w t has false [] (a ∷ areas) = updated_alone _ _ _ (λ q. absurd (over_ticketed (record w { areas = areas }) areas [] t has q))
   after_ticket_alone w t has false [] [] = updated_alone _ _ _ (λ q. (let e = q.1 in absurd (cc (e))))
 
-  module _ (w : Progress D) (is : state.progress ≡ Some w) (none : w.ticket ≡ None) (x : D.Statement) (xs : List D.Statement) (r : state.remaining ≡ x ∷ xs) where
-    so_before : {p : Option (Progress D)} → Unticketed D p → (state.progress ≡ None) ⊎ Unticketed D state.progress
+  module _ (w : StatementProgress D) (is : state.progress ≡ Some w) (none : w.ticket ≡ None) (x : D.Statement) (xs : List D.Statement) (r : state.remaining ≡ x ∷ xs) where
+    so_before : {p : Option (StatementProgress D)} → Unticketed D p → (state.progress ≡ None) ⊎ Unticketed D state.progress
     so_before q = inr (w, is, none)
 
     ticket_alone : OneStep (with_ticket D opening s u state w x xs)
@@ -80,7 +80,7 @@ module _ (D : SequentialDatabase) (opening : SequentialState D) (s : State D) (u
         go false = updated_alone _ _ _ so_before
     follows_need_alone (NeedsCell c) = go (s.location c)
       where
-        go : (p : Location D.Value) → IfMoved D (takes_cell D s u state w c p) OneStep
+        go : (p : CellLocation D.Value) → IfMoved D (takes_cell D s u state w c p) OneStep
         go (HeldBy v) = tt
         go (Home v) = updated_alone _ _ _ so_before
     follows_need_alone (StaleGuesses g) = updated_alone _ _ _ so_before
@@ -92,13 +92,13 @@ module _ (D : SequentialDatabase) (opening : SequentialState D) (s : State D) (u
     before_ticket_alone true [] = follows_need_alone _
     before_ticket_alone false cells = follows_need_alone _
 
-  in_statement_alone : (w : Progress D) → state.progress ≡ Some w → (t : Option ℕ) → w.ticket ≡ t → (xs : List D.Statement) → state.remaining ≡ xs → IfMoved D (in_statement D opening s u state w t xs) OneStep
+  in_statement_alone : (w : StatementProgress D) → state.progress ≡ Some w → (t : Option ℕ) → w.ticket ≡ t → (xs : List D.Statement) → state.remaining ≡ xs → IfMoved D (in_statement D opening s u state w t xs) OneStep
   unfolding in_statement IfMoved
   in_statement_alone w is (Some t) has xs r = after_ticket_alone w t has _ _ _
   in_statement_alone w is None has (x ∷ xs) r = before_ticket_alone w is has x xs r _ _
   in_statement_alone w is None has [] r = tt
 
-  step_of_unit_alone : (p : Option (Progress D)) → state.progress ≡ p → (xs : List D.Statement) → state.remaining ≡ xs → IfMoved D (step_of_unit D opening s u state p xs) OneStep
+  step_of_unit_alone : (p : Option (StatementProgress D)) → state.progress ≡ p → (xs : List D.Statement) → state.remaining ≡ xs → IfMoved D (step_of_unit D opening s u state p xs) OneStep
   unfolding step_of_unit IfMoved
   step_of_unit_alone (Some w) is xs r = in_statement_alone w is _ refl xs r
   step_of_unit_alone None is (x ∷ xs) r = updated_alone _ _ _ (λ q. inl is)

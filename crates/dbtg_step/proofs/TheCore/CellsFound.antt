@@ -19,7 +19,7 @@ use Rattle.dbtg_unit.proofs.Public.{In as AmongKeys, held_cell_agrees, held_is_t
 use Rattle.dbtg_step.specs.declared.parts.Parts.{Parts}
 use Rattle.dbtg_step.specs.declared.parts.CellLocation.{CellLocation}
 use Rattle.dbtg_step.specs.declared.parts.CellLocation.TheVariants.{Home as AtHome, HeldBy as WithUnit}
-use Rattle.dbtg_step.specs.declared.parts.Runner.{Runner}
+use Rattle.dbtg_step.specs.declared.parts.UnitState.{UnitState as CoreUnit}
 use Rattle.dbtg_step.specs.declared.parts.StatementProgress.{StatementProgress}
 use Rattle.dbtg_step.specs.Machine.SequentialDatabase.{HeldCell, In, unit_at}
 use Rattle.dbtg_step.specs.Machine.Machine.{UnitState, held_cells}
@@ -89,7 +89,7 @@ entries_again schema capacity [] = refl
 entries_again schema capacity (e ∷ es) = ap (λ rest. e ∷ rest) (entries_again schema capacity es)
 
 module _ (schema : Lists) (capacity : ℕ) (parts : Parts) (well : IsWell schema capacity parts) where
-  held_there : (r : Runner) (c : CellName) → HoldsCell (network schema capacity) (progress_of schema capacity r.held r.progress) c → holds r.held.cells c ≡ true
+  held_there : (r : CoreUnit) (c : CellName) → HoldsCell (network schema capacity) (progress_of schema capacity r.held r.progress) c → holds r.held.cells c ≡ true
   unfolding held_cells
   held_there r c h = by r.progress h where
     by : (o : Option StatementProgress) → HoldsCell (network schema capacity) (progress_of schema capacity r.held o) c → holds r.held.cells c ≡ true
@@ -118,7 +118,7 @@ module _ (schema : Lists) (capacity : ℕ) (parts : Parts) (well : IsWell schema
       let x = held_is_there r.held.cells c has in
       record {
         which = x.0;
-        there = placed c n e (WithUnit u) f ∙ ap (option_and_then (λ (r : Runner). cell_of c r.held.cells)) unit.at ∙ x.1;
+        there = placed c n e (WithUnit u) f ∙ ap (option_and_then (λ (r : CoreUnit). cell_of c r.held.cells)) unit.at ∙ x.1;
         shows = held_cell_agrees schema capacity (database_of schema capacity parts) r.held.cells c x.0 (agrees_now schema capacity u parts r well number.0 number.1).cells x.1;
       }
 

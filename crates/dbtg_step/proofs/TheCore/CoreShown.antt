@@ -15,7 +15,7 @@ use Rattle.dbtg_unit.specs.Database.State.LegalWith.{LegalWith}
 use Rattle.dbtg_unit.specs.Database.Laws.Replay.{AnswersHold, State as DatabaseState, TicketsInOrder, entries_of, opening_state, replay as replay_entries}
 use Rattle.dbtg_step.specs.declared.parts.Parts.{Parts}
 use Rattle.dbtg_step.specs.declared.parts.CellLocation.TheVariants.{Home as AtHome, HeldBy as WithUnit}
-use Rattle.dbtg_step.specs.declared.parts.Runner.{Runner}
+use Rattle.dbtg_step.specs.declared.parts.UnitState.{UnitState as CoreUnit}
 use Rattle.dbtg_step.specs.declared.parts.StatementProgress.{StatementProgress}
 use Rattle.dbtg_step.specs.Machine.SequentialDatabase.{HeldCell, In, unit_at}
 use Rattle.dbtg_step.specs.Machine.Machine.{UnitState, held_areas, held_cells, holds_exclusively, replay}
@@ -52,7 +52,7 @@ module _ (schema : Lists) (capacity : ℕ) (parts : Parts) (well : IsWell schema
   abbrev core : CoreParts
   core = core_with schema capacity parts
 
-  units_again : (runners : List Runner) → map (λ (s : UnitState (network schema capacity)). s.unit) (map (unit_state_of schema capacity) runners) ≡ map (λ r. r.unit) runners
+  units_again : (runners : List CoreUnit) → map (λ (s : UnitState (network schema capacity)). s.unit) (map (unit_state_of schema capacity) runners) ≡ map (λ r. r.unit) runners
   units_again [] = refl
   units_again (r ∷ rs) = ap (λ us. r.unit ∷ us) (units_again rs)
 
@@ -84,7 +84,7 @@ module _ (schema : Lists) (capacity : ℕ) (parts : Parts) (well : IsWell schema
   unfolding state_from
   home_is c x at = now_is c x (well.lawful.home c (shown x) (location_placed schema capacity parts.table.items c at.0 (AtHome x) at.1 at.2))
 
-  in_hands : (r : Runner) (c : CellName) → HoldsCell (network schema capacity) (progress_of schema capacity r.held r.progress) c → FromHand r.held.cells c
+  in_hands : (r : CoreUnit) (c : CellName) → HoldsCell (network schema capacity) (progress_of schema capacity r.held r.progress) c → FromHand r.held.cells c
   unfolding held_cells
   in_hands r c h = by r.progress h where
     by : (o : Option StatementProgress) → HoldsCell (network schema capacity) (progress_of schema capacity r.held o) c → FromHand r.held.cells c
@@ -101,7 +101,7 @@ module _ (schema : Lists) (capacity : ℕ) (parts : Parts) (well : IsWell schema
       let f = in_hands unit.it c (subst (λ (x : UnitState (network schema capacity)). HoldsCell (network schema capacity) x.progress c) (sym unit.is) holder.holds) in
       record { who = unit.it; is = unit.at; what = f.what; there = f.there; name = f.name }
 
-  module _ (u : ℕ) (r : Runner) (at : IsRunner core u r) where
+  module _ (u : ℕ) (r : CoreUnit) (at : IsRunner core u r) where
     lawful_unit : UnitLawful (network schema capacity) (opening_for schema capacity parts) (state_of schema capacity parts).location (state_of schema capacity parts).history u (unit_state_of schema capacity r)
     lawful_unit =
         let n = numbered parts.runners.items u r at in
@@ -158,7 +158,7 @@ module _ (schema : Lists) (capacity : ℕ) (parts : Parts) (well : IsWell schema
       settled = settled;
     }
 
-  areas_are : (u w : ℕ) (r q : Runner) → u ≢ w → IsRunner core u r → IsRunner core w q → AreasShared r q
+  areas_are : (u w : ℕ) (r q : CoreUnit) → u ≢ w → IsRunner core u r → IsRunner core w q → AreasShared r q
   areas_are u w r q ne at at' a i j =
       let n = numbered parts.runners.items u r at in
       let m = numbered parts.runners.items w q at' in
@@ -180,19 +180,19 @@ module _ (schema : Lists) (capacity : ℕ) (parts : Parts) (well : IsWell schema
   }
 
   -- each unit is the one to which the history leads
-  pub unit_led_to : (u : ℕ) → option_map (λ (r : Runner). r.unit) (unit_at parts.runners.items u) ≡ unit_at (state_now (core_with schema capacity parts)).units u
-  unit_led_to u = sym (map_at (λ (r : Runner). r.unit) parts.runners.items u) ∙ ap (λ us. unit_at us u) units_are
+  pub unit_led_to : (u : ℕ) → option_map (λ (r : CoreUnit). r.unit) (unit_at parts.runners.items u) ≡ unit_at (state_now (core_with schema capacity parts)).units u
+  unit_led_to u = sym (map_at (λ (r : CoreUnit). r.unit) parts.runners.items u) ∙ ap (λ us. unit_at us u) units_are
 
 -- THE HEADLINE
 
 begins : (core : CoreParts) → IsCore core → (u : ℕ) (script : List Statement) → unit_at (map (λ r. r.script) core.runners) u ≡ Some script → (remaining : List Statement) × (map (λ (e : Entry). e.statement) (entries_of u core.history) ++ remaining ≡ script)
 begins core is u script at =
-    let unit = came_from (λ (r : Runner). r.script) core.runners u script at in
+    let unit = came_from (λ (r : CoreUnit). r.script) core.runners u script at in
     (drop unit.it.next unit.it.script, is.scripts u unit.it unit.at ∙ unit.is)
 
 pub core_sequential : EveryCoreIsSequential
 core_sequential core is =
-    let units : length core.runners ≡ length (map (λ (r : Runner). r.script) core.runners) = sym (length-map core.runners (λ (r : Runner). r.script)) in
+    let units : length core.runners ≡ length (map (λ (r : CoreUnit). r.script) core.runners) = sym (length-map core.runners (λ (r : CoreUnit). r.script)) in
     record {
       tickets = is.tickets;
       answers = subst (λ n. AnswersHold core.schema core.capacity (opening_state core.schema n) core.history) units is.answers;

@@ -22,7 +22,7 @@ use Rattle.dbtg_unit.specs.declared.statement.Statement.TheVariants.{OpenArea, C
 use Rattle.dbtg_unit.specs.declared.unit.Entry.{Entry}
 use Rattle.dbtg_unit.specs.Database.State.Base.{Database, Record, key_at, owner_of}
 use Rattle.dbtg_unit.specs.Database.State.Cells.{cell, slot_of}
-use Rattle.dbtg_unit.specs.Database.Statements.Effect.{Outcome, effect, version_of}
+use Rattle.dbtg_unit.specs.Database.Statements.Effect.{StatementEffect, effect, version_of}
 use Rattle.dbtg_unit.specs.Database.Statements.Codes.{is_done}
 use Rattle.dbtg_unit.specs.Hands.Guesses.{guesses_after, noted_guesses}
 use Rattle.dbtg_unit.specs.Hands.Hands.{Hands, cell_of}
@@ -34,7 +34,7 @@ use Rattle.dbtg_unit.specs.Database.State.Units.{owners_of}
 use Rattle.dbtg_unit.specs.Database.State.Versions.{VersionsUpTo}
 use Rattle.dbtg_unit.proofs.Public.{versions_are_bounded}
 use Rattle.dbtg_step.specs.declared.parts.Parts.{Parts}
-use Rattle.dbtg_step.specs.declared.parts.Runner.{Runner}
+use Rattle.dbtg_step.specs.declared.parts.UnitState.{UnitState}
 use Rattle.dbtg_step.specs.declared.parts.StatementProgress.{StatementProgress}
 use Rattle.dbtg_unit.specs.declared.moves.Stepped.TheVariants.{Moved, NoMemory}
 use Rattle.dbtg_step.specs.Machine.SequentialDatabase.{HeldCell, NeedsNothing, with_unit_at}
@@ -46,7 +46,7 @@ use Rattle.dbtg_step.specs.Inside.Parts.{progress_while_held}
 use Rattle.dbtg_step.specs.Inside.Stands.{StandsNeeding}
 use Rattle.dbtg_step.specs.Inside.Leaves.{IsDrawn, IsUnmade}
 use Rattle.dbtg_step.specs.Inside.Events.{IsStepped, IsWell, NeedsNext, RunnerFits, RunnersFit, opening_for}
-use Rattle.dbtg_step.proofs.TheCore.CoursesKept.{no_course}
+use Rattle.dbtg_step.proofs.TheCore.CoursesMatch.{no_course}
 use Rattle.dbtg_step.proofs.TheCore.EventsShown.{over_is_empty, unit_written, while_held_is, written_fit}
 use Rattle.dbtg_step.proofs.TheCore.FollowsShown.{follows, refused_is, statement, wants}
 use Rattle.dbtg_step.proofs.Runs.Headlines.{replays_same}
@@ -113,7 +113,7 @@ module _ (schema : Lists) (capacity : ℕ) where
   noted_length db (Free all) guesses None e = e
 
   -- there are as many guesses as sets after a statement too
-  pub guesses_length : (x : Statement) (guesses : List (Option Owner)) (outcome : Outcome) → length guesses ≡ length schema.sets → length (guesses_after schema capacity x guesses outcome) ≡ length schema.sets
+  pub guesses_length : (x : Statement) (guesses : List (Option Owner)) (outcome : StatementEffect) → length guesses ≡ length schema.sets → length (guesses_after schema capacity x guesses outcome) ≡ length schema.sets
   guesses_length x guesses outcome e = by (is_done outcome.answer.status)
     where
       by : (b : Bool) → length (cond b (noted_guesses schema capacity outcome.database x guesses outcome.unit.currency.run_unit) guesses) ≡ length schema.sets
@@ -157,7 +157,7 @@ progress_shows schema capacity old new a c (Some w) = λ i. Some (record { exclu
 
 -- THE TICKET
 
-module _ (schema : Lists) (capacity u : ℕ) (old : Parts) (r : Runner) (well : IsWell schema capacity old) (numbered : 0 < u) (at : slice_get old.runners.items (u - 1) ≡ Some r) (w : StatementProgress) (s : StandsNeeding r w) (needs : NeedsNext schema capacity old u w Ready) where
+module _ (schema : Lists) (capacity u : ℕ) (old : Parts) (r : UnitState) (well : IsWell schema capacity old) (numbered : 0 < u) (at : slice_get old.runners.items (u - 1) ≡ Some r) (w : StatementProgress) (s : StandsNeeding r w) (needs : NeedsNext schema capacity old u w Ready) where
   abbrev db : Database
   db = database_now schema capacity u old r well numbered at
 
@@ -182,7 +182,7 @@ module _ (schema : Lists) (capacity u : ℕ) (old : Parts) (r : Runner) (well : 
         versions = versions_next schema capacity db (length old.history.items) versions_here r.held.cells agrees.cells few;
       }
 
-  pub unmade_is : (new : Parts) (n : Runner) → new.table.items ≡ old.table.items → new.history.items ≡ old.history.items → new.runners.items ≡ slice_set old.runners.items (u - 1) n → IsUnmade r n → IsStepped schema capacity u NoMemory old new
+  pub unmade_is : (new : Parts) (n : UnitState) → new.table.items ≡ old.table.items → new.history.items ≡ old.history.items → new.runners.items ≡ slice_set old.runners.items (u - 1) n → IsUnmade r n → IsStepped schema capacity u NoMemory old new
   unfolding follows_need
   unmade_is new n t h runners m =
       let cells : held_cells_of n.held.cells ≡ held_cells_of r.held.cells = ap reverse (of_values schema capacity db n.held.cells ∙ ap (map (to_held schema capacity db)) m.shows.cells ∙ sym (of_values schema capacity db r.held.cells)) in
@@ -198,12 +198,12 @@ module _ (schema : Lists) (capacity u : ℕ) (old : Parts) (r : Runner) (well : 
       refused_is schema capacity u old r well numbered at w s wanting new n t h runners (ap (unit_state_of schema capacity) m.rest ∙ state)
       (subst (RunnerFits schema capacity) (sym m.rest) (record { settled = λ q. absurd (cc (q, s.before.progress)); guesses = ap length m.shows.guesses ∙ (well.runners (u - 1) r at).guesses; course = λ v q t x is. no_course schema capacity n.held r.unit x }))
 
-  pub drawn_is : (new : Parts) (n : Runner) → new.table.items ≡ old.table.items → new.runners.items ≡ slice_set old.runners.items (u - 1) n → ((x : Statement) (d : Database) → slice_get r.script r.next ≡ Some x → Agrees schema capacity d r.held r.unit → IsDrawn schema capacity d x u w old.history.items new.history.items r n) → IsStepped schema capacity u Moved old new
+  pub drawn_is : (new : Parts) (n : UnitState) → new.table.items ≡ old.table.items → new.runners.items ≡ slice_set old.runners.items (u - 1) n → ((x : Statement) (d : Database) → slice_get r.script r.next ≡ Some x → Agrees schema capacity d r.held r.unit → IsDrawn schema capacity d x u w old.history.items new.history.items r n) → IsStepped schema capacity u Moved old new
   unfolding follows_need with_ticket state_from
   drawn_is new n t runners f =
       let x = there_is r.script r.next s.before.left in
       let d = f x.0 db x.1 (agrees_now schema capacity u old r well numbered at) in
-      let done : Outcome = effect schema capacity db r.unit x.0 in
+      let done : StatementEffect = effect schema capacity db r.unit x.0 in
       let ticket : StatementProgress = record { exclusive = w.exclusive; turning_back = false; ticket = Some (length old.history.items); linked = 0 } in
       let entry : Entry = record { ticket = length old.history.items; unit = u; statement = x.0; answer = done.answer } in
       let due : held_cells_of n.held.cells ≡ due_cells (network schema capacity) done.database (held_cells_of r.held.cells) = held_are_due schema capacity done.database r.held.cells n.held.cells d.made.cells_are in

@@ -24,7 +24,7 @@ use Rattle.dbtg_unit.specs.Hands.Needs.{guessed_sets, wrong_owner}
 use Rattle.dbtg_step.specs.declared.parts.Parts.{Parts}
 use Rattle.dbtg_step.specs.declared.parts.CellLocation.{CellLocation}
 use Rattle.dbtg_step.specs.declared.parts.CellLocation.TheVariants.{Home as AtHome, HeldBy as WithUnit}
-use Rattle.dbtg_step.specs.declared.parts.Runner.{Runner}
+use Rattle.dbtg_step.specs.declared.parts.UnitState.{UnitState}
 use Rattle.dbtg_step.specs.declared.parts.StatementProgress.{StatementProgress}
 use Rattle.dbtg_unit.specs.declared.moves.Stepped.{Stepped}
 use Rattle.dbtg_unit.specs.declared.moves.Stepped.TheVariants.{Moved, Blocked, Idle, NoMemory}
@@ -33,14 +33,14 @@ use Rattle.dbtg_step.specs.Machine.Machine.{HeldBy, State, held_areas, holds_exc
 use Rattle.dbtg_step.specs.Machine.Step.{any_but, any_other, conflicts, follows_need, is_nonempty, next_need, step, takes_area, takes_cell, IsBlocked, MovedTo}
 use Rattle.dbtg_step.specs.Machine.Network.{network, next_need_of, noted_owners}
 use Rattle.dbtg_step.specs.Inside.Courses.{HasMore}
-use Rattle.dbtg_step.specs.Core.Courses.{IsCourseKept}
+use Rattle.dbtg_step.specs.Core.Courses.{CourseMatches}
 use Rattle.dbtg_step.specs.Core.Parts.{held_cells_of, held_of, location_at, location_of, note_of, progress_of, shown_progress, state_from, unit_state_of}
 use Rattle.dbtg_step.specs.Inside.Parts.{state_of}
 use Rattle.dbtg_step.specs.Inside.Stands.{holds_against, StandsNeeding, progress_holds_against}
 use Rattle.dbtg_step.specs.Inside.Leaves.{IsTaken}
 use Rattle.dbtg_step.specs.Inside.Events.{IsStepped, IsWell, NeedsNext, RunnerFits, RunnersFit, database_of, noted_now, opening_for}
 use Rattle.dbtg_step.specs.Core.Events.{WantsMemory}
-use Rattle.dbtg_step.proofs.TheCore.CoursesKept.{course_stays, more_by_area, more_by_cell, no_course}
+use Rattle.dbtg_step.proofs.TheCore.CoursesMatch.{course_stays, more_by_area, more_by_cell, no_course}
 use Rattle.dbtg_step.proofs.TheCore.EventsShown.{drop_found, found, length_held, moved_is, nonempty_length, staged_fits, unit_there, unit_written, written_fit}
 use Rattle.dbtg_step.proofs.TheCore.NeedsShown.{any_reverse}
 use Rattle.dbtg_step.proofs.TheCore.PlacesOfCells.{held_behind, location_placed, written_is}
@@ -58,7 +58,7 @@ or_grouped true b c = refl
 or_grouped false b c = refl
 
 module _ (schema : Lists) (capacity : ℕ) (exclusive : Bool) (a : ℕ) where
-  pub conflict_is : (r : Runner) → conflicts (network schema capacity) exclusive a (unit_state_of schema capacity r) ≡ holds_against exclusive a r
+  pub conflict_is : (r : UnitState) → conflicts (network schema capacity) exclusive a (unit_state_of schema capacity r) ≡ holds_against exclusive a r
   unfolding conflicts held_areas holds_exclusively
   conflict_is r = by r.progress
     where
@@ -66,18 +66,18 @@ module _ (schema : Lists) (capacity : ℕ) (exclusive : Bool) (a : ℕ) where
       by None = refl
       by (Some w) = ap (λ b. b && (exclusive || w.exclusive)) (eq_turned a (reverse r.held.areas) ∙ any_reverse (λ b. eqb b a) r.held.areas)
 
-  any_conflict_is : (runners : List Runner) → list_any (conflicts (network schema capacity) exclusive a) (map (unit_state_of schema capacity) runners) ≡ list_any (holds_against exclusive a) runners
+  any_conflict_is : (runners : List UnitState) → list_any (conflicts (network schema capacity) exclusive a) (map (unit_state_of schema capacity) runners) ≡ list_any (holds_against exclusive a) runners
   any_conflict_is [] = refl
   any_conflict_is (r ∷ rs) = λ i. conflict_is r i || any_conflict_is rs i
 
-  others_but : (i : ℕ) (runners : List Runner) → any_but (conflicts (network schema capacity) exclusive a) i (map (unit_state_of schema capacity) runners) ≡ list_any (holds_against exclusive a) (take i runners) || list_any (holds_against exclusive a) (drop (suc i) runners)
+  others_but : (i : ℕ) (runners : List UnitState) → any_but (conflicts (network schema capacity) exclusive a) i (map (unit_state_of schema capacity) runners) ≡ list_any (holds_against exclusive a) (take i runners) || list_any (holds_against exclusive a) (drop (suc i) runners)
   unfolding any_but
   others_but zero [] = refl
   others_but (suc i) [] = refl
   others_but zero (r ∷ rs) = any_conflict_is rs
   others_but (suc i) (r ∷ rs) = (λ j. conflict_is r j || others_but i rs j) ∙ or_grouped (holds_against exclusive a r) (list_any (holds_against exclusive a) (take i rs)) (list_any (holds_against exclusive a) (drop (suc i) rs))
 
-  pub others_hold : (u : ℕ) (runners : List Runner) → 0 < u → any_other (conflicts (network schema capacity) exclusive a) u (map (unit_state_of schema capacity) runners) ≡ list_any (holds_against exclusive a) (take (u - 1) runners) || list_any (holds_against exclusive a) (drop u runners)
+  pub others_hold : (u : ℕ) (runners : List UnitState) → 0 < u → any_other (conflicts (network schema capacity) exclusive a) u (map (unit_state_of schema capacity) runners) ≡ list_any (holds_against exclusive a) (take (u - 1) runners) || list_any (holds_against exclusive a) (drop u runners)
   unfolding any_other
   others_hold zero runners l = absurd (omega arith)
   others_hold (suc i) runners l = let back : i ≡ suc i - 1 = omega arith in others_but i runners ∙ ap (λ k. list_any (holds_against exclusive a) (take k runners) || list_any (holds_against exclusive a) (drop (suc i) runners)) back
@@ -111,7 +111,7 @@ set_same (z ∷ xs) (suc i) x e = ap (λ ys. z ∷ ys) (set_same xs i x e)
 
 -- WHAT A STATEMENT DOES BEFORE ITS TICKET
 
-module _ (schema : Lists) (capacity u : ℕ) (old : Parts) (r : Runner) (well : IsWell schema capacity old) (numbered : 0 < u) (at : slice_get old.runners.items (u - 1) ≡ Some r) (w : StatementProgress) (s : StandsNeeding r w) where
+module _ (schema : Lists) (capacity u : ℕ) (old : Parts) (r : UnitState) (well : IsWell schema capacity old) (numbered : 0 < u) (at : slice_get old.runners.items (u - 1) ≡ Some r) (w : StatementProgress) (s : StandsNeeding r w) where
   abbrev pub statement : (x : Statement) × (slice_get r.script r.next ≡ Some x)
   statement = there_is r.script r.next s.before.left
 
@@ -143,13 +143,13 @@ module _ (schema : Lists) (capacity u : ℕ) (old : Parts) (r : Runner) (well : 
   }
 
   -- what is kept of its course stays right while more comes to hand
-  goes_on : (held : Hands) → HasMore r.held held → w.ticket ≡ None → (x : Statement) → slice_get r.script r.next ≡ Some x → IsCourseKept schema capacity held r.unit x r.course
+  goes_on : (held : Hands) → HasMore r.held held → w.ticket ≡ None → (x : Statement) → slice_get r.script r.next ≡ Some x → CourseMatches schema capacity held r.unit x r.course
   goes_on held more t x is = course_stays schema capacity r.held r.unit held more x r.course ((well.runners (u - 1) r at).course w s.before.progress t x is)
 
   pub blocked_is : (new : Parts) → step (network schema capacity) (opening_for schema capacity old) (state_of schema capacity old) u ≡ IsBlocked → new.table.items ≡ old.table.items → new.history.items ≡ old.history.items → new.runners.items ≡ old.runners.items → IsStepped schema capacity u Blocked old new
   blocked_is new e t h n = record { tells = (e, λ i. state_from schema capacity (t i) (h i) (n i)); table = ap length t; count = ap length n; runners = subst (RunnersFit schema capacity) (sym n) well.runners }
 
-  pub refused_is : WantsMemory (opening_for schema capacity old) (state_of schema capacity old) u → (new : Parts) (n : Runner) → new.table.items ≡ old.table.items → new.history.items ≡ old.history.items → new.runners.items ≡ slice_set old.runners.items (u - 1) n → unit_state_of schema capacity n ≡ unit_state_of schema capacity r → RunnerFits schema capacity n → IsStepped schema capacity u NoMemory old new
+  pub refused_is : WantsMemory (opening_for schema capacity old) (state_of schema capacity old) u → (new : Parts) (n : UnitState) → new.table.items ≡ old.table.items → new.history.items ≡ old.history.items → new.runners.items ≡ slice_set old.runners.items (u - 1) n → unit_state_of schema capacity n ≡ unit_state_of schema capacity r → RunnerFits schema capacity n → IsStepped schema capacity u NoMemory old new
   unfolding state_from
   refused_is wanting new n t h runners e f =
       let units : map (unit_state_of schema capacity) new.runners.items ≡ map (unit_state_of schema capacity) old.runners.items =
@@ -175,7 +175,7 @@ module _ (schema : Lists) (capacity u : ℕ) (old : Parts) (r : Runner) (well : 
     unfolding takes_area
     area_blocked new e t h n = blocked_is new (area_step true e) t h n
 
-    pub area_taken : (new : Parts) (n : Runner) (mid : Hands) → list_any (holds_against w.exclusive a) (take (u - 1) old.runners.items) || list_any (holds_against w.exclusive a) (drop u old.runners.items) ≡ false → new.table.items ≡ old.table.items → new.history.items ≡ old.history.items → new.runners.items ≡ slice_set old.runners.items (u - 1) n →
+    pub area_taken : (new : Parts) (n : UnitState) (mid : Hands) → list_any (holds_against w.exclusive a) (take (u - 1) old.runners.items) || list_any (holds_against w.exclusive a) (drop u old.runners.items) ≡ false → new.table.items ≡ old.table.items → new.history.items ≡ old.history.items → new.runners.items ≡ slice_set old.runners.items (u - 1) n →
         mid ≡ record r.held { areas = r.held.areas ++ a ∷ [] } → n ≡ record r { held = mid } → IsStepped schema capacity u Moved old new
     unfolding takes_area state_from
     area_taken new n mid e t h runners m is =
@@ -186,7 +186,7 @@ module _ (schema : Lists) (capacity u : ℕ) (old : Parts) (r : Runner) (well : 
         (ap (unit_state_of schema capacity) (all ∙ staged) ∙ (λ i. record { unit = r.unit; guesses = r.held.guesses; script = r.script; remaining = drop r.next r.script; progress = Some (record (shown_progress schema capacity r.held w) { areas = reverse_more r.held.areas a i }) }))
         (subst (RunnerFits schema capacity) (sym (all ∙ staged)) (staged_fits schema capacity r (record r.held { areas = r.held.areas ++ a ∷ [] }) w r.course (well.runners (u - 1) r at) refl (goes_on (record r.held { areas = r.held.areas ++ a ∷ [] }) (more_by_area r.held (record r.held { areas = r.held.areas ++ a ∷ [] }) a refl))))
 
-    pub area_refused : (new : Parts) (n : Runner) (mid : Hands) → list_any (holds_against w.exclusive a) (take (u - 1) old.runners.items) || list_any (holds_against w.exclusive a) (drop u old.runners.items) ≡ false → new.table.items ≡ old.table.items → new.history.items ≡ old.history.items → new.runners.items ≡ slice_set old.runners.items (u - 1) n → mid ≡ r.held → n ≡ record r { held = mid } → IsStepped schema capacity u NoMemory old new
+    pub area_refused : (new : Parts) (n : UnitState) (mid : Hands) → list_any (holds_against w.exclusive a) (take (u - 1) old.runners.items) || list_any (holds_against w.exclusive a) (drop u old.runners.items) ≡ false → new.table.items ≡ old.table.items → new.history.items ≡ old.history.items → new.runners.items ≡ slice_set old.runners.items (u - 1) n → mid ≡ r.held → n ≡ record r { held = mid } → IsStepped schema capacity u NoMemory old new
     unfolding takes_area
     area_refused new n mid e t h runners m is =
         let same : n ≡ r = is ∙ ap (λ (x : Hands). record r { held = x }) m in
@@ -201,7 +201,7 @@ module _ (schema : Lists) (capacity u : ℕ) (old : Parts) (r : Runner) (well : 
         ∙ follows_cell (network schema capacity) (opening_for schema capacity old) (state_of schema capacity old) u (unit_state_of schema capacity r) (found schema capacity u old r well numbered at) (shown_progress schema capacity r.held w) (ap (progress_of schema capacity r.held) s.before.progress) statement.0 (drop (suc r.next) r.script) s.before.ticket (drop_found r.script r.next statement.0 statement.1)
         c (location_of p) (location_placed schema capacity old.table.items c number p is_number e)
 
-    pub cell_followed : (new : Parts) (n : Runner) (mid : Hands) (result : Stepped) → IsTaken u number c old.table.items new.table.items r.held mid result → new.history.items ≡ old.history.items → new.runners.items ≡ slice_set old.runners.items (u - 1) n → n ≡ record r { held = mid } → IsStepped schema capacity u result old new
+    pub cell_followed : (new : Parts) (n : UnitState) (mid : Hands) (result : Stepped) → IsTaken u number c old.table.items new.table.items r.held mid result → new.history.items ≡ old.history.items → new.runners.items ≡ slice_set old.runners.items (u - 1) n → n ≡ record r { held = mid } → IsStepped schema capacity u result old new
     unfolding takes_cell state_from
     cell_followed new n mid Moved m h runners is =
         let all : n ≡ record r { held = record r.held { cells = r.held.cells ++ (c, m.taken) ∷ [] } } = is ∙ ap (λ (x : Hands). record r { held = x }) m.held in
@@ -223,7 +223,7 @@ module _ (schema : Lists) (capacity u : ℕ) (old : Parts) (r : Runner) (well : 
 
   -- a turn back
   module _ (needs : NeedsNext schema capacity old u w Stale) (guesses : List (Option Owner)) (noted : guesses ≡ noted_now schema capacity old r statement.0) where
-    pub owners_noted : (new : Parts) (n : Runner) → new.table.items ≡ old.table.items → new.history.items ≡ old.history.items → new.runners.items ≡ slice_set old.runners.items (u - 1) n →
+    pub owners_noted : (new : Parts) (n : UnitState) → new.table.items ≡ old.table.items → new.history.items ≡ old.history.items → new.runners.items ≡ slice_set old.runners.items (u - 1) n →
         n ≡ record r { held = record r.held { guesses = guesses }; progress = Some (record w { turning_back = nat_lt 0 (length r.held.cells) }); course = None } → IsStepped schema capacity u Moved old new
     unfolding follows_need state_from
     owners_noted new n t h runners is =

@@ -24,7 +24,7 @@ use Rattle.dbtg_unit.specs.Database.Statements.Checks.{refused_at_once}
 use Rattle.dbtg_unit.specs.Hands.Hands.{Hands}
 use Rattle.dbtg_unit.specs.Hands.Needs.{areas_in_order, cells_of, is_stale, is_wrong_guess, need, next_of}
 use Rattle.dbtg_step.specs.declared.parts.Parts.{Parts}
-use Rattle.dbtg_step.specs.declared.parts.Runner.{Runner}
+use Rattle.dbtg_step.specs.declared.parts.UnitState.{UnitState}
 use Rattle.dbtg_step.specs.declared.parts.StatementProgress.{StatementProgress}
 use Rattle.dbtg_step.specs.Machine.SequentialDatabase.{NeedsArea, StaleGuesses}
 use Rattle.dbtg_step.specs.Machine.Machine.{State}
@@ -89,7 +89,7 @@ delete_goes_onward schema capacity db unit hands x deletes guesses others =
     not_stale_choice guesses others (is_some (refused_at_once schema capacity unit x)) (find (λ a. not (list_any (λ b. b == a) hands.areas)) (areas_in_order schema unit x)) (find (λ c. not (list_any (λ (f : CellName × Cell). name_eq c f.0) hands.cells)) (cells_of schema capacity db unit hands.guesses x))
     (is_stale schema capacity db unit hands.guesses x) (delete_is_not_stale schema capacity db unit hands.guesses x deletes)
 
-module _ (schema : Lists) (capacity u : ℕ) (old : Parts) (r : Runner) (well : IsWell schema capacity old) (numbered : 0 < u) (at : slice_get old.runners.items (u - 1) ≡ Some r) (w : StatementProgress) (s : StandsNeeding r w) where
+module _ (schema : Lists) (capacity u : ℕ) (old : Parts) (r : UnitState) (well : IsWell schema capacity old) (numbered : 0 < u) (at : slice_get old.runners.items (u - 1) ≡ Some r) (w : StatementProgress) (s : StandsNeeding r w) where
   -- a DELETE that has its areas waits for nobody
   pub delete_moves : ((x : Statement) → slice_get r.script r.next ≡ Some x → HasItsAreas schema r.unit r.held x) →
       (after : State (network schema capacity)) × (step (network schema capacity) (opening_for schema capacity old) (state_of schema capacity old) u ≡ MovedTo after)
@@ -127,7 +127,7 @@ pub err_also : {T E : Type 0} (r : Result T E) (P Q : Type 0) → (P → Q) → 
 err_also (Ok t) P Q f h = tt
 err_also (Err e) P Q f h = f h
 
-module _ (schema : Lists) (capacity u : ℕ) (old : Parts) (r : Runner) (well : IsWell schema capacity old) (numbered : 0 < u) (at : slice_get old.runners.items (u - 1) ≡ Some r) (w : StatementProgress) (s : StandsNeeding r w) where
+module _ (schema : Lists) (capacity u : ℕ) (old : Parts) (r : UnitState) (well : IsWell schema capacity old) (numbered : 0 < u) (at : slice_get old.runners.items (u - 1) ≡ Some r) (w : StatementProgress) (s : StandsNeeding r w) where
   -- a cell that is needed has a number
   pub needed_has_number : (c : CellName) → NeedsNext schema capacity old u w (Take c) → cell_number schema capacity c ≡ None → ⊥
   needed_has_number c needs e =

@@ -31,7 +31,7 @@ use Rattle.dbtg_cells.proofs.Public.{or_nothing, same_name}
 use Rattle.dbtg_unit.proofs.Public.{any_mapped}
 use Rattle.dbtg_step.specs.declared.parts.Parts.{Parts}
 use Rattle.dbtg_step.specs.declared.parts.CellLocation.TheVariants.{HeldBy as WithUnit}
-use Rattle.dbtg_step.specs.declared.parts.Runner.{Runner}
+use Rattle.dbtg_step.specs.declared.parts.UnitState.{UnitState}
 use Rattle.dbtg_step.specs.declared.parts.StatementProgress.{StatementProgress}
 use Rattle.dbtg_step.specs.Machine.SequentialDatabase.{HeldCell, In, unit_at}
 use Rattle.dbtg_step.specs.Machine.Machine.{held_cells, replay}
@@ -139,7 +139,7 @@ pub agree_each : (schema : Lists) (capacity : ℕ) (db : Database) (cells : List
 agree_each schema capacity db [] h = tt
 agree_each schema capacity db (e ∷ es) h = (h e (inl refl), agree_each schema capacity db es (λ f i. h f (inr i)))
 
-module _ (schema : Lists) (capacity u : ℕ) (parts : Parts) (r : Runner) (well : IsWell schema capacity parts) (numbered : 0 < u) (there : slice_get parts.runners.items (u - 1) ≡ Some r) where
+module _ (schema : Lists) (capacity u : ℕ) (parts : Parts) (r : UnitState) (well : IsWell schema capacity parts) (numbered : 0 < u) (there : slice_get parts.runners.items (u - 1) ≡ Some r) where
   -- the database of the history
   abbrev pub database_now : Database
   database_now = (replay (network schema capacity) (opening_for schema capacity parts) (state_of schema capacity parts).history).database
@@ -203,11 +203,11 @@ module _ (schema : Lists) (capacity u : ℕ) (parts : Parts) (r : Runner) (well 
     everywhere = h;
   }
 
-pub needs_next : (schema : Lists) (capacity u : ℕ) (parts : Parts) (r : Runner) → IsWell schema capacity parts → 0 < u → slice_get parts.runners.items (u - 1) ≡ Some r → (w : StatementProgress) (y : Statement) (n : Need) → slice_get r.script r.next ≡ Some y →
+pub needs_next : (schema : Lists) (capacity u : ℕ) (parts : Parts) (r : UnitState) → IsWell schema capacity parts → 0 < u → slice_get parts.runners.items (u - 1) ≡ Some r → (w : StatementProgress) (y : Statement) (n : Need) → slice_get r.script r.next ≡ Some y →
     ((db : Database) → Agrees schema capacity db r.held r.unit → n ≡ need schema capacity db r.unit r.held y) → NeedsNext schema capacity parts u w n
 needs_next schema capacity u parts r well numbered at w y n e h r' x at' e' =
     let same : r ≡ r' = cc (at, at') in
-    subst (λ (s : Runner). slice_get s.script s.next ≡ Some x → IsNext schema capacity parts s x w n) same
+    subst (λ (s : UnitState). slice_get s.script s.next ≡ Some x → IsNext schema capacity parts s x w n) same
     (λ f. let p : y ≡ x = cc (e, f) in subst (λ z. IsNext schema capacity parts r z w n) p (need_is schema capacity u parts r well numbered at w y n h)) e'
 
 -- what follows from what an Ok has

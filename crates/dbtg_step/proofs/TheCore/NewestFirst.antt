@@ -7,7 +7,7 @@ use Rattle.dbtg_schema.specs.Lists.{Lists}
 use Rattle.dbtg_cells.specs.declared.cell.Cell.{Cell}
 use Rattle.dbtg_cells.specs.declared.name.CellName.{CellName}
 use Rattle.dbtg_cells.specs.Shown.{CellValue}
-use Rattle.dbtg_step.specs.declared.parts.Runner.{Runner}
+use Rattle.dbtg_step.specs.declared.parts.UnitState.{UnitState}
 use Rattle.dbtg_step.specs.declared.parts.StatementProgress.{StatementProgress}
 use Rattle.dbtg_step.specs.declared.watching.Newest.{Newest}
 use Rattle.dbtg_step.specs.Machine.Machine.{held_areas, held_cells}
@@ -40,7 +40,7 @@ newest_cell cells =
     option_map-map (e ∷ es) (suc k) = option_map-map es k
 
 -- what a unit in mid-statement took last, by its hands
-pub newest_by_hands : (schema : Lists) (capacity : ℕ) (r : Runner) (w : StatementProgress) → r.progress ≡ Some w → (area : Option ℕ) (cell : Option CellName)
+pub newest_by_hands : (schema : Lists) (capacity : ℕ) (r : UnitState) (w : StatementProgress) → r.progress ≡ Some w → (area : Option ℕ) (cell : Option CellName)
     → area ≡ slice_get r.held.areas (length r.held.areas - 1)
     → cell ≡ option_map (λ (e : CellName × Cell). e.0) (slice_get r.held.cells (length r.held.cells - 1))
     → newest area cell ≡ newest_of (unit_state_of schema capacity r)
@@ -51,6 +51,6 @@ newest_by_hands schema capacity r w mid area cell area_is cell_is =
     ∙ sym (ap (λ (p : Option StatementProgress). newest_of (unit_state_of schema capacity (record r { progress = p }))) mid)
 
 -- a unit between statements holds nothing
-pub newest_between : (schema : Lists) (capacity : ℕ) (r : Runner) → r.progress ≡ None → newest_of (unit_state_of schema capacity r) ≡ record { area = None; cell = None }
+pub newest_between : (schema : Lists) (capacity : ℕ) (r : UnitState) → r.progress ≡ None → newest_of (unit_state_of schema capacity r) ≡ record { area = None; cell = None }
 unfolding held_areas held_cells
 newest_between schema capacity r between = ap (λ (p : Option StatementProgress). newest_of (unit_state_of schema capacity (record r { progress = p }))) between

@@ -37,7 +37,7 @@ use Rattle.dbtg_step.specs.Core.Openings.{homes_of, homes_shown}
 use Rattle.dbtg_step.specs.Inside.Openings.{locations_of, opening_runner, runners_from}
 use Rattle.dbtg_step.proofs.Runs.Headlines.{machine_is_opening}
 use Rattle.dbtg_step.proofs.Runs.EveryRun.{start_in_turn}
-use Rattle.dbtg_step.proofs.Runs.GuessesKept.{AllGuesses}
+use Rattle.dbtg_step.proofs.Runs.GuessesFit.{AllGuesses}
 use Rattle.dbtg_step.proofs.Network.NameOrder.{names_are_ordered}
 use Rattle.dbtg_step.proofs.Network.NeededCellsExist.{opening_has_rings}
 use Rattle.dbtg_step.proofs.Network.NetworkFacts.{needs_in_order, network_is_sequential}

@@ -11,11 +11,11 @@ use Rattle.dbtg_cells.specs.Names.{name_eq}
 use Rattle.dbtg_cells.specs.Shown.{CellValue}
 use Rattle.dbtg_cells.proofs.Public.{get_set_other, get_set_same, name_eq_refl, same_name, stands_at}
 use Rattle.dbtg_unit.specs.declared.unit.Entry.{Entry}
-use Rattle.dbtg_step.specs.declared.parts.CellLocation.{CellLocation}
+use Rattle.dbtg_step.specs.declared.parts.CellLocation.{CellLocation as CoreLocation}
 use Rattle.dbtg_step.specs.declared.parts.CellLocation.TheVariants.{Home as AtHome, HeldBy as WithUnit}
-use Rattle.dbtg_step.specs.declared.parts.Runner.{Runner}
+use Rattle.dbtg_step.specs.declared.parts.UnitState.{UnitState}
 use Rattle.dbtg_step.specs.Machine.SequentialDatabase.{with_unit_at}
-use Rattle.dbtg_step.specs.Machine.Machine.{Location, Home, HeldBy, Progress, relocated}
+use Rattle.dbtg_step.specs.Machine.Machine.{CellLocation, Home, HeldBy, StatementProgress, relocated}
 use Rattle.dbtg_step.specs.Machine.Step.{updated, with_progress}
 use Rattle.dbtg_step.specs.Machine.Network.{network}
 use Rattle.dbtg_step.specs.Core.Parts.{found_location, held_cells_of, held_of, location_at, location_in, location_of, note_of, state_from, unit_state_of}
@@ -33,7 +33,7 @@ module _ (schema : Lists) (capacity : ℕ) where
   number_within c n e = slice_get_within (cells_in_order schema capacity) n c (stands_at c (cells_in_order schema capacity) n e)
 
   -- a table that is written at one cell
-  pub written_is : (table : List CellLocation) (c : CellName) (n : ℕ) (p : CellLocation) → cell_number schema capacity c ≡ Some n → n < length table →
+  pub written_is : (table : List CoreLocation) (c : CellName) (n : ℕ) (p : CoreLocation) → cell_number schema capacity c ≡ Some n → n < length table →
       location_at schema capacity (slice_set table n p) ≡ relocated (network schema capacity) (location_at schema capacity table) c (location_of p)
   unfolding location_at relocated
   written_is table c n p e l = λ i d. each d (name_eq d c) refl i
@@ -50,16 +50,16 @@ module _ (schema : Lists) (capacity : ℕ) where
       each d false q = other d q (cell_number schema capacity d) refl ∙ sym (ap (λ b. cond b (location_of p) (location_in schema capacity table d (cell_number schema capacity d))) q)
 
   -- a cell that is with a unit has a number, and stands there
-  pub record IsPlaced (table : List CellLocation) (c : CellName) (p : CellLocation) : Type 0 where
+  pub record IsPlaced (table : List CoreLocation) (c : CellName) (p : CoreLocation) : Type 0 where
     pub number : ℕ
     pub is : cell_number schema capacity c ≡ Some number
     pub there : slice_get table number ≡ Some p
 
-  pub held_is_placed : (table : List CellLocation) (c : CellName) (u : ℕ) → location_at schema capacity table c ≡ HeldBy u → IsPlaced table c (WithUnit u)
+  pub held_is_placed : (table : List CoreLocation) (c : CellName) (u : ℕ) → location_at schema capacity table c ≡ HeldBy u → IsPlaced table c (WithUnit u)
   unfolding location_at
   held_is_placed table c u e = by (cell_number schema capacity c) refl e
     where
-      of_place : (n : ℕ) → cell_number schema capacity c ≡ Some n → (o : Option CellLocation) → slice_get table n ≡ o → found_location schema capacity c o ≡ HeldBy u → IsPlaced table c (WithUnit u)
+      of_place : (n : ℕ) → cell_number schema capacity c ≡ Some n → (o : Option CoreLocation) → slice_get table n ≡ o → found_location schema capacity c o ≡ HeldBy u → IsPlaced table c (WithUnit u)
       of_place n f None g e = absurd (cc (e))
       of_place n f (Some (AtHome x)) g e = absurd (cc (e))
       of_place n f (Some (WithUnit w)) g e = let same : w ≡ u = cc (e) in record { number = n; is = f; there = g ∙ ap (λ v. Some (WithUnit v)) same }
@@ -69,18 +69,18 @@ module _ (schema : Lists) (capacity : ℕ) where
       by (Some n) f e = of_place n f (slice_get table n) refl e
 
   -- where a cell is, by its place
-  pub location_placed : (table : List CellLocation) (c : CellName) (n : ℕ) (p : CellLocation) → cell_number schema capacity c ≡ Some n → slice_get table n ≡ Some p → location_at schema capacity table c ≡ location_of p
+  pub location_placed : (table : List CoreLocation) (c : CellName) (n : ℕ) (p : CoreLocation) → cell_number schema capacity c ≡ Some n → slice_get table n ≡ Some p → location_at schema capacity table c ≡ location_of p
   unfolding location_at
   location_placed table c n p e g = ap (location_in schema capacity table c) e ∙ ap (found_location schema capacity c) g
 
   -- a held cell that goes home
-  pub written_home_is : (table : List CellLocation) (c : CellName) (x : Cell) (u : ℕ) → location_at schema capacity table c ≡ HeldBy u →
+  pub written_home_is : (table : List CoreLocation) (c : CellName) (x : Cell) (u : ℕ) → location_at schema capacity table c ≡ HeldBy u →
       location_at schema capacity (written_home schema capacity c x table) ≡ relocated (network schema capacity) (location_at schema capacity table) c (Home (shown x))
   written_home_is table c x u e =
       let p = held_is_placed table c u e in
       ap (λ o. location_at schema capacity (home_at x table o)) p.is ∙ written_is table c p.number (AtHome x) p.is (slice_get_within table p.number (WithUnit u) p.there)
 
-  pub length_home : (table : List CellLocation) (c : CellName) (x : Cell) → length (written_home schema capacity c x table) ≡ length table
+  pub length_home : (table : List CoreLocation) (c : CellName) (x : Cell) → length (written_home schema capacity c x table) ≡ length table
   length_home table c x = by (cell_number schema capacity c)
     where
       by : (o : Option ℕ) → length (home_at x table o) ≡ length table
@@ -88,7 +88,7 @@ module _ (schema : Lists) (capacity : ℕ) where
       by (Some n) = length-set table n (AtHome x)
 
   -- one unit is written, and the locations are these
-  pub updated_is : (table after : List CellLocation) (history : List Entry) (runners : List Runner) (u : ℕ) (old new : Runner) (location : CellName → Location CellValue) (guesses : _) (progress : Option (Progress (network schema capacity))) →
+  pub updated_is : (table after : List CoreLocation) (history : List Entry) (runners : List UnitState) (u : ℕ) (old new : UnitState) (location : CellName → CellLocation CellValue) (guesses : _) (progress : Option (StatementProgress (network schema capacity))) →
       location_at schema capacity after ≡ location → unit_state_of schema capacity new ≡ with_progress (network schema capacity) (unit_state_of schema capacity old) guesses progress →
       state_from schema capacity after history (with_unit_at runners u new) ≡ updated (network schema capacity) (state_from schema capacity table history runners) u (unit_state_of schema capacity old) location guesses progress
   unfolding updated state_from

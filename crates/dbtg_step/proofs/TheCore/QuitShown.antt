@@ -11,13 +11,13 @@ use Rattle.dbtg_cells.specs.Shown.{CellValue}
 use Rattle.dbtg_unit.specs.declared.unit.Entry.{Entry}
 use Rattle.dbtg_unit.specs.Hands.Hands.{Hands}
 use Rattle.dbtg_step.specs.declared.parts.Parts.{Parts}
-use Rattle.dbtg_step.specs.declared.parts.CellLocation.{CellLocation}
-use Rattle.dbtg_step.specs.declared.parts.Runner.{Runner}
+use Rattle.dbtg_step.specs.declared.parts.CellLocation.{CellLocation as CoreLocation}
+use Rattle.dbtg_step.specs.declared.parts.UnitState.{UnitState as CoreUnit}
 use Rattle.dbtg_step.specs.declared.parts.StatementProgress.{StatementProgress}
 use Rattle.dbtg_unit.specs.declared.moves.Stepped.{Stepped}
 use Rattle.dbtg_unit.specs.declared.moves.Stepped.TheVariants.{Moved, Blocked, Idle, NoMemory}
 use Rattle.dbtg_step.specs.Machine.SequentialDatabase.{HeldCell, In, unit_at}
-use Rattle.dbtg_step.specs.Machine.Machine.{Location, Home, HeldBy, UnitState, all_home, held_cells}
+use Rattle.dbtg_step.specs.Machine.Machine.{CellLocation, Home, HeldBy, UnitState, all_home, held_cells}
 use Rattle.dbtg_step.specs.Inside.Step.{IfMoved}
 use Rattle.dbtg_step.specs.Machine.Step.{IsIdle, MovedTo, quit, quit_if_unit, quit_of_unit, quit_unless_ticket}
 use Rattle.dbtg_step.specs.Machine.Lawful.{AreDistinct, Lawful}
@@ -31,7 +31,7 @@ use Rattle.dbtg_step.specs.Inside.Events.{HaveRings, IsQuit, IsStepped, IsWell, 
 use Rattle.dbtg_step.specs.Core.CoreSteps.{IsNeverStuck, IsQuitStep, IsStep}
 use Rattle.dbtg_step.proofs.TheCore.EventsShown.{found, no_unit, unit_written, written_fit}
 use Rattle.dbtg_step.proofs.EachEvent.Keeps.{quit_keeps, step_keeps}
-use Rattle.dbtg_step.proofs.Runs.GuessesKept.{AllGuesses, quit_keeps_guesses, step_keeps_guesses}
+use Rattle.dbtg_step.proofs.Runs.GuessesFit.{AllGuesses, quit_keeps_guesses, step_keeps_guesses}
 use Rattle.dbtg_step.proofs.Network.NameOrder.{names_are_ordered}
 use Rattle.dbtg_step.proofs.Network.NeededCellsExist.{statements_keep_rings}
 use Rattle.dbtg_step.proofs.TheCore.NeedsShown.{in_front_of}
@@ -44,28 +44,28 @@ use Rattle.dbtg_step.proofs.TheCore.PlacesOfCells.{length_home, updated_is, writ
 use Rattle.dbtg_step.proofs.EachEvent.UnitLists.{relocated_elsewhere}
 
 -- one cell more goes home
-pub homes_step : (schema : Lists) (capacity : ℕ) (old new : List (CellName × Cell)) (e : CellName × Cell) (table after : List CellLocation) → old ≡ new ++ e ∷ [] → after ≡ written_home schema capacity e.0 e.1 table → written_homes schema capacity (reverse new) after ≡ written_homes schema capacity (reverse old) table
+pub homes_step : (schema : Lists) (capacity : ℕ) (old new : List (CellName × Cell)) (e : CellName × Cell) (table after : List CoreLocation) → old ≡ new ++ e ∷ [] → after ≡ written_home schema capacity e.0 e.1 table → written_homes schema capacity (reverse new) after ≡ written_homes schema capacity (reverse old) table
 homes_step schema capacity old new e table after q h =
     ap (written_homes schema capacity (reverse new)) h ∙ sym (ap (λ es. written_homes schema capacity es table) (ap reverse q ∙ reverse-append new (e ∷ [])))
 
 module _ (schema : Lists) (capacity : ℕ) where
-  length_homes : (es : List (CellName × Cell)) (table : List CellLocation) → length (written_homes schema capacity es table) ≡ length table
+  length_homes : (es : List (CellName × Cell)) (table : List CoreLocation) → length (written_homes schema capacity es table) ≡ length table
   length_homes [] table = refl
   length_homes (e ∷ es) table = length_homes es (written_home schema capacity e.0 e.1 table) ∙ length_home schema capacity table e.0 e.1
 
   -- cells that one unit holds, none twice, go home
-  homes_are : (u : ℕ) (es : List (CellName × Cell)) (table : List CellLocation) → AreDistinct (network schema capacity) (map held_of es) → ((h : HeldCell CellName CellValue) → In h (map held_of es) → location_at schema capacity table h.name ≡ HeldBy u) →
+  homes_are : (u : ℕ) (es : List (CellName × Cell)) (table : List CoreLocation) → AreDistinct (network schema capacity) (map held_of es) → ((h : HeldCell CellName CellValue) → In h (map held_of es) → location_at schema capacity table h.name ≡ HeldBy u) →
       location_at schema capacity (written_homes schema capacity es table) ≡ all_home (network schema capacity) (location_at schema capacity table) (map held_of es)
   unfolding AreDistinct all_home
   homes_are u [] table d h = refl
   homes_are u (e ∷ es) table d h =
       let first = written_home_is schema capacity table e.0 e.1 u (h (held_of e) (inl refl)) in
       homes_are u es (written_home schema capacity e.0 e.1 table) d.1
-      (λ g i. ap (λ (l : CellName → Location CellValue). l g.name) first ∙ relocated_elsewhere (network schema capacity) (network_names_cells schema capacity) (location_at schema capacity table) e.0 g.name (Home (shown e.1)) (d.0 g i) ∙ h g (inr i))
+      (λ g i. ap (λ (l : CellName → CellLocation CellValue). l g.name) first ∙ relocated_elsewhere (network schema capacity) (network_names_cells schema capacity) (location_at schema capacity table) e.0 g.name (Home (shown e.1)) (d.0 g i) ∙ h g (inr i))
       ∙ ap (λ l. all_home (network schema capacity) l (map held_of es)) first
 
 -- and the table has a place for each of the others
-pub places_left : (schema : Lists) (capacity : ℕ) (old new : List (CellName × Cell)) (e : CellName × Cell) (table after : List CellLocation) → old ≡ new ++ e ∷ [] → after ≡ written_home schema capacity e.0 e.1 table → HavePlaces schema capacity old table → HavePlaces schema capacity new after
+pub places_left : (schema : Lists) (capacity : ℕ) (old new : List (CellName × Cell)) (e : CellName × Cell) (table after : List CoreLocation) → old ≡ new ++ e ∷ [] → after ≡ written_home schema capacity e.0 e.1 table → HavePlaces schema capacity old table → HavePlaces schema capacity new after
 places_left schema capacity old new e table after q h places f i =
     let p = places f (subst (In f) (sym q) (in_front_of f new (e ∷ []) i)) in
     record { number = p.number; is = p.is; within = subst (λ n. p.number < n) (sym (ap length h ∙ length_home schema capacity table e.0 e.1)) p.within }
@@ -89,7 +89,7 @@ module _ (schema : Lists) (capacity u : ℕ) (old : Parts) (well : IsWell schema
   unfolding quit quit_if_unit state_from
   no_unit_quits h = stays_quiet (ap (quit_if_unit (network schema capacity) (state_of schema capacity old) u) (no_unit (map (unit_state_of schema capacity) old.runners.items) u (elim h [ inl e ↦ inl e | inr l ↦ inr (let m = length-map old.runners.items (unit_state_of schema capacity) in omega (arith, m, l)) ])))
 
-  module _ (r : Runner) (numbered : 0 < u) (at : slice_get old.runners.items (u - 1) ≡ Some r) where
+  module _ (r : CoreUnit) (numbered : 0 < u) (at : slice_get old.runners.items (u - 1) ≡ Some r) where
     quit_here : quit (network schema capacity) (state_of schema capacity old) u ≡ quit_of_unit (network schema capacity) (state_of schema capacity old) u (unit_state_of schema capacity r) (progress_of schema capacity r.held r.progress)
     unfolding quit quit_if_unit
     quit_here = ap (quit_if_unit (network schema capacity) (state_of schema capacity old) u) (found schema capacity u old r well numbered at)
@@ -104,7 +104,7 @@ module _ (schema : Lists) (capacity u : ℕ) (old : Parts) (well : IsWell schema
         stays_quiet (quit_here ∙ ap (λ o. quit_of_unit (network schema capacity) (state_of schema capacity old) u (unit_state_of schema capacity r) (progress_of schema capacity r.held o)) e
         ∙ ap (quit_unless_ticket (network schema capacity) (state_of schema capacity old) u (unit_state_of schema capacity r) (shown_progress schema capacity r.held w)) f)
 
-    pub quits_is : (s : StandsUnticketed r) (new : Parts) (n : Runner) (cells areas : Hands) → new.history.items ≡ old.history.items → new.runners.items ≡ slice_set old.runners.items (u - 1) n → new.table.items ≡ written_homes schema capacity (reverse r.held.cells) old.table.items →
+    pub quits_is : (s : StandsUnticketed r) (new : Parts) (n : CoreUnit) (cells areas : Hands) → new.history.items ≡ old.history.items → new.runners.items ≡ slice_set old.runners.items (u - 1) n → new.table.items ≡ written_homes schema capacity (reverse r.held.cells) old.table.items →
         cells ≡ record r.held { cells = [] } → areas ≡ record cells { areas = [] } → n ≡ record { unit = r.unit; held = areas; script = r.script; next = r.next; progress = None; course = r.course } → IsQuit schema capacity u Moved old new
     unfolding quit_of_unit quit_unless_ticket state_from held_cells
     quits_is s new n cells areas history runners table c a is =
@@ -201,12 +201,12 @@ never_stuck_well schema capacity parts well =
     never_stuck (network schema capacity) facts (opening_for schema capacity parts) name_below names_are_ordered (state_of schema capacity parts) well.lawful order
 
 -- the units that the core shows
-pub unit_shown : (schema : Lists) (capacity u : ℕ) (table : List CellLocation) (history : List Entry) (runners : List Runner) → option_map (λ (x : Runner). x.unit) (unit_at runners u) ≡ option_map (λ (x : UnitState (network schema capacity)). x.unit) (unit_at (state_from schema capacity table history runners).units u)
+pub unit_shown : (schema : Lists) (capacity u : ℕ) (table : List CoreLocation) (history : List Entry) (runners : List CoreUnit) → option_map (λ (x : CoreUnit). x.unit) (unit_at runners u) ≡ option_map (λ (x : UnitState (network schema capacity)). x.unit) (unit_at (state_from schema capacity table history runners).units u)
 unfolding state_from unit_at
 unit_shown schema capacity zero table history runners = refl
 unit_shown schema capacity (suc i) table history runners = by runners i
   where
-    by : (rs : List Runner) (i : ℕ) → option_map (λ (x : Runner). x.unit) (slice_get rs i) ≡ option_map (λ (x : UnitState (network schema capacity)). x.unit) (slice_get (map (unit_state_of schema capacity) rs) i)
+    by : (rs : List CoreUnit) (i : ℕ) → option_map (λ (x : CoreUnit). x.unit) (slice_get rs i) ≡ option_map (λ (x : UnitState (network schema capacity)). x.unit) (slice_get (map (unit_state_of schema capacity) rs) i)
     by [] i = refl
     by (r ∷ rs) zero = refl
     by (r ∷ rs) (suc i) = by rs i

@@ -16,7 +16,7 @@ use Rattle.dbtg_unit.specs.declared.moves.Move.{Move}
 use Rattle.dbtg_unit.specs.declared.moves.Move.TheVariants.{Step, Quit}
 use Rattle.dbtg_unit.specs.declared.moves.Stepped.{Stepped}
 use Rattle.dbtg_unit.specs.declared.moves.Stepped.TheVariants.{Moved, Blocked, Idle, NoMemory}
-use Rattle.dbtg_step.specs.declared.parts.Runner.{Runner}
+use Rattle.dbtg_step.specs.declared.parts.UnitState.{UnitState as CoreUnit}
 use Rattle.dbtg_step.specs.Machine.Machine.{State, UnitState, replay}
 use Rattle.dbtg_step.specs.Machine.Step.{Transition, MovedTo, IsBlocked, IsIdle, transition, state_after, result_of, run, results}
 use Rattle.dbtg_step.specs.Machine.Network.{network}
@@ -105,7 +105,7 @@ entries_again : (schema : Lists) (capacity : ℕ) (es : List Entry) → map (ent
 entries_again schema capacity [] = refl
 entries_again schema capacity (e ∷ es) = ap (λ xs. e ∷ xs) (entries_again schema capacity es)
 
-units_again : (schema : Lists) (capacity : ℕ) (rs : List Runner) → map (λ (s : UnitState (network schema capacity)). s.unit) (map (unit_state_of schema capacity) rs) ≡ map (λ (r : Runner). r.unit) rs
+units_again : (schema : Lists) (capacity : ℕ) (rs : List CoreUnit) → map (λ (s : UnitState (network schema capacity)). s.unit) (map (unit_state_of schema capacity) rs) ≡ map (λ (r : CoreUnit). r.unit) rs
 units_again schema capacity [] = refl
 units_again schema capacity (r ∷ rs) = ap (λ xs. r.unit ∷ xs) (units_again schema capacity rs)
 

@@ -16,13 +16,13 @@ use Rattle.dbtg_unit.specs.declared.statement.Statement.{Statement}
 use Rattle.dbtg_unit.specs.Hands.Hands.{cell_of}
 use Rattle.dbtg_unit.proofs.Public.{any_mapped}
 use Rattle.dbtg_step.specs.declared.parts.Parts.{Parts}
-use Rattle.dbtg_step.specs.declared.parts.Runner.{Runner}
+use Rattle.dbtg_step.specs.declared.parts.UnitState.{UnitState as CoreUnit}
 use Rattle.dbtg_step.specs.declared.parts.StatementProgress.{StatementProgress}
 use Rattle.dbtg_step.specs.declared.waiting.Awaited.{Awaited}
 use Rattle.dbtg_step.specs.declared.waiting.Awaited.TheVariants as awaits
 use Rattle.dbtg_step.specs.declared.waiting.Blocking.{Blocking}
 use Rattle.dbtg_step.specs.Machine.SequentialDatabase.{HeldCell, In, unit_at}
-use Rattle.dbtg_step.specs.Machine.Machine.{Location, Home, HeldBy, State, UnitState, held_cells}
+use Rattle.dbtg_step.specs.Machine.Machine.{CellLocation, Home, HeldBy, State, UnitState, held_cells}
 use Rattle.dbtg_step.specs.Machine.Step.{IsBlocked, IsIdle, MovedTo, Transition, conflicts, follows_need, step, takes_area, takes_cell}
 use Rattle.dbtg_step.specs.Machine.Network.{network, next_need_of}
 use Rattle.dbtg_step.specs.Machine.NeedOrder.{HasItsAreas}
@@ -77,7 +77,7 @@ module _ (c : CoreState) (u : ℕ) (a : Awaited) where
 -- WHAT IT WAITS FOR
 
 module _ (schema : Lists) (capacity u : ℕ) (old : Parts) (well : IsWell schema capacity old) where
-  has_cell : (x : CellName) (r : Runner) (o : Option StatementProgress) → is_some o && list_any (λ (e : CellName × CellHeld). name_eq x e.0) r.held.cells ≡ list_any (λ (h : HeldCell CellName CellValue). name_eq x h.name) (held_cells (network schema capacity) (progress_of schema capacity r.held o))
+  has_cell : (x : CellName) (r : CoreUnit) (o : Option StatementProgress) → is_some o && list_any (λ (e : CellName × CellHeld). name_eq x e.0) r.held.cells ≡ list_any (λ (h : HeldCell CellName CellValue). name_eq x h.name) (held_cells (network schema capacity) (progress_of schema capacity r.held o))
   unfolding held_cells
   has_cell x r None = refl
   has_cell x r (Some w) = sym (any_reverse (λ (h : HeldCell CellName CellValue). name_eq x h.name) (map held_of r.held.cells) ∙ any_mapped (λ (h : HeldCell CellName CellValue). name_eq x h.name) held_of r.held.cells)
@@ -91,7 +91,7 @@ module _ (schema : Lists) (capacity u : ℕ) (old : Parts) (well : IsWell schema
   pub no_unit_waits : (u ≡ 0) ⊎ (length old.runners.items < u) → IsAwaited (core_of schema capacity old) u None
   no_unit_waits h = idles (no_unit_idle schema capacity u old well h).tells.0
 
-  module _ (r : Runner) (numbered : 0 < u) (at : slice_get old.runners.items (u - 1) ≡ Some r) where
+  module _ (r : CoreUnit) (numbered : 0 < u) (at : slice_get old.runners.items (u - 1) ≡ Some r) where
     pub over_waits : StandsOver r → IsAwaited (core_of schema capacity old) u None
     over_waits s = idles (over_idle schema capacity u old well r numbered at s).tells.0
 
@@ -152,7 +152,7 @@ module _ (schema : Lists) (capacity u : ℕ) (old : Parts) (well : IsWell schema
       area_awaited a needs true e = (sym (waits_as (Area a) needs IsBlocked (area_step schema capacity u old r well numbered at w s a needs true e)), area_held a e)
       area_awaited a needs false e = moves_on _ (area_step schema capacity u old r well numbered at w s a needs false e)
 
-      cell_step : (c : CellName) → NeedsNext schema capacity old u w (Take c) → (p : Location CellValue) → location_at schema capacity old.table.items c ≡ p →
+      cell_step : (c : CellName) → NeedsNext schema capacity old u w (Take c) → (p : CellLocation CellValue) → location_at schema capacity old.table.items c ≡ p →
           step (network schema capacity) (opening_for schema capacity old) (state_of schema capacity old) u ≡ takes_cell (network schema capacity) (state_of schema capacity old) u (unit_state_of schema capacity r) (shown_progress schema capacity r.held w) c p
       unfolding state_from
       cell_step c needs p e =
@@ -164,7 +164,7 @@ module _ (schema : Lists) (capacity u : ℕ) (old : Parts) (well : IsWell schema
       unfolding takes_cell
       cell_awaited c needs b h = by b (location_at schema capacity old.table.items c) refl h
         where
-          by : (b : Bool) (p : Location CellValue) → location_at schema capacity old.table.items c ≡ p → is_with_unit p ≡ b → IsAwaited (core_of schema capacity old) u (if b then Some (awaits.Cell c) else None)
+          by : (b : Bool) (p : CellLocation CellValue) → location_at schema capacity old.table.items c ≡ p → is_with_unit p ≡ b → IsAwaited (core_of schema capacity old) u (if b then Some (awaits.Cell c) else None)
           by true (Home v) e h = absurd (cc (h))
           by true (HeldBy v) e h = (sym (waits_as (Take c) needs IsBlocked (cell_step c needs (HeldBy v) e)), cell_held c needs v e)
           by false (Home v) e h = moves_on _ (cell_step c needs (Home v) e)
@@ -183,11 +183,11 @@ module _ (schema : Lists) (capacity u : ℕ) (old : Parts) (well : IsWell schema
 
   -- WHO HAS IT
 
-  has_shown : (a : Awaited) (r : Runner) → has_awaited a r ≡ has_in_hand (core_of schema capacity old) a (unit_state_of schema capacity r)
+  has_shown : (a : Awaited) (r : CoreUnit) → has_awaited a r ≡ has_in_hand (core_of schema capacity old) a (unit_state_of schema capacity r)
   has_shown (awaits.Area a exclusive) r = sym (conflict_is schema capacity exclusive a r)
   has_shown (awaits.Cell x) r = has_cell x r r.progress
 
-  numbers_shown : (a : Awaited) (n : ℕ) (runners : List Runner) → numbers_from u a n runners ≡ holders_from (core_of schema capacity old) u a n (map (unit_state_of schema capacity) runners)
+  numbers_shown : (a : Awaited) (n : ℕ) (runners : List CoreUnit) → numbers_from u a n runners ≡ holders_from (core_of schema capacity old) u a n (map (unit_state_of schema capacity) runners)
   numbers_shown a n [] = refl
   numbers_shown a n (r ∷ rs) = λ i. if not (n == u) && has_shown a r i then n ∷ numbers_shown a (n + 1) rs i else numbers_shown a (n + 1) rs i
 

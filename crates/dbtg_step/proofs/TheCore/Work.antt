@@ -15,9 +15,9 @@ use Rattle.dbtg_unit.specs.declared.unit.Unit.{Unit}
 use Rattle.dbtg_unit.specs.Database.State.Base.{Database}
 use Rattle.dbtg_unit.specs.declared.moves.Stepped.TheVariants.{Blocked, Idle, Moved}
 use Rattle.dbtg_step.specs.declared.parts.Parts.{Parts}
-use Rattle.dbtg_step.specs.declared.parts.Runner.{Runner}
+use Rattle.dbtg_step.specs.declared.parts.UnitState.{UnitState as CoreUnit}
 use Rattle.dbtg_step.specs.Machine.SequentialDatabase.{HeldCell, NextNeed, NeedsArea, NeedsCell, StaleGuesses, NeedsNothing, In, unit_at}
-use Rattle.dbtg_step.specs.Machine.Machine.{Location, Home, HeldBy, Progress, UnitState, State, SequentialState, begun, held_areas, held_cells, replay, unless_over}
+use Rattle.dbtg_step.specs.Machine.Machine.{CellLocation, Home, HeldBy, StatementProgress, UnitState, State, SequentialState, begun, held_areas, held_cells, replay, unless_over}
 use Rattle.dbtg_step.specs.Machine.Step.{MovedTo, after_ticket, any_other, conflicts, due_cells, follows_need, is_nonempty, next_need, step, takes_area, takes_cell, updated, with_progress, with_ticket}
 use Rattle.dbtg_step.specs.Inside.Step.{IfMoved}
 use Rattle.dbtg_step.specs.Machine.Lawful.{Lawful}
@@ -57,7 +57,7 @@ pub record IsAlone (schema : Lists) (capacity u n : ℕ) (s : State (network sch
   pub work : IsAtWork schema capacity u s
   pub few : length work.state.remaining ≤ suc n
   -- without a ticket the statement is still among those that are left
-  pub begun : (w : Progress (network schema capacity)) → work.state.progress ≡ Some w → w.ticket ≡ None → n < length work.state.remaining
+  pub begun : (w : StatementProgress (network schema capacity)) → work.state.progress ≡ Some w → w.ticket ≡ None → n < length work.state.remaining
 
 more : {k n : ℕ} → (k ≤ n → ⊥) → n < k
 more {k} {n} f = elim (cases_lt n k) [ inl l ↦ l | inr g ↦ absurd (f g) ]
@@ -67,7 +67,7 @@ module _ (schema : Lists) (capacity : ℕ) where
   M = State (network schema capacity)
 
   abbrev W : Type 0
-  W = Progress (network schema capacity)
+  W = StatementProgress (network schema capacity)
 
   abbrev Guesses : Type 0
   Guesses = List (Option Owner)
@@ -163,7 +163,7 @@ module _ (schema : Lists) (capacity : ℕ) where
       here = ap (work_found db) a.found
 
       -- by an event that draws no ticket
-      updated_is : (location : CellName → Location CellValue) (g : Guesses) (p : Option W) (n : ℕ) → n ≡ work_by db a.state.unit g p a.state.remaining → n < work_of db a.state → step (network schema capacity) opening s u ≡ MovedTo (updated (network schema capacity) s u a.state location g p) → ComesOn
+      updated_is : (location : CellName → CellLocation CellValue) (g : Guesses) (p : Option W) (n : ℕ) → n ≡ work_by db a.state.unit g p a.state.remaining → n < work_of db a.state → step (network schema capacity) opening s u ≡ MovedTo (updated (network schema capacity) s u a.state location g p) → ComesOn
       unfolding updated
       updated_is location g p n e less moves =
           let new = with_progress (network schema capacity) a.state g p in
@@ -285,7 +285,7 @@ module _ (schema : Lists) (capacity : ℕ) where
                 by true (k ∷ ks) q f n less = let g = f refl in absurd (cc (g))
                 by false cells q f n less = omega (arith, n, less)
 
-            needs_cell : (c : CellName) → next_need (network schema capacity) opening s a.state w x ≡ NeedsCell c → (p : Location CellValue) → s.location c ≡ p → ComesOn
+            needs_cell : (c : CellName) → next_need (network schema capacity) opening s a.state w x ≡ NeedsCell c → (p : CellLocation CellValue) → s.location c ≡ p → ComesOn
             unfolding held_cells next_need
             needs_cell c e (Home v) home = needs_cell_at c v e home
             needs_cell c e (HeldBy v) held =
@@ -416,7 +416,7 @@ moved_to : (schema : Lists) (capacity : ℕ) (a b : State (network schema capaci
 moved_to schema capacity a b e = cc (e)
 
 module _ (schema : Lists) (capacity n u : ℕ) (old : Parts) (well : IsWell schema capacity old) (a : IsAlone schema capacity u n (state_of schema capacity old)) where
-  module _ (r : Runner) (numbered : 0 < u) (at : slice_get old.runners.items (u - 1) ≡ Some r) (busy : IsDone (network schema capacity) n (unit_state_of schema capacity r) → ⊥) where
+  module _ (r : CoreUnit) (numbered : 0 < u) (at : slice_get old.runners.items (u - 1) ≡ Some r) (busy : IsDone (network schema capacity) n (unit_state_of schema capacity r) → ⊥) where
     busy_there : IsDone (network schema capacity) n a.work.state → ⊥
     busy_there h =
         let same : a.work.state ≡ unit_state_of schema capacity r = same_Some a.work.state (unit_state_of schema capacity r) (sym a.work.found ∙ found schema capacity u old r well numbered at) in

@@ -8,15 +8,15 @@ use Rattle.dbtg_unit.specs.declared.unit.Unit.{Unit}
 use Rattle.dbtg_unit.specs.Database.Statements.Checks.{refused_at_once}
 use Rattle.dbtg_unit.specs.Hands.Hands.{Hands}
 use Rattle.dbtg_unit.specs.Hands.Needs.{areas_in_order}
-use Rattle.dbtg_erase.specs.Course.{IsKept}
+use Rattle.dbtg_erase.specs.Course.{IsCourseOfCurrent}
 use Rattle.dbtg_erase.specs.declared.course.Course.{Course as CellCourse}
 use Rattle.dbtg_step.specs.declared.course.Course.{Course}
 use Rattle.dbtg_step.specs.declared.course.Course.TheVariants.{Refused, Wants, HasAreas}
 
 -- how far a DELETE has come with its cells fits what is held; for other statements nothing is required
-abbrev pub AreCellsKept : Lists → ℕ → Hands → Unit → Statement → Option CellCourse → Type 0
-AreCellsKept schema capacity hands unit (Delete option) course = IsKept schema capacity hands unit option course
-AreCellsKept schema capacity hands unit _ course = ⊤
+abbrev pub CellsMatch : Lists → ℕ → Hands → Unit → Statement → Option CellCourse → Type 0
+CellsMatch schema capacity hands unit (Delete option) course = IsCourseOfCurrent schema capacity hands unit option course
+CellsMatch schema capacity hands unit _ course = ⊤
 
 -- no check without cells refuses the statement, and until area a is held, it is the first that is not
 pub record IsWanted (schema : Lists) (capacity : ℕ) (hands : Hands) (unit : Unit) (x : Statement) (a : ℕ) : Type 0 where
@@ -29,8 +29,8 @@ pub record IsAtCells (schema : Lists) (capacity : ℕ) (hands : Hands) (unit : U
   pub areas : find (λ a. not (list_any (λ b. b == a) hands.areas)) (areas_in_order schema unit x) ≡ None
 
 -- what is kept fits what is held; nothing kept always does
-abbrev pub IsCourseKept : Lists → ℕ → Hands → Unit → Statement → Option Course → Type 0
-IsCourseKept schema capacity hands unit x None = ⊤
-IsCourseKept schema capacity hands unit x (Some Refused) = is_some (refused_at_once schema capacity unit x) ≡ true
-IsCourseKept schema capacity hands unit x (Some (Wants a)) = IsWanted schema capacity hands unit x a
-IsCourseKept schema capacity hands unit x (Some (HasAreas course)) = IsAtCells schema capacity hands unit x × AreCellsKept schema capacity hands unit x course
+abbrev pub CourseMatches : Lists → ℕ → Hands → Unit → Statement → Option Course → Type 0
+CourseMatches schema capacity hands unit x None = ⊤
+CourseMatches schema capacity hands unit x (Some Refused) = is_some (refused_at_once schema capacity unit x) ≡ true
+CourseMatches schema capacity hands unit x (Some (Wants a)) = IsWanted schema capacity hands unit x a
+CourseMatches schema capacity hands unit x (Some (HasAreas course)) = IsAtCells schema capacity hands unit x × CellsMatch schema capacity hands unit x course

@@ -4,7 +4,7 @@ use Rattle.dbtg_schema.specs.Lists.{Lists}
 use Rattle.dbtg_cells.specs.declared.key.Owner.{Owner}
 use Rattle.dbtg_unit.specs.declared.statement.Statement.{Statement}
 use Rattle.dbtg_step.specs.Machine.SequentialDatabase.{StaleGuesses, unit_at}
-use Rattle.dbtg_step.specs.Machine.Machine.{Progress, UnitState, State, SequentialState}
+use Rattle.dbtg_step.specs.Machine.Machine.{StatementProgress, UnitState, State, SequentialState}
 use Rattle.dbtg_step.specs.Machine.Step.{next_need, step, MovedTo}
 use Rattle.dbtg_step.specs.Machine.Network.{network}
 
@@ -14,7 +14,7 @@ use Rattle.dbtg_step.specs.Machine.Network.{network}
 pub record IsBeforeTicket {schema : Lists} {capacity : ℕ} (s : State (network schema capacity)) (u : ℕ) : Type 0 where
   pub state : UnitState (network schema capacity)
   pub found : unit_at s.units u ≡ Some state
-  pub w : Progress (network schema capacity)
+  pub w : StatementProgress (network schema capacity)
   pub progress : state.progress ≡ Some w
   pub ticket : w.ticket ≡ None
   pub turned : w.turning_back ≡ true → w.cells ≡ []

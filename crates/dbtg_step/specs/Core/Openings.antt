@@ -7,12 +7,12 @@ use Rattle.dbtg_cells.specs.Cells.{shown}
 use Rattle.dbtg_cells.specs.Shown.{CellValue}
 use Rattle.dbtg_unit.specs.Database.State.Base.{opening}
 use Rattle.dbtg_unit.specs.Database.State.Cells.{cell}
-use Rattle.dbtg_step.specs.Machine.Machine.{Location, Home}
+use Rattle.dbtg_step.specs.Machine.Machine.{CellLocation, Home}
 
 -- these cells at home
-abbrev pub homes_shown : List Cell → List (Location CellValue)
+abbrev pub homes_shown : List Cell → List (CellLocation CellValue)
 homes_shown = map (λ x. Home (shown x))
 
 -- cells at home as the opening database has them
-abbrev pub homes_of : Lists → ℕ → List CellName → List (Location CellValue)
+abbrev pub homes_of : Lists → ℕ → List CellName → List (CellLocation CellValue)
 homes_of schema capacity = map (λ c. Home (cell schema capacity (opening schema) c))

@@ -10,34 +10,34 @@ use Rattle.dbtg_unit.specs.declared.unit.Entry.{Entry}
 use Rattle.dbtg_unit.specs.Database.State.Base.{opening}
 use Rattle.dbtg_unit.specs.Database.State.Cells.{cell}
 use Rattle.dbtg_unit.specs.Hands.Hands.{Hands}
-use Rattle.dbtg_step.specs.declared.parts.CellLocation.{CellLocation}
+use Rattle.dbtg_step.specs.declared.parts.CellLocation.{CellLocation as CoreLocation}
 use Rattle.dbtg_step.specs.declared.parts.CellLocation.TheVariants.{Home as AtHome, HeldBy as WithUnit}
-use Rattle.dbtg_step.specs.declared.parts.Runner.{Runner}
-use Rattle.dbtg_step.specs.declared.parts.StatementProgress.{StatementProgress}
+use Rattle.dbtg_step.specs.declared.parts.UnitState.{UnitState as CoreUnit}
+use Rattle.dbtg_step.specs.declared.parts.StatementProgress.{StatementProgress as CoreProgress}
 use Rattle.dbtg_step.specs.Machine.SequentialDatabase.{HeldCell}
-use Rattle.dbtg_step.specs.Machine.Machine.{Location, Home, HeldBy, Progress, UnitState, HistoryEntry, State, SequentialState}
+use Rattle.dbtg_step.specs.Machine.Machine.{CellLocation, Home, HeldBy, StatementProgress, UnitState, HistoryEntry, State, SequentialState}
 use Rattle.dbtg_step.specs.Machine.Headline.{opening_of}
 use Rattle.dbtg_step.specs.Machine.Network.{network}
 
 -- THE TABLE
 
 -- the machine's location of a cell at this place
-abbrev pub location_of : CellLocation → Location CellValue
+abbrev pub location_of : CoreLocation → CellLocation CellValue
 location_of (AtHome x) = Home (shown x)
 location_of (WithUnit u) = HeldBy u
 
 -- a cell that the table does not have is at home as the opening database shows it
-abbrev pub found_location : Lists → ℕ → CellName → Option CellLocation → Location CellValue
+abbrev pub found_location : Lists → ℕ → CellName → Option CoreLocation → CellLocation CellValue
 found_location schema capacity c None = Home (cell schema capacity (opening schema) c)
 found_location schema capacity c (Some p) = location_of p
 
 -- where the table has cell c, by its number; one that the schema does not have is at home
-abbrev pub location_in : Lists → ℕ → List CellLocation → CellName → Option ℕ → Location CellValue
+abbrev pub location_in : Lists → ℕ → List CoreLocation → CellName → Option ℕ → CellLocation CellValue
 location_in schema capacity table c None = Home (cell schema capacity (opening schema) c)
 location_in schema capacity table c (Some n) = found_location schema capacity c (slice_get table n)
 
 -- where the table has a cell
-unfoldable pub location_at : Lists → ℕ → List CellLocation → CellName → Location CellValue
+unfoldable pub location_at : Lists → ℕ → List CoreLocation → CellName → CellLocation CellValue
 location_at schema capacity table c = location_in schema capacity table c (cell_number schema capacity c)
 
 -- THE UNITS
@@ -51,7 +51,7 @@ abbrev pub held_cells_of : List (CellName × Cell) → List (HeldCell CellName C
 held_cells_of cells = reverse (map held_of cells)
 
 -- the machine's progress of a progress
-abbrev pub shown_progress : (schema : Lists) (capacity : ℕ) → Hands → StatementProgress → Progress (network schema capacity)
+abbrev pub shown_progress : (schema : Lists) (capacity : ℕ) → Hands → CoreProgress → StatementProgress (network schema capacity)
 shown_progress schema capacity hands progress = record {
   exclusive = progress.exclusive;
   areas = reverse hands.areas;
@@ -62,12 +62,12 @@ shown_progress schema capacity hands progress = record {
 }
 
 -- the same for a unit that may be between statements
-abbrev pub progress_of : (schema : Lists) (capacity : ℕ) → Hands → Option StatementProgress → Option (Progress (network schema capacity))
+abbrev pub progress_of : (schema : Lists) (capacity : ℕ) → Hands → Option CoreProgress → Option (StatementProgress (network schema capacity))
 progress_of schema capacity hands None = None
 progress_of schema capacity hands (Some progress) = Some (shown_progress schema capacity hands progress)
 
 -- the machine's state of a unit
-abbrev pub unit_state_of : (schema : Lists) (capacity : ℕ) → Runner → UnitState (network schema capacity)
+abbrev pub unit_state_of : (schema : Lists) (capacity : ℕ) → CoreUnit → UnitState (network schema capacity)
 unit_state_of schema capacity r = record {
   unit = r.unit;
   guesses = r.held.guesses;
@@ -83,7 +83,7 @@ abbrev pub note_of : {schema : Lists} {capacity : ℕ} → Entry → HistoryEntr
 note_of e = record { ticket = e.ticket; unit = e.unit; statement = e.statement; answer = e.answer }
 
 -- the machine's state by table, history and units
-unfoldable pub state_from : (schema : Lists) (capacity : ℕ) → List CellLocation → List Entry → List Runner → State (network schema capacity)
+unfoldable pub state_from : (schema : Lists) (capacity : ℕ) → List CoreLocation → List Entry → List CoreUnit → State (network schema capacity)
 state_from schema capacity table history runners = record {
   location = location_at schema capacity table;
   history = map note_of history;
@@ -108,9 +108,9 @@ with_state c s = record { schema = c.schema; capacity = c.capacity; opening = c.
 pub record CoreParts : Type 0 where
   pub schema : Lists
   pub capacity : ℕ
-  pub table : List CellLocation
+  pub table : List CoreLocation
   pub history : List Entry
-  pub runners : List Runner
+  pub runners : List CoreUnit
 
 -- a core as the machine that it is
 abbrev pub machine : CoreParts → CoreState

@@ -3,11 +3,11 @@ use Rattle.std.specs.Prelude.{ℕ, ◌-◌, Option, is_some, length, option_map}
 use Rattle.dbtg_step.specs.declared.watching.Position.{Position}
 use Rattle.dbtg_step.specs.declared.watching.Progress.{Progress as Shown}
 use Rattle.dbtg_step.specs.Machine.SequentialDatabase.{SequentialDatabase, unit_at}
-use Rattle.dbtg_step.specs.Machine.Machine.{Progress, State, UnitState}
+use Rattle.dbtg_step.specs.Machine.Machine.{StatementProgress, State, UnitState}
 
 module _ (D : SequentialDatabase) where
   -- how far a unit is with its statement, in numbers
-  abbrev pub shown_progress : Progress D → Shown
+  abbrev pub shown_progress : StatementProgress D → Shown
   shown_progress w = record { areas = length w.areas; cells = length w.cells; turning_back = w.turning_back; has_ticket = is_some w.ticket; linked = w.linked }
 
   -- how many statements of its script have their ticket, and its progress

@@ -10,7 +10,7 @@ use Rattle.dbtg_step.specs.declared.waiting.Awaited.{Awaited}
 use Rattle.dbtg_step.specs.declared.waiting.Awaited.TheVariants.{Area, Cell}
 use Rattle.dbtg_step.specs.declared.waiting.Blocking.{Blocking}
 use Rattle.dbtg_step.specs.Machine.SequentialDatabase.{NextNeed, NeedsArea, NeedsCell, StaleGuesses, NeedsNothing, unit_at}
-use Rattle.dbtg_step.specs.Machine.Machine.{Progress, UnitState, held_cells}
+use Rattle.dbtg_step.specs.Machine.Machine.{StatementProgress, UnitState, held_cells}
 use Rattle.dbtg_step.specs.Machine.Network.{network}
 use Rattle.dbtg_step.specs.Machine.Step.{IsBlocked, IsIdle, MovedTo, Transition, conflicts, next_need}
 use Rattle.dbtg_step.specs.Core.CoreSteps.{step_of}
@@ -24,7 +24,7 @@ awaited_of exclusive (StaleGuesses g) = None
 awaited_of exclusive NeedsNothing = None
 
 -- what the statement of a unit in mid-statement needs next
-abbrev pub taken_next : (c : CoreState) → UnitState (network c.schema c.capacity) → Option (Progress (network c.schema c.capacity)) → List Statement → Option Awaited
+abbrev pub taken_next : (c : CoreState) → UnitState (network c.schema c.capacity) → Option (StatementProgress (network c.schema c.capacity)) → List Statement → Option Awaited
 taken_next c state (Some w) (x ∷ xs) = awaited_of w.exclusive (next_need (network c.schema c.capacity) c.opening c.state state w x)
 taken_next c state _ _ = None
 

@@ -3,9 +3,9 @@ use Rattle.std.specs.Prelude.{ℕ, ◌≡◌, ◌++◌, List, [], ◌∷◌, Som
 use Rattle.dbtg_schema.specs.Lists.{Lists}
 use Rattle.dbtg_unit.specs.declared.statement.Statement.{Statement}
 use Rattle.dbtg_unit.specs.declared.unit.Entry.{Entry}
-use Rattle.dbtg_unit.specs.Database.Statements.Effect.{Outcome}
+use Rattle.dbtg_unit.specs.Database.Statements.Effect.{StatementEffect}
 use Rattle.dbtg_unit.specs.Database.State.Image.{image_of}
-use Rattle.dbtg_unit.specs.Database.Laws.Replay.{IsHistoryOf, State, after, opening_state, outcome_of, replay}
+use Rattle.dbtg_unit.specs.Database.Laws.Replay.{IsHistoryOf, State, after, opening_state, effect_of_unit, replay}
 use Rattle.dbtg_step.specs.declared.results.Run.{Run}
 
 -- WHAT A CALLER SEES
@@ -23,8 +23,8 @@ state_now m = replay m.schema m.capacity (opening_state m.schema m.units) m.hist
 
 -- statement x of unit u is made whole: its effect on the database is the outcome, and with the outcome's answer it is the next entry of the history
 pub record HasMade (old : Making) (u : ℕ) (x : Statement) (new : Making) : Type 0 where
-  pub outcome : Outcome
-  pub outcome_is : outcome_of old.schema old.capacity (state_now old) u x ≡ Some outcome
+  pub outcome : StatementEffect
+  pub outcome_is : effect_of_unit old.schema old.capacity (state_now old) u x ≡ Some outcome
   pub new_is : new ≡ record old { history = old.history ++ record { ticket = length old.history; unit = u; statement = x; answer = outcome.answer } ∷ [] }
   pub state_is : state_now new ≡ after (state_now old) u outcome
 

@@ -17,7 +17,7 @@ use Rattle.dbtg_unit.specs.Hands.Local.{Agrees}
 use Rattle.dbtg_unit.specs.Hands.Needs.{need, ring_names}
 use Rattle.dbtg_step.specs.declared.course.Course.{Course}
 use Rattle.dbtg_step.specs.declared.parts.Parts.{Parts}
-use Rattle.dbtg_step.specs.declared.parts.Runner.{Runner}
+use Rattle.dbtg_step.specs.declared.parts.UnitState.{UnitState as CoreUnit}
 use Rattle.dbtg_step.specs.declared.parts.StatementProgress.{StatementProgress}
 use Rattle.dbtg_unit.specs.declared.moves.Stepped.{Stepped}
 use Rattle.dbtg_unit.specs.declared.moves.Stepped.TheVariants.{Moved, Blocked, Idle, NoMemory}
@@ -28,27 +28,27 @@ use Rattle.dbtg_step.specs.Machine.Lawful.{Lawful}
 use Rattle.dbtg_step.specs.Inside.NeverStuck.{AllInTurn}
 use Rattle.dbtg_step.specs.Machine.Network.{network, next_need_of, noted_owners}
 use Rattle.dbtg_step.specs.Machine.Headline.{opening_of}
-use Rattle.dbtg_step.specs.Core.Courses.{IsCourseKept}
+use Rattle.dbtg_step.specs.Core.Courses.{CourseMatches}
 use Rattle.dbtg_step.specs.Core.Parts.{shown_progress, unit_state_of}
 use Rattle.dbtg_step.specs.Inside.Parts.{state_of}
 use Rattle.dbtg_step.specs.Core.Events.{WantsMemory}
 
 -- while its statement has no ticket, what a runner keeps of the statement's needs is right of what it holds
-abbrev pub CourseFits : Lists → ℕ → Runner → Type 0
+abbrev pub CourseFits : Lists → ℕ → CoreUnit → Type 0
 CourseFits schema capacity r =
     (w : StatementProgress) → r.progress ≡ Some w → w.ticket ≡ None
     → (x : Statement) → slice_get r.script r.next ≡ Some x
-    → IsCourseKept schema capacity r.held r.unit x r.course
+    → CourseMatches schema capacity r.held r.unit x r.course
 
 -- between statements a runner holds nothing; it has a guess for each set
-pub record RunnerFits (schema : Lists) (capacity : ℕ) (r : Runner) : Type 0 where
+pub record RunnerFits (schema : Lists) (capacity : ℕ) (r : CoreUnit) : Type 0 where
   pub settled : r.progress ≡ None → (r.held.areas ≡ []) × (r.held.cells ≡ [])
   pub guesses : length r.held.guesses ≡ length schema.sets
   pub course : CourseFits schema capacity r
 
 -- the same for each of these units
-abbrev pub RunnersFit : Lists → ℕ → List Runner → Type 0
-RunnersFit schema capacity runners = (i : ℕ) (r : Runner) → slice_get runners i ≡ Some r → RunnerFits schema capacity r
+abbrev pub RunnersFit : Lists → ℕ → List CoreUnit → Type 0
+RunnersFit schema capacity runners = (i : ℕ) (r : CoreUnit) → slice_get runners i ≡ Some r → RunnerFits schema capacity r
 
 -- the opening database, with a unit for each runner
 abbrev pub opening_for : (schema : Lists) (capacity : ℕ) → Parts → SequentialState (network schema capacity)
@@ -72,17 +72,17 @@ pub record IsWell (schema : Lists) (capacity : ℕ) (parts : Parts) : Type 0 whe
   pub guesses : (u : ℕ) (state : UnitState (network schema capacity)) → unit_at (state_of schema capacity parts).units u ≡ Some state → HaveRings schema capacity state.guesses
 
 -- what the machine says that this runner needs next, with the statement x in this progress
-abbrev pub machine_need : (schema : Lists) (capacity : ℕ) → Parts → Runner → Statement → StatementProgress → NextNeed CellName (List (Option Owner))
+abbrev pub machine_need : (schema : Lists) (capacity : ℕ) → Parts → CoreUnit → Statement → StatementProgress → NextNeed CellName (List (Option Owner))
 machine_need schema capacity parts r x w =
     let D = network schema capacity in
     next_need D (opening_for schema capacity parts) (state_of schema capacity parts) (unit_state_of schema capacity r) (shown_progress schema capacity r.held w) x
 
 -- the guesses with which this runner goes on that turns back with the statement x
-abbrev pub noted_now : (schema : Lists) (capacity : ℕ) → Parts → Runner → Statement → List (Option Owner)
+abbrev pub noted_now : (schema : Lists) (capacity : ℕ) → Parts → CoreUnit → Statement → List (Option Owner)
 noted_now schema capacity parts r x = noted_owners schema capacity (database_of schema capacity parts) r.unit x r.held.guesses
 
 -- the runner needs n next, with the statement x in this progress: so says the machine, on the database of the history
-pub record IsNext (schema : Lists) (capacity : ℕ) (parts : Parts) (r : Runner) (x : Statement) (w : StatementProgress) (n : Need) : Type 0 where
+pub record IsNext (schema : Lists) (capacity : ℕ) (parts : Parts) (r : CoreUnit) (x : Statement) (w : StatementProgress) (n : Need) : Type 0 where
   pub is : machine_need schema capacity parts r x w ≡ next_need_of (noted_now schema capacity parts r x) n
   -- and on every other that agrees with what is held
   pub everywhere : (db : Database) → Agrees schema capacity db r.held r.unit → n ≡ need schema capacity db r.unit r.held x
@@ -90,13 +90,13 @@ pub record IsNext (schema : Lists) (capacity : ℕ) (parts : Parts) (r : Runner)
 -- what unit u needs next, with the statement that its script has next
 abbrev pub NeedsNext : (schema : Lists) (capacity : ℕ) → Parts → ℕ → StatementProgress → Need → Type 0
 NeedsNext schema capacity parts u w n =
-    (r : Runner) (x : Statement) → slice_get parts.runners.items (u - 1) ≡ Some r → slice_get r.script r.next ≡ Some x → IsNext schema capacity parts r x w n
+    (r : CoreUnit) (x : Statement) → slice_get parts.runners.items (u - 1) ≡ Some r → slice_get r.script r.next ≡ Some x → IsNext schema capacity parts r x w n
 
 -- everything is as it was except how far the statement of unit u has come
 pub record ChangesCourseAlone (u : ℕ) (old new : Parts) : Type 0 where
   pub table : new.table.items ≡ old.table.items
   pub history : new.history.items ≡ old.history.items
-  pub runners : (r : Runner) → slice_get old.runners.items (u - 1) ≡ Some r → (course : Option Course) × (new.runners.items ≡ slice_set old.runners.items (u - 1) (record r { course = course }))
+  pub runners : (r : CoreUnit) → slice_get old.runners.items (u - 1) ≡ Some r → (course : Option Course) × (new.runners.items ≡ slice_set old.runners.items (u - 1) (record r { course = course }))
 
 -- the machine's step; or, in place of an event before a ticket that is not a turn back, a refusal of memory, which changes nothing
 abbrev pub Tells : (schema : Lists) (capacity : ℕ) → SequentialState (network schema capacity) → ℕ → Stepped → State (network schema capacity) → State (network schema capacity) → Type 0

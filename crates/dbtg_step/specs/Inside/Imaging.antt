@@ -26,13 +26,13 @@ use Rattle.dbtg_step.specs.declared.imaging.CellSource.TheVariants.{Parts as InP
 use Rattle.dbtg_step.specs.declared.parts.Parts.{Parts}
 use Rattle.dbtg_step.specs.declared.parts.CellLocation.{CellLocation}
 use Rattle.dbtg_step.specs.declared.parts.CellLocation.TheVariants.{Home as AtHome, HeldBy as WithUnit}
-use Rattle.dbtg_step.specs.declared.parts.Runner.{Runner}
+use Rattle.dbtg_step.specs.declared.parts.UnitState.{UnitState}
 use Rattle.dbtg_step.specs.Machine.SequentialDatabase.{unit_at}
 
 -- WHERE A CELL IS
 
 -- a cell at home, or in the hands of its holder
-abbrev pub cell_in : List Runner → CellName → CellLocation → Option Cell
+abbrev pub cell_in : List UnitState → CellName → CellLocation → Option Cell
 cell_in runners c (AtHome x) = Some x
 cell_in runners c (WithUnit u) = option_and_then (λ r. cell_of c r.held.cells) (unit_at runners u)
 

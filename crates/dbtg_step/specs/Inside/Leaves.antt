@@ -16,7 +16,7 @@ use Rattle.dbtg_unit.specs.Hands.Locality.{IsMadeOn, seen}
 use Rattle.dbtg_unit.specs.Hands.Making.{ShowsTheSame}
 use Rattle.dbtg_step.specs.declared.parts.CellLocation.{CellLocation}
 use Rattle.dbtg_step.specs.declared.parts.CellLocation.TheVariants.{Home as AtHome, HeldBy as WithUnit}
-use Rattle.dbtg_step.specs.declared.parts.Runner.{Runner}
+use Rattle.dbtg_step.specs.declared.parts.UnitState.{UnitState}
 use Rattle.dbtg_step.specs.declared.parts.StatementProgress.{StatementProgress}
 use Rattle.dbtg_unit.specs.declared.moves.Stepped.{Stepped}
 use Rattle.dbtg_unit.specs.declared.moves.Stepped.TheVariants.{Moved, Blocked, Idle, NoMemory}
@@ -66,7 +66,7 @@ ticketed w t = record { exclusive = w.exclusive; turning_back = false; ticket = 
 
 -- the runner after ticket t, with this unit and these hands: its next statement is due, and nothing is kept of the needs. It is
 -- in mid-statement while it holds anything
-abbrev pub behind_ticket : Runner → StatementProgress → ℕ → Unit → Hands → Runner
+abbrev pub behind_ticket : UnitState → StatementProgress → ℕ → Unit → Hands → UnitState
 behind_ticket old w t unit hands = record {
   unit = unit;
   held = hands;
@@ -77,12 +77,12 @@ behind_ticket old w t unit hands = record {
 }
 
 -- the statement x drew the next ticket: its entry joins the history, and unit and hands are as its effect makes them
-pub record IsDrawn (schema : Lists) (capacity : ℕ) (db : Database) (x : Statement) (u : ℕ) (w : StatementProgress) (history after : List Entry) (old new : Runner) : Type 0 where
+pub record IsDrawn (schema : Lists) (capacity : ℕ) (db : Database) (x : Statement) (u : ℕ) (w : StatementProgress) (history after : List Entry) (old new : UnitState) : Type 0 where
   pub history_is : after ≡ history ++ record { ticket = length history; unit = u; statement = x; answer = answer_of schema capacity db old.unit x } ∷ []
   pub made : IsMadeOn schema capacity db old.unit old.held x (seen (answer_of schema capacity db old.unit x) new.unit new.held)
   pub rest : new ≡ behind_ticket old w (length history) new.unit new.held
 
 -- no ticket was drawn, as memory was refused: what the unit holds shows the same, and nothing is kept of how far the statement had come
-pub record IsUnmade (old new : Runner) : Type 0 where
+pub record IsUnmade (old new : UnitState) : Type 0 where
   pub rest : new ≡ record old { held = new.held; course = None }
   pub shows : ShowsTheSame old.held new.held

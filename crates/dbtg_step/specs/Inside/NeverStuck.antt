@@ -1,7 +1,7 @@
 -- Why units never wait for one another for ever: what each holds and wants, in order.
 use Rattle.std.specs.Prelude.{ℕ, ◌≡◌, ◌<◌, Bool, true, false, ltb, List, [], ◌∷◌, ◌⊎◌, Option, Some, None}
 use Rattle.dbtg_step.specs.Machine.SequentialDatabase.{HeldCells, HeldCell, NextNeed, NeedsArea, NeedsCell, StaleGuesses, NeedsNothing, SequentialDatabase, In, NotAmong, unit_at}
-use Rattle.dbtg_step.specs.Machine.Machine.{Progress, UnitState, State, SequentialState}
+use Rattle.dbtg_step.specs.Machine.Machine.{StatementProgress, UnitState, State, SequentialState}
 use Rattle.dbtg_step.specs.Machine.Step.{next_need}
 use Rattle.dbtg_step.specs.Machine.NeverStuck.{TakenInTurn}
 
@@ -26,18 +26,18 @@ module _ (D : SequentialDatabase) (below : D.Cell → D.Cell → Bool) where
   wanted_by_need NeedsNothing = None
 
   -- what the statement needs next, but nothing while the unit turns back and holds cells
-  unfoldable pub wanted_unless_turning : SequentialState D → State D → UnitState D → Progress D → D.Statement → Bool → HeldCells D → Option (Wanted D.Cell)
+  unfoldable pub wanted_unless_turning : SequentialState D → State D → UnitState D → StatementProgress D → D.Statement → Bool → HeldCells D → Option (Wanted D.Cell)
   wanted_unless_turning opening s state w x true (h ∷ hs) = None
   wanted_unless_turning opening s state w x turning_back cells = wanted_by_need (next_need D opening s state w x)
 
   -- the same, but nothing with a ticket
-  unfoldable pub wanted_before_ticket : SequentialState D → State D → UnitState D → Progress D → Option ℕ → List D.Statement → Option (Wanted D.Cell)
+  unfoldable pub wanted_before_ticket : SequentialState D → State D → UnitState D → StatementProgress D → Option ℕ → List D.Statement → Option (Wanted D.Cell)
   wanted_before_ticket opening s state w (Some t) remaining = None
   wanted_before_ticket opening s state w None [] = None
   wanted_before_ticket opening s state w None (x ∷ xs) = wanted_unless_turning opening s state w x w.turning_back w.cells
 
   -- the same, but nothing between statements
-  unfoldable pub wanted_in_progress : SequentialState D → State D → UnitState D → Option (Progress D) → Option (Wanted D.Cell)
+  unfoldable pub wanted_in_progress : SequentialState D → State D → UnitState D → Option (StatementProgress D) → Option (Wanted D.Cell)
   wanted_in_progress opening s state None = None
   wanted_in_progress opening s state (Some w) = wanted_before_ticket opening s state w w.ticket state.remaining
 
@@ -46,7 +46,7 @@ module _ (D : SequentialDatabase) (below : D.Cell → D.Cell → Bool) where
   wanted opening s state = wanted_in_progress opening s state state.progress
 
   -- what a unit in mid-statement wants respects the order of areas and cells
-  pub record UnitInOrder (opening : SequentialState D) (s : State D) (state : UnitState D) (w : Progress D) : Type 0 where
+  pub record UnitInOrder (opening : SequentialState D) (s : State D) (state : UnitState D) (w : StatementProgress D) : Type 0 where
     -- in mid-statement without a ticket there is the statement
     pub busy : w.ticket ≡ None → (x : D.Statement) × (xs : List D.Statement) × (state.remaining ≡ x ∷ xs)
     -- an area that is wanted is above all that are held, and no cell is held
@@ -57,7 +57,7 @@ module _ (D : SequentialDatabase) (below : D.Cell → D.Cell → Bool) where
 
   -- each unit in mid-statement is in order
   pub record UnitsInOrder (opening : SequentialState D) (s : State D) : Type 0 where
-    pub each : (u : ℕ) (state : UnitState D) (w : Progress D) → unit_at s.units u ≡ Some state → state.progress ≡ Some w → UnitInOrder opening s state w
+    pub each : (u : ℕ) (state : UnitState D) (w : StatementProgress D) → unit_at s.units u ≡ Some state → state.progress ≡ Some w → UnitInOrder opening s state w
 
   -- a strict order of cells
   pub record IsStrictOrder : Type 0 where
@@ -65,7 +65,7 @@ module _ (D : SequentialDatabase) (below : D.Cell → D.Cell → Bool) where
     pub chain : (c d e : D.Cell) → below c d ≡ true → below d e ≡ true → below c e ≡ true
 
   -- a unit in mid-statement without a ticket: what it holds was taken in turn
-  pub record InTurn (state : UnitState D) (w : Progress D) : Type 0 where
+  pub record InTurn (state : UnitState D) (w : StatementProgress D) : Type 0 where
     pub x : D.Statement
     pub xs : List D.Statement
     pub remaining : state.remaining ≡ x ∷ xs
@@ -75,4 +75,4 @@ module _ (D : SequentialDatabase) (below : D.Cell → D.Cell → Bool) where
 
   -- each unit without a ticket took what it holds in turn
   pub record AllInTurn (s : State D) : Type 0 where
-    pub each : (u : ℕ) (state : UnitState D) (w : Progress D) → unit_at s.units u ≡ Some state → state.progress ≡ Some w → w.ticket ≡ None → InTurn state w
+    pub each : (u : ℕ) (state : UnitState D) (w : StatementProgress D) → unit_at s.units u ≡ Some state → state.progress ≡ Some w → w.ticket ≡ None → InTurn state w

@@ -4,17 +4,17 @@ use Rattle.dbtg_schema.specs.Lists.{Lists}
 use Rattle.dbtg_cells.specs.Shown.{CellValue}
 use Rattle.dbtg_unit.specs.declared.statement.Statement.{Statement}
 use Rattle.dbtg_unit.specs.Database.State.Units.{opening_unit}
-use Rattle.dbtg_step.specs.declared.parts.CellLocation.{CellLocation}
-use Rattle.dbtg_step.specs.declared.parts.Runner.{Runner}
-use Rattle.dbtg_step.specs.Machine.Machine.{Location}
+use Rattle.dbtg_step.specs.declared.parts.CellLocation.{CellLocation as CoreLocation}
+use Rattle.dbtg_step.specs.declared.parts.UnitState.{UnitState}
+use Rattle.dbtg_step.specs.Machine.Machine.{CellLocation}
 use Rattle.dbtg_step.specs.Core.Parts.{location_of}
 
 -- where the cells of a table are
-abbrev pub locations_of : List CellLocation → List (Location CellValue)
+abbrev pub locations_of : List CoreLocation → List (CellLocation CellValue)
 locations_of = map location_of
 
 -- a unit that stands before its script
-abbrev pub opening_runner : Lists → ℕ → List Statement → Runner
+abbrev pub opening_runner : Lists → ℕ → List Statement → UnitState
 opening_runner schema n script = record {
   unit = opening_unit schema n;
   held = record { areas = []; cells = []; guesses = replicate (length schema.sets) None };
@@ -25,6 +25,6 @@ opening_runner schema n script = record {
 }
 
 -- units that stand before their scripts, the first of them with number n
-abbrev pub runners_from : Lists → ℕ → List (List Statement) → List Runner
+abbrev pub runners_from : Lists → ℕ → List (List Statement) → List UnitState
 runners_from schema n [] = []
 runners_from schema n (script ∷ scripts) = opening_runner schema n script ∷ runners_from schema (suc n) scripts

@@ -1,18 +1,18 @@
 -- How many events a statement has.
 use Rattle.std.specs.Prelude.{ℕ, zero, suc, ◌+◌, ◌*◌, ◌≡◌, false, List, [], ◌∷◌, length, Option, Some, None, option_and_then}
 use Rattle.dbtg_step.specs.Machine.SequentialDatabase.{HeldCells, HeldCell, NextNeed, NeedsArea, NeedsCell, NeedsNothing, SequentialDatabase, unit_at}
-use Rattle.dbtg_step.specs.Machine.Machine.{Home, Progress, UnitState, State, SequentialState, replay}
+use Rattle.dbtg_step.specs.Machine.Machine.{Home, StatementProgress, UnitState, State, SequentialState, replay}
 use Rattle.dbtg_step.specs.Machine.Step.{any_other, conflicts, step, MovedTo}
 
 module _ (D : SequentialDatabase) where
   -- the progress of unit u, if it is in mid-statement
-  abbrev pub progress_of : State D → ℕ → Option (Progress D)
+  abbrev pub progress_of : State D → ℕ → Option (StatementProgress D)
   progress_of s u = option_and_then (λ (state : UnitState D). state.progress) (unit_at s.units u)
 
   -- unit u's statement is over after n steps of the unit, each of them an event, and not before
   unfoldable pub IsOverAfter : SequentialState D → ℕ → ℕ → State D → Type 0
   IsOverAfter opening u zero s = progress_of s u ≡ None
-  IsOverAfter opening u (suc n) s = ((w : Progress D) × (progress_of s u ≡ Some w)) × ((t : State D) × (step D opening s u ≡ MovedTo t) × IsOverAfter opening u n t)
+  IsOverAfter opening u (suc n) s = ((w : StatementProgress D) × (progress_of s u ≡ Some w)) × ((t : State D) × (step D opening s u ≡ MovedTo t) × IsOverAfter opening u n t)
 
   -- the next statement of unit u has n events: it is over after n steps, the first of which begins it
   unfoldable pub HasEvents : SequentialState D → ℕ → ℕ → State D → Type 0

@@ -1,7 +1,7 @@
 -- What holds of every state that is reached, and what a state shows of each cell.
 use Rattle.std.specs.Prelude.{◌⊎◌, ℕ, suc, ◌≡◌, ◌≢◌, ◌<◌, false, List, [], ◌∷◌, ◌++◌, length, take, map, Option, Some, None, slice_get}
 use Rattle.dbtg_step.specs.Machine.SequentialDatabase.{HeldCells, HeldCell, SequentialDatabase, In, Agrees, NotAmong, unit_at}
-use Rattle.dbtg_step.specs.Machine.Machine.{Location, Home, HeldBy, Progress, UnitState, HistoryEntry, State, SequentialState, replay, AnswersHold, statements_of, held_cells, held_areas, holds_exclusively, ticket_of}
+use Rattle.dbtg_step.specs.Machine.Machine.{CellLocation, Home, HeldBy, StatementProgress, UnitState, HistoryEntry, State, SequentialState, replay, AnswersHold, statements_of, held_cells, held_areas, holds_exclusively, ticket_of}
 
 module _ (D : SequentialDatabase) where
   -- no cell is held twice
@@ -10,7 +10,7 @@ module _ (D : SequentialDatabase) where
   AreDistinct (h ∷ hs) = NotAmong D h.name hs × AreDistinct hs
 
   -- what unit u holds after this history
-  pub record Holding (opening : SequentialState D) (location : D.Cell → Location D.Value) (past : List (HistoryEntry D)) (u : ℕ) (progress : Option (Progress D)) : Type 0 where
+  pub record Holding (opening : SequentialState D) (location : D.Cell → CellLocation D.Value) (past : List (HistoryEntry D)) (u : ℕ) (progress : Option (StatementProgress D)) : Type 0 where
     pub held : (h : HeldCell D.Cell D.Value) → In h (held_cells D progress) → location h.name ≡ HeldBy u
     pub values : Agrees D (replay D opening past).database (held_cells D progress)
     pub in_area : (h : HeldCell D.Cell D.Value) → In h (held_cells D progress) → In (D.area h.name) (held_areas D progress)
@@ -20,17 +20,17 @@ module _ (D : SequentialDatabase) where
     pub due : (t : ℕ) → ticket_of D progress ≡ Some t → Agrees D (replay D opening (take (suc t) past)).database (held_cells D progress)
 
   -- the unit's entries are the beginning of its script, whose statements fit
-  pub record UnitLawful (opening : SequentialState D) (location : D.Cell → Location D.Value) (past : List (HistoryEntry D)) (u : ℕ) (state : UnitState D) : Type 0 where
+  pub record UnitLawful (opening : SequentialState D) (location : D.Cell → CellLocation D.Value) (past : List (HistoryEntry D)) (u : ℕ) (state : UnitState D) : Type 0 where
     pub script : statements_of D u past ++ state.remaining ≡ state.script
     pub fits : (x : D.Statement) → In x state.script → D.Fits x
     pub holding : Holding opening location past u state.progress
 
   -- two units that hold an area share it
-  abbrev pub AreasShared : Option (Progress D) → Option (Progress D) → Type 0
+  abbrev pub AreasShared : Option (StatementProgress D) → Option (StatementProgress D) → Type 0
   AreasShared v w = (a : ℕ) → In a (held_areas D v) → In a (held_areas D w) → (holds_exclusively D v ≡ false) × (holds_exclusively D w ≡ false)
 
   -- cell c is held
-  pub record HoldsCell (progress : Option (Progress D)) (c : D.Cell) : Type 0 where
+  pub record HoldsCell (progress : Option (StatementProgress D)) (c : D.Cell) : Type 0 where
     pub which : HeldCell D.Cell D.Value
     pub is_in : In which (held_cells D progress)
     pub name : which.name ≡ c

@@ -3,14 +3,14 @@ use Rattle.std.specs.Prelude.{ℕ, ◌≡◌, Bool, false, cond, eqb, List, [], 
 use Rattle.dbtg_step.specs.Machine.SequentialDatabase.{HeldCells, SequentialDatabase, unit_at, with_unit_at}
 
 -- where a cell is: at home with its value, or with the unit that holds it
-pub data Location (V : Type 0) : Type 0 where
-  Home : V → Location V
-  HeldBy : ℕ → Location V
+pub data CellLocation (V : Type 0) : Type 0 where
+  Home : V → CellLocation V
+  HeldBy : ℕ → CellLocation V
 
 module _ (D : SequentialDatabase) where
   -- how far a unit is with its statement. Areas and cells are listed with the newest first; `linked` counts the cells that are
   -- linked after the ticket, in the order of taking
-  pub record Progress : Type 0 where
+  pub record StatementProgress : Type 0 where
     pub exclusive : Bool
     pub areas : List ℕ
     pub cells : HeldCells D
@@ -25,7 +25,7 @@ module _ (D : SequentialDatabase) where
     pub guesses : D.Guesses
     pub script : List D.Statement
     pub remaining : List D.Statement
-    pub progress : Option Progress
+    pub progress : Option StatementProgress
 
   -- a statement that drew a ticket
   pub record HistoryEntry : Type 0 where
@@ -36,7 +36,7 @@ module _ (D : SequentialDatabase) where
 
   -- a state of the machine. The latch of an area is not a part of it: it says which units hold the area
   pub record State : Type 0 where
-    pub location : D.Cell → Location D.Value
+    pub location : D.Cell → CellLocation D.Value
     pub history : List HistoryEntry
     pub counter : ℕ
     pub units : List UnitState
@@ -71,39 +71,39 @@ module _ (D : SequentialDatabase) where
   statements_of u (e ∷ es) = cond (eqb e.unit u) (e.statement ∷ statements_of u es) (statements_of u es)
 
   -- cell c is at another location
-  unfoldable pub relocated : (D.Cell → Location D.Value) → D.Cell → Location D.Value → D.Cell → Location D.Value
+  unfoldable pub relocated : (D.Cell → CellLocation D.Value) → D.Cell → CellLocation D.Value → D.Cell → CellLocation D.Value
   relocated location c p d = cond (D.same_name d c) p (location d)
 
   -- all held cells are put back
-  unfoldable pub all_home : (D.Cell → Location D.Value) → HeldCells D → D.Cell → Location D.Value
+  unfoldable pub all_home : (D.Cell → CellLocation D.Value) → HeldCells D → D.Cell → CellLocation D.Value
   all_home location [] = location
   all_home location (h ∷ hs) = all_home (relocated location h.name (Home h.value)) hs
 
   -- a statement that has just begun
-  unfoldable pub begun : D.Statement → Progress
+  unfoldable pub begun : D.Statement → StatementProgress
   begun x = record { exclusive = D.is_exclusive x; areas = []; cells = []; turning_back = false; ticket = None; linked = 0 }
 
   -- a statement that has its ticket is over when nothing is held any more
-  unfoldable pub unless_over : Progress → List ℕ → HeldCells D → Option Progress
+  unfoldable pub unless_over : StatementProgress → List ℕ → HeldCells D → Option StatementProgress
   unless_over w [] [] = None
   unless_over w areas cells = Some w
 
   -- what a unit holds
-  unfoldable pub held_cells : Option Progress → HeldCells D
+  unfoldable pub held_cells : Option StatementProgress → HeldCells D
   held_cells None = []
   held_cells (Some w) = w.cells
 
   -- the areas that a unit holds, none between statements
-  unfoldable pub held_areas : Option Progress → List ℕ
+  unfoldable pub held_areas : Option StatementProgress → List ℕ
   held_areas None = []
   held_areas (Some w) = w.areas
 
   -- it holds them exclusively
-  unfoldable pub holds_exclusively : Option Progress → Bool
+  unfoldable pub holds_exclusively : Option StatementProgress → Bool
   holds_exclusively None = false
   holds_exclusively (Some w) = w.exclusive
 
   -- its ticket, if it has one
-  unfoldable pub ticket_of : Option Progress → Option ℕ
+  unfoldable pub ticket_of : Option StatementProgress → Option ℕ
   ticket_of None = None
   ticket_of (Some w) = w.ticket

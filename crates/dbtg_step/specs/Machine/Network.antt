@@ -14,7 +14,7 @@ use Rattle.dbtg_unit.specs.declared.held.Need.TheVariants.{Area, Take, Stale, Re
 use Rattle.dbtg_unit.specs.Database.State.Base.{Database}
 use Rattle.dbtg_unit.specs.Database.State.CellNames.{area_of_cell}
 use Rattle.dbtg_unit.specs.Database.State.Cells.{cell}
-use Rattle.dbtg_unit.specs.Database.Statements.Effect.{Outcome, effect}
+use Rattle.dbtg_unit.specs.Database.Statements.Effect.{StatementEffect, effect}
 use Rattle.dbtg_unit.specs.Database.Statements.Fits.{fits}
 pub use Rattle.dbtg_unit.specs.Hands.EditsOf.{is_delete}
 use Rattle.dbtg_unit.specs.Hands.Guesses.{guesses_after, with_owners}
@@ -39,7 +39,7 @@ abbrev pub noted_owners : Lists → ℕ → Database → Unit → Statement → 
 noted_owners schema capacity db unit statement guesses = with_owners guesses (stale_owners schema capacity db unit guesses statement)
 
 -- what a statement gives, as the machine has it
-abbrev pub effect_of : Outcome → Effect Database Unit Answer
+abbrev pub effect_of : StatementEffect → Effect Database Unit Answer
 effect_of outcome = record { database = outcome.database; unit = outcome.unit; answer = outcome.answer }
 
 -- the network database of a schema; the capacity is how many numbers each record type has

@@ -1,7 +1,7 @@
 -- What keeps units from waiting for one another for ever: areas are taken in ascending order, then cells in theirs.
 use Rattle.std.specs.Prelude.{ℕ, ◌≡◌, ◌<◌, Bool, true, false, List, [], ◌∷◌, Some}
 use Rattle.dbtg_step.specs.Machine.SequentialDatabase.{HeldCells, HeldCell, NeedsArea, NeedsCell, SequentialDatabase, In, Agrees, MayMake, unit_at}
-use Rattle.dbtg_step.specs.Machine.Machine.{Progress, UnitState, State, SequentialState}
+use Rattle.dbtg_step.specs.Machine.Machine.{StatementProgress, UnitState, State, SequentialState}
 use Rattle.dbtg_step.specs.Machine.Step.{step, MovedTo}
 
 module _ (D : SequentialDatabase) where
@@ -13,7 +13,7 @@ module _ (D : SequentialDatabase) where
 
   -- if a unit is in mid-statement, some unit's next step is an event
   abbrev pub IsNotStuck : SequentialState D → State D → Type 0
-  IsNotStuck opening s = (u : ℕ) (state : UnitState D) (w : Progress D) → unit_at s.units u ≡ Some state → state.progress ≡ Some w → SomeUnitMoves opening s
+  IsNotStuck opening s = (u : ℕ) (state : UnitState D) (w : StatementProgress D) → unit_at s.units u ≡ Some state → state.progress ≡ Some w → SomeUnitMoves opening s
 
 module _ (D : SequentialDatabase) (below : D.Cell → D.Cell → Bool) where
   -- unit u of a legal database, in which the held cells have their values, may make the statement

@@ -6,7 +6,7 @@ use Rattle.dbtg_unit.specs.declared.moves.Move.TheVariants.{Step, Quit}
 use Rattle.dbtg_unit.specs.declared.moves.Stepped.{Stepped}
 use Rattle.dbtg_unit.specs.declared.moves.Stepped.TheVariants.{Moved, Blocked, Idle}
 use Rattle.dbtg_step.specs.Machine.SequentialDatabase.{HeldCells, NextNeed, NeedsArea, NeedsCell, StaleGuesses, NeedsNothing, SequentialDatabase, unit_at, with_unit_at}
-use Rattle.dbtg_step.specs.Machine.Machine.{Location, Home, HeldBy, Progress, UnitState, State, SequentialState, replay, relocated, all_home, begun, unless_over, held_areas, holds_exclusively}
+use Rattle.dbtg_step.specs.Machine.Machine.{CellLocation, Home, HeldBy, StatementProgress, UnitState, State, SequentialState, replay, relocated, all_home, begun, unless_over, held_areas, holds_exclusively}
 
 -- some element other than the one at index i passes
 unfoldable pub any_but : {X : Type 0} → (X → Bool) → ℕ → List X → Bool
@@ -36,11 +36,11 @@ module _ (D : SequentialDatabase) where
   conflicts exclusive a state = list_any (eqb a) (held_areas D state.progress) && (exclusive || holds_exclusively D state.progress)
 
   -- the unit with these guesses and this progress
-  abbrev pub with_progress : UnitState D → D.Guesses → Option (Progress D) → UnitState D
+  abbrev pub with_progress : UnitState D → D.Guesses → Option (StatementProgress D) → UnitState D
   with_progress state guesses progress = record { unit = state.unit; guesses = guesses; script = state.script; remaining = state.remaining; progress = progress }
 
   -- after an event of unit u that draws no ticket
-  unfoldable pub updated : State D → ℕ → UnitState D → (D.Cell → Location D.Value) → D.Guesses → Option (Progress D) → State D
+  unfoldable pub updated : State D → ℕ → UnitState D → (D.Cell → CellLocation D.Value) → D.Guesses → Option (StatementProgress D) → State D
   updated s u state location guesses progress = record {
     location = location;
     history = s.history;
@@ -54,7 +54,7 @@ module _ (D : SequentialDatabase) where
   due_cells db (h ∷ hs) = record { name = h.name; value = D.cell db h.name } ∷ due_cells db hs
 
   -- after the ticket: the entry joins the history, the unit is the sequential database's, the held cells have their new values
-  unfoldable pub with_ticket : SequentialState D → State D → ℕ → UnitState D → Progress D → D.Statement → List D.Statement → State D
+  unfoldable pub with_ticket : SequentialState D → State D → ℕ → UnitState D → StatementProgress D → D.Statement → List D.Statement → State D
   with_ticket opening s u state w x xs =
       let db = (replay D opening s.history).database in
       let e = D.effect db state.unit x in
@@ -72,46 +72,46 @@ module _ (D : SequentialDatabase) where
       }
 
   -- with a ticket: a link while one is left, then each cell goes back, then each area is left
-  unfoldable pub after_ticket : State D → ℕ → UnitState D → Progress D → Bool → HeldCells D → List ℕ → State D
+  unfoldable pub after_ticket : State D → ℕ → UnitState D → StatementProgress D → Bool → HeldCells D → List ℕ → State D
   after_ticket s u state w true cells areas = updated s u state s.location state.guesses (Some (record w { linked = suc w.linked }))
   after_ticket s u state w false (h ∷ hs) areas = updated s u state (relocated D s.location h.name (Home h.value)) state.guesses (unless_over D (record w { cells = hs }) areas hs)
   after_ticket s u state w false [] (a ∷ areas) = updated s u state s.location state.guesses (unless_over D (record w { areas = areas }) areas [])
   after_ticket s u state w false [] [] = updated s u state s.location state.guesses None
 
   -- an area is taken unless another unit holds it in a way that conflicts
-  unfoldable pub takes_area : State D → ℕ → UnitState D → Progress D → ℕ → Bool → Transition
+  unfoldable pub takes_area : State D → ℕ → UnitState D → StatementProgress D → ℕ → Bool → Transition
   takes_area s u state w a true = IsBlocked
   takes_area s u state w a false = MovedTo (updated s u state s.location state.guesses (Some (record w { areas = a ∷ w.areas })))
 
   -- a cell is taken if it is at home
-  unfoldable pub takes_cell : State D → ℕ → UnitState D → Progress D → D.Cell → Location D.Value → Transition
+  unfoldable pub takes_cell : State D → ℕ → UnitState D → StatementProgress D → D.Cell → CellLocation D.Value → Transition
   takes_cell s u state w c (HeldBy other) = IsBlocked
   takes_cell s u state w c (Home v) = MovedTo (updated s u state (relocated D s.location c (HeldBy u)) state.guesses (Some (record w { cells = record { name = c; value = v } ∷ w.cells })))
 
   -- what the statement needs next decides
-  unfoldable pub follows_need : SequentialState D → State D → ℕ → UnitState D → Progress D → D.Statement → List D.Statement → NextNeed D.Cell D.Guesses → Transition
+  unfoldable pub follows_need : SequentialState D → State D → ℕ → UnitState D → StatementProgress D → D.Statement → List D.Statement → NextNeed D.Cell D.Guesses → Transition
   follows_need opening s u state w x xs (NeedsArea a) = takes_area s u state w a (any_other (conflicts w.exclusive a) u s.units)
   follows_need opening s u state w x xs (NeedsCell c) = takes_cell s u state w c (s.location c)
   follows_need opening s u state w x xs (StaleGuesses g) = MovedTo (updated s u state s.location g (Some (record w { turning_back = is_nonempty w.cells })))
   follows_need opening s u state w x xs NeedsNothing = MovedTo (with_ticket opening s u state w x xs)
 
   -- what a unit needs next, on the database of the history
-  unfoldable pub next_need : SequentialState D → State D → UnitState D → Progress D → D.Statement → NextNeed D.Cell D.Guesses
+  unfoldable pub next_need : SequentialState D → State D → UnitState D → StatementProgress D → D.Statement → NextNeed D.Cell D.Guesses
   next_need opening s state w x = D.need (replay D opening s.history).database state.unit x state.guesses w.areas w.cells
 
   -- a unit that turns back puts its cells back, the newest first, and keeps its areas
-  unfoldable pub before_ticket : SequentialState D → State D → ℕ → UnitState D → Progress D → D.Statement → List D.Statement → Bool → HeldCells D → Transition
+  unfoldable pub before_ticket : SequentialState D → State D → ℕ → UnitState D → StatementProgress D → D.Statement → List D.Statement → Bool → HeldCells D → Transition
   before_ticket opening s u state w x xs true (h ∷ hs) = MovedTo (updated s u state (relocated D s.location h.name (Home h.value)) state.guesses (Some (record w { cells = hs; turning_back = is_nonempty hs })))
   before_ticket opening s u state w x xs turning_back cells = follows_need opening s u state w x xs (next_need opening s state w x)
 
   -- the step of a unit in mid-statement: with a ticket, or with its statement still to be made
-  unfoldable pub in_statement : SequentialState D → State D → ℕ → UnitState D → Progress D → Option ℕ → List D.Statement → Transition
+  unfoldable pub in_statement : SequentialState D → State D → ℕ → UnitState D → StatementProgress D → Option ℕ → List D.Statement → Transition
   in_statement opening s u state w (Some t) remaining = MovedTo (after_ticket s u state w (ltb w.linked (length w.cells)) w.cells w.areas)
   in_statement opening s u state w None (x ∷ xs) = before_ticket opening s u state w x xs w.turning_back w.cells
   in_statement opening s u state w None [] = IsIdle
 
   -- the step of a unit: on with its statement, or the next one begins
-  unfoldable pub step_of_unit : SequentialState D → State D → ℕ → UnitState D → Option (Progress D) → List D.Statement → Transition
+  unfoldable pub step_of_unit : SequentialState D → State D → ℕ → UnitState D → Option (StatementProgress D) → List D.Statement → Transition
   step_of_unit opening s u state (Some w) remaining = in_statement opening s u state w w.ticket remaining
   step_of_unit opening s u state None (x ∷ xs) = MovedTo (updated s u state s.location state.guesses (Some (begun D x)))
   step_of_unit opening s u state None [] = IsIdle
@@ -126,12 +126,12 @@ module _ (D : SequentialDatabase) where
   step opening s u = step_if_unit opening s u (unit_at s.units u)
 
   -- the quit of a unit in mid-statement: idle with a ticket; otherwise all cells go home
-  unfoldable pub quit_unless_ticket : State D → ℕ → UnitState D → Progress D → Option ℕ → Transition
+  unfoldable pub quit_unless_ticket : State D → ℕ → UnitState D → StatementProgress D → Option ℕ → Transition
   quit_unless_ticket s u state w (Some t) = IsIdle
   quit_unless_ticket s u state w None = MovedTo (updated s u state (all_home D s.location w.cells) state.guesses None)
 
   -- the quit of a unit, idle between statements
-  unfoldable pub quit_of_unit : State D → ℕ → UnitState D → Option (Progress D) → Transition
+  unfoldable pub quit_of_unit : State D → ℕ → UnitState D → Option (StatementProgress D) → Transition
   quit_of_unit s u state None = IsIdle
   quit_of_unit s u state (Some w) = quit_unless_ticket s u state w w.ticket
 

@@ -29,11 +29,11 @@ use Rattle.dbtg_unit.specs.Database.State.Legal.{Legal}
 use Rattle.dbtg_unit.specs.Database.State.LegalWith.{IsUnitIn}
 use Rattle.dbtg_unit.specs.Database.State.Units.{forgotten, noted, seen}
 use Rattle.dbtg_unit.specs.Database.Statements.Checks.{about, checks_on_cells, live_checks, refused_at_once}
-use Rattle.dbtg_unit.specs.Database.Statements.Effect.{Outcome, deleted, done, done_on_cells, done_on_current, effect, effect_on_cells, finding, inserted, modified, removed, stored, unless_refused, version_of}
+use Rattle.dbtg_unit.specs.Database.Statements.Effect.{StatementEffect, deleted, done, done_on_cells, done_on_current, effect, effect_on_cells, finding, inserted, modified, removed, stored, unless_refused, version_of}
 use Rattle.dbtg_unit.specs.Database.Statements.Fits.{fits}
 use Rattle.dbtg_unit.specs.Database.Statements.Found.{found}
-use Rattle.dbtg_unit.specs.Database.Statements.View.{whole}
-use Rattle.dbtg_unit.specs.Database.Laws.Replay.{AnswersHold, State, after_entry, after_outcome, answer_to, opening_state, outcome_of, replay}
+use Rattle.dbtg_unit.specs.Database.Statements.StoredFacts.{whole}
+use Rattle.dbtg_unit.specs.Database.Laws.Replay.{AnswersHold, State, after_entry, after_effect, answer_to, opening_state, effect_of_unit, replay}
 use Rattle.dbtg_unit.specs.Database.Laws.StaysLegal.{IsLegalState}
 use Rattle.dbtg_unit.proofs.Public.{effect_step, first_check_passes, found_live, opening_is_legal, opening_length, replay_keeps_legal}
 use Rattle.dbtg_script.specs.Lookups.{type_named}
@@ -129,14 +129,14 @@ module _ (schema : Lists) (sound : IsSound schema) (named : IsNamed schema) (cap
 
   module _ (db : Database) (unit : RunUnit) (legal : Legal schema capacity db) where
     -- in a legal database the answer can be said
-    abbrev Told : Outcome → Type 0
+    abbrev Told : StatementEffect → Type 0
     Told outcome = Legal schema capacity outcome.database → IsSayable schema outcome.answer.key outcome.answer.items
 
-    unless : (check : Option Cause) (outcome : Outcome) → (check ≡ None → Told outcome) → Told (unless_refused db unit check outcome)
+    unless : (check : Option Cause) (outcome : StatementEffect) → (check ≡ None → Told outcome) → Told (unless_refused db unit check outcome)
     unless (Some cause) outcome h = λ after. refl
     unless None outcome h = h refl
 
-    of_current : (current : Option DbKey) (checks : DbKey → List (Bool × Cause)) (outcome : DbKey → Outcome) → ((k : DbKey) → first_cause (checks k) ≡ None → Told (outcome k))
+    of_current : (current : Option DbKey) (checks : DbKey → List (Bool × Cause)) (outcome : DbKey → StatementEffect) → ((k : DbKey) → first_cause (checks k) ≡ None → Told (outcome k))
         → Told (unless_refused db unit (first_cause (about current checks)) (done_on_current db unit current outcome))
     of_current None checks outcome h = λ after. refl
     of_current (Some k) checks outcome h = unless (first_cause (checks k)) (outcome k) (h k)
@@ -145,7 +145,7 @@ module _ (schema : Lists) (sound : IsSound schema) (named : IsNamed schema) (cap
     of_finding (Ok k) after h = λ lawful. within db legal k (h k refl)
     of_finding (Err cause) after h = λ lawful. refl
 
-    quiet : (current : Option DbKey) (outcome : DbKey → Outcome) → ((k : DbKey) → Told (outcome k)) → Told (done_on_current db unit current outcome)
+    quiet : (current : Option DbKey) (outcome : DbKey → StatementEffect) → ((k : DbKey) → Told (outcome k)) → Told (done_on_current db unit current outcome)
     quiet None outcome h = λ after. refl
     quiet (Some k) outcome h = h k
 
@@ -194,12 +194,12 @@ module _ (schema : Lists) (sound : IsSound schema) (named : IsNamed schema) (cap
   one_told : (state : State) (e : Entry) → IsLegalState schema capacity state → fits schema e.statement ≡ true → answer_to schema capacity state e ≡ Some e.answer → IsSayable schema e.answer.key e.answer.items
   one_told state e legal fit answered = by e.unit answered
     where
-      of_unit : (i : ℕ) (found : Option RunUnit) → slice_get state.units i ≡ found → option_map (λ (o : Outcome). o.answer) (option_map (λ unit. effect schema capacity state.database unit e.statement) found) ≡ Some e.answer
+      of_unit : (i : ℕ) (found : Option RunUnit) → slice_get state.units i ≡ found → option_map (λ (o : StatementEffect). o.answer) (option_map (λ unit. effect schema capacity state.database unit e.statement) found) ≡ Some e.answer
           → IsSayable schema e.answer.key e.answer.items
       of_unit i None is h = absurd cc
       of_unit i (Some unit) is h = subst (λ (a : Answer). IsSayable schema a.key a.items) (same_Some _ _ h) (told state.database unit legal.legal (suc i) (legal.each i unit is) e.statement fit)
 
-      by : (u : ℕ) → option_map (λ (o : Outcome). o.answer) (outcome_of schema capacity state u e.statement) ≡ Some e.answer → IsSayable schema e.answer.key e.answer.items
+      by : (u : ℕ) → option_map (λ (o : StatementEffect). o.answer) (effect_of_unit schema capacity state u e.statement) ≡ Some e.answer → IsSayable schema e.answer.key e.answer.items
       by zero h = absurd cc
       by (suc i) h = of_unit i (slice_get state.units i) refl h
 
@@ -220,19 +220,19 @@ answers_can_be_said schema sound named capacity small units history is = sayable
 
 -- ITS UNITS
 
-as_many : (state : State) (u : ℕ) (outcome : Option Outcome) → length (after_outcome state u outcome).units ≡ length state.units
+as_many : (state : State) (u : ℕ) (outcome : Option StatementEffect) → length (after_effect state u outcome).units ≡ length state.units
 as_many state u None = refl
 as_many state u (Some outcome) = length-set state.units (u - 1) outcome.unit
 
 there : (schema : Lists) (capacity : ℕ) (state : State) (e : Entry) → answer_to schema capacity state e ≡ Some e.answer → (nat_le 1 e.unit && nat_le e.unit (length state.units)) ≡ true
 there schema capacity state e answered = by e.unit answered
   where
-    of_unit : (i : ℕ) (found : Option RunUnit) → slice_get state.units i ≡ found → option_map (λ (o : Outcome). o.answer) (option_map (λ unit. effect schema capacity state.database unit e.statement) found) ≡ Some e.answer
+    of_unit : (i : ℕ) (found : Option RunUnit) → slice_get state.units i ≡ found → option_map (λ (o : StatementEffect). o.answer) (option_map (λ unit. effect schema capacity state.database unit e.statement) found) ≡ Some e.answer
         → (nat_le 1 (suc i) && nat_le (suc i) (length state.units)) ≡ true
     of_unit i None is h = absurd cc
     of_unit i (Some unit) is h = let low = slice_get_within state.units i unit is in and_from _ _ (le-leb 1 (suc i) (omega arith)) (le-leb (suc i) (length state.units) (omega (arith, low)))
 
-    by : (u : ℕ) → option_map (λ (o : Outcome). o.answer) (outcome_of schema capacity state u e.statement) ≡ Some e.answer → (nat_le 1 u && nat_le u (length state.units)) ≡ true
+    by : (u : ℕ) → option_map (λ (o : StatementEffect). o.answer) (effect_of_unit schema capacity state u e.statement) ≡ Some e.answer → (nat_le 1 u && nat_le u (length state.units)) ≡ true
     by zero h = absurd cc
     by (suc i) h = of_unit i (slice_get state.units i) refl h
 
@@ -241,7 +241,7 @@ unfolding AnswersHold
 all_there schema capacity units state [] many hold = refl
 all_there schema capacity units state (e ∷ es) many hold =
     and_from _ _ (ap (λ n. nat_le 1 e.unit && nat_le e.unit n) (sym many) ∙ there schema capacity state e hold.0)
-    (all_there schema capacity units (after_entry schema capacity state e) es (as_many state e.unit (outcome_of schema capacity state e.unit e.statement) ∙ many) hold.1)
+    (all_there schema capacity units (after_entry schema capacity state e) es (as_many state e.unit (effect_of_unit schema capacity state e.unit e.statement) ∙ many) hold.1)
 
 -- each entry is of one of the units
 pub units_there : (schema : Lists) (capacity units : ℕ) (history : List Entry) → AnswersHold schema capacity (opening_state schema units) history → list_all (λ e. nat_le 1 e.unit && nat_le e.unit units) history ≡ true

@@ -15,5 +15,5 @@ pub mod LegalUnits
 pub mod ListsChanged
 pub mod Outcomes
 pub mod PassedChecks
-pub mod SameView
+pub mod SameFacts
 pub mod StoreLegal

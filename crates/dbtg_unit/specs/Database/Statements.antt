@@ -10,4 +10,4 @@ pub mod Doomed
 pub mod Effect
 pub mod Fits
 pub mod Found
-pub mod View
+pub mod StoredFacts

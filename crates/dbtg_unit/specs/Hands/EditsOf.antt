@@ -21,7 +21,7 @@ use Rattle.dbtg_unit.specs.declared.unit.Status.TheVariants.{Done}
 use Rattle.dbtg_unit.specs.Database.State.Cells.{cell}
 use Rattle.dbtg_unit.specs.Hands.Edits.{edited_at}
 use Rattle.dbtg_unit.specs.Database.Statements.Effect.{effect, is_gone}
-use Rattle.dbtg_unit.specs.Database.Statements.View.{whole}
+use Rattle.dbtg_unit.specs.Database.Statements.StoredFacts.{whole}
 pub use Rattle.dbtg_unit.specs.Hands.PlanOf.{done_plan_of, first_owners, joining_edits, modify_edits, placed_at, replacing_edits, ring_edits, slot_edit, store_edits}
 use Rattle.dbtg_unit.specs.Hands.Erasing.{doomed_in_turn, members_of_all, with_those}
 use Rattle.dbtg_unit.specs.Database.State.Legal.{Legal}

@@ -12,7 +12,7 @@ use Rattle.dbtg_unit.specs.declared.unit.Unit.{Unit}
 use Rattle.dbtg_schema.specs.Lookups.{first_cause}
 use Rattle.dbtg_unit.specs.Database.State.Base.{Database, owners, members_of, is_member}
 use Rattle.dbtg_unit.specs.Database.Statements.Doomed.{all_keys, takes}
-use Rattle.dbtg_unit.specs.Database.Statements.View.{whole}
+use Rattle.dbtg_unit.specs.Database.Statements.StoredFacts.{whole}
 use Rattle.dbtg_unit.specs.Database.Statements.Checks.{own_checks}
 use Rattle.dbtg_unit.specs.Database.Statements.Conditions.{has_members, is_plain}
 use Rattle.dbtg_unit.specs.Database.State.CellNames.{slot_name, place_of}

@@ -10,7 +10,7 @@ use Rattle.dbtg_unit.specs.declared.statement.Statement.TheVariants.{Find, Store
 use Rattle.dbtg_unit.specs.Database.State.Base.{Database, owner_of}
 use Rattle.dbtg_unit.specs.Database.State.Units.{owners_of}
 use Rattle.dbtg_unit.specs.Database.Statements.Codes.{is_done}
-use Rattle.dbtg_unit.specs.Database.Statements.Effect.{Outcome}
+use Rattle.dbtg_unit.specs.Database.Statements.Effect.{StatementEffect}
 
 -- what the current of run-unit, in the database after the statement, makes of the guesses
 abbrev pub noted_guesses : Lists → ℕ → Database → Statement → List (Option Owner) → Option DbKey → List (Option Owner)
@@ -21,7 +21,7 @@ noted_guesses schema capacity db (Remove s) guesses (Some k) = slice_set guesses
 noted_guesses schema capacity db _ guesses _ = guesses
 
 -- a FIND or STORE notes all owners of what is current now, an INSERT or REMOVE the one of its set; a refusal notes none
-abbrev pub guesses_after : Lists → ℕ → Statement → List (Option Owner) → Outcome → List (Option Owner)
+abbrev pub guesses_after : Lists → ℕ → Statement → List (Option Owner) → StatementEffect → List (Option Owner)
 guesses_after schema capacity statement guesses outcome =
     cond (is_done outcome.answer.status) (noted_guesses schema capacity outcome.database statement guesses outcome.unit.currency.run_unit) guesses
 

@@ -19,7 +19,7 @@ use Rattle.dbtg_cells.specs.Shown.{ExtentView, UsageView}
 use Rattle.dbtg_cells.specs.Numbers.{has_values, is_free, is_number_left_out, last_of, numbers_where}
 use Rattle.dbtg_unit.specs.Database.State.CellNames.{place_of, slot_name}
 use Rattle.dbtg_unit.specs.Hands.Hands.{Hands, cell_of}
-use Rattle.dbtg_unit.specs.Database.Statements.View.{View}
+use Rattle.dbtg_unit.specs.Database.Statements.StoredFacts.{StoredFacts}
 
 -- the record of this generation in a slot
 abbrev pub stored_of : ℕ → Option Cell → Option Stored
@@ -97,7 +97,7 @@ abbrev pub next_key_of : List Number → ℕ → ℕ → DbKey
 next_key_of numbers t n = record { rtype = t; number = n; generation = last_of n numbers + 1 }
 
 -- what the held cells answer
-abbrev pub in_hand : Hands → View
+abbrev pub in_hand : Hands → StoredFacts
 in_hand hands =
     record {
       is_live = λ k. is_some (stored_in hands k);

@@ -16,7 +16,7 @@ use Rattle.dbtg_unit.specs.Database.State.Base.{Database}
 use Rattle.dbtg_unit.specs.Database.State.Cells.{cell}
 use Rattle.dbtg_unit.specs.Database.State.Belongs.{IsUnitOf, IsWithin}
 use Rattle.dbtg_unit.specs.Database.State.Legal.{Legal, pairwise}
-use Rattle.dbtg_unit.specs.Database.Statements.Effect.{Outcome, effect}
+use Rattle.dbtg_unit.specs.Database.Statements.Effect.{StatementEffect, effect}
 use Rattle.dbtg_unit.specs.Database.Statements.Fits.{fits}
 use Rattle.dbtg_unit.specs.Hands.Guesses.{guesses_after}
 use Rattle.dbtg_unit.specs.Hands.Hands.{Hands}
@@ -33,7 +33,7 @@ ChangesOnlyItsCells =
     → (c : CellName) → holds hands.cells c ≡ false → cell schema capacity (effect schema capacity db unit statement).database c ≡ cell schema capacity db c
 
 -- two outcomes have the same answer and the same unit, and show the same in each held cell
-pub record DoTheSame (schema : Lists) (capacity : ℕ) (hands : Hands) (o p : Outcome) : Type 0 where
+pub record DoTheSame (schema : Lists) (capacity : ℕ) (hands : Hands) (o p : StatementEffect) : Type 0 where
   pub answer : o.answer ≡ p.answer
   pub unit : o.unit ≡ p.unit
   pub cells : (c : CellName) → holds hands.cells c ≡ true → cell schema capacity o.database c ≡ cell schema capacity p.database c

@@ -24,7 +24,7 @@ use Rattle.dbtg_unit.specs.Database.Statements.Found.{found}
 use Rattle.dbtg_unit.specs.Database.Statements.Checks.{areas_of, refused_at_once}
 use Rattle.dbtg_unit.specs.Database.Statements.Conditions.{calc_taken, names_calc}
 use Rattle.dbtg_unit.specs.Database.Statements.Effect.{new_key}
-use Rattle.dbtg_unit.specs.Database.Statements.View.{whole}
+use Rattle.dbtg_unit.specs.Database.Statements.StoredFacts.{whole}
 use Rattle.dbtg_schema.specs.Structure.{automatic_sets, owns, rekeyed_sets, set_numbers, types_in}
 use Rattle.dbtg_cells.specs.Names.{name_eq}
 use Rattle.dbtg_unit.specs.Database.State.CellNames.{slot_name, place_of}

@@ -30,7 +30,7 @@ use Rattle.dbtg_unit.specs.Database.State.Base.{calc_items, key_item}
 use Rattle.dbtg_unit.specs.Database.State.CellNames.{slot_name, place_of}
 use Rattle.dbtg_unit.specs.Database.State.Units.{noted, place_in}
 use Rattle.dbtg_unit.specs.Database.Statements.Conditions.{changed_items, joined_place, names_calc}
-use Rattle.dbtg_unit.specs.Database.Statements.View.{View}
+use Rattle.dbtg_unit.specs.Database.Statements.StoredFacts.{StoredFacts}
 use Rattle.dbtg_unit.specs.Hands.Prepared.{Plan, refusal}
 
 -- these edits of the ring of an owner, if there is one
@@ -92,7 +92,7 @@ storing schema unit items suppress k = record {
 }
 
 -- INSERT of k: its place in the current occurrence, its owner, its version; it becomes current of the set
-abbrev pub inserting : Lists → View → Unit → ℕ → DbKey → Plan
+abbrev pub inserting : Lists → StoredFacts → Unit → ℕ → DbKey → Plan
 inserting schema view unit s k = record {
   answer = done_answer;
   cells = joining_edit schema unit s k (key_item schema s k.rtype (view.items k)) ∷ slot_edit k (ChangeOwner s (Some (joined_place schema unit s).owner)) ∷ slot_edit k RaiseVersion ∷ [];
@@ -101,7 +101,7 @@ inserting schema view unit s k = record {
 }
 
 -- REMOVE of k: out of its owner's list, no owner, its version
-abbrev pub removing : View → ℕ → DbKey → Plan
+abbrev pub removing : StoredFacts → ℕ → DbKey → Plan
 removing view s k = record {
   answer = done_answer;
   cells = ring_edits s (view.owner s k) (TakeOut k ∷ []) ++ slot_edit k (ChangeOwner s None) ∷ slot_edit k RaiseVersion ∷ [];
@@ -110,7 +110,7 @@ removing view s k = record {
 }
 
 -- k, out of its list of set s and placed again by its new sort key
-abbrev pub replacing_edits : Lists → View → Unit → DbKey → List Value → ℕ → List CellEdit
+abbrev pub replacing_edits : Lists → StoredFacts → Unit → DbKey → List Value → ℕ → List CellEdit
 replacing_edits schema view unit k items s =
     ring_edits s (view.owner s k) (ReplaceMember (order_of schema s) (option_and_then (λ place. place.at) (place_in schema unit s)) k (key_item schema s k.rtype items) ∷ [])
 
@@ -120,14 +120,14 @@ calc_edits schema changes k items =
     if names_calc schema k.rtype changes then record { name = Extent k.rtype; edit = ChangeNumber k.number (calc_items schema k.rtype items) } ∷ [] else []
 
 -- k gets these items: its CALC values, its places if a sort key is named, its items, its version
-abbrev pub modify_edits : Lists → View → Unit → List Change → DbKey → List Value → List CellEdit
+abbrev pub modify_edits : Lists → StoredFacts → Unit → List Change → DbKey → List Value → List CellEdit
 modify_edits schema view unit changes k items =
     calc_edits schema changes k items
     ++ (flat_map (replacing_edits schema view unit k items) (rekeyed_sets schema k.rtype (map (λ c. c.item) changes))
     ++ slot_edit k (ChangeItems items) ∷ (slot_edit k RaiseVersion ∷ []))
 
 -- MODIFY of k
-abbrev pub modifying : Lists → View → Unit → List Change → DbKey → Plan
+abbrev pub modifying : Lists → StoredFacts → Unit → List Change → DbKey → Plan
 modifying schema view unit changes k = record {
   answer = done_answer;
   cells = modify_edits schema view unit changes k (changed_items changes (view.items k));
@@ -141,7 +141,7 @@ planned_on_current None plan = refusal NoCurrentOfRunUnit
 planned_on_current (Some k) plan = plan k
 
 -- what a statement plans that no check refuses; a FIND and a DELETE plan by what they look for, not by a view
-abbrev pub done_plan_of : Lists → View → Unit → Statement → Plan
+abbrev pub done_plan_of : Lists → StoredFacts → Unit → Statement → Plan
 done_plan_of schema view unit (OpenArea a mode) = mode_plan a (EnterUser unit.number mode) (Some mode)
 done_plan_of schema view unit (CloseArea a) = mode_plan a (LeaveUser unit.number) None
 done_plan_of schema view unit (Get r) = planned_on_current unit.currency.run_unit (λ k. done_plan Same (Some k) (Some (view.items k)))

@@ -15,4 +15,4 @@ loop-turn-preserved c =
     let e : c.args.limit - c.loop-turn.turn ≡ suc less = omega (arith, c.loop-turn-test.true) in
     let there : slot slots c.in-Some.i ≡ Some node = sym c.get.ensures ∙ ap option_copied c.in-Some-get.is in
     let cut = read_one d _ less slots c.loop-turn.at c.in-Some.i node e c.in-Some.is there ∙ ap (λ at. node.member ∷ read d less slots at) (sym c.neighbour-at.ensures) in
-    sym (first_later (has_type c.args.rtype.now) node.member (read d less slots c.neighbour-at.result) (sym c.if-is_of_type.ensures)) ∙ ap (λ l. first (filter (has_type c.args.rtype.now) (map (λ e. e.0) l))) (sym cut) ∙ c.loop-turn.invariant
+    sym (first_later (has_type c.args.rtype.now) node.member (read d less slots c.neighbour-at.result) (sym c.if-has_type.ensures)) ∙ ap (λ l. first (filter (has_type c.args.rtype.now) (map (λ e. e.0) l))) (sym cut) ∙ c.loop-turn.invariant

@@ -15,4 +15,4 @@ loop-turn-preserved c =
     let e : c.args.limit - c.loop-turn.turn ≡ suc less = omega (arith, c.loop-turn-test.true) in
     let there : slot slots c.in-Some.i ≡ Some node = sym c.get.ensures ∙ ap option_copied c.in-Some-get.is in
     let cut = read_one Next _ less slots c.loop-turn.at c.in-Some.i node e c.in-Some.is there in
-    sym (any_later (has_sort_key c.args.left_out.now c.args.sort.now) node.member (follow less slots node.next) (sym c.if-takes.ensures)) ∙ ap (list_any (has_sort_key c.args.left_out.now c.args.sort.now)) (sym cut) ∙ c.loop-turn.invariant
+    sym (any_later (has_sort_key c.args.left_out.now c.args.sort.now) node.member (follow less slots node.next) (sym c.if-is_taken_by.ensures)) ∙ ap (list_any (has_sort_key c.args.left_out.now c.args.sort.now)) (sym cut) ∙ c.loop-turn.invariant

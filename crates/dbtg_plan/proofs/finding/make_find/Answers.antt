@@ -6,8 +6,8 @@ use Rattle.dbtg_plan.specs.Inside.Finding.{plan_of_found}
 use Rattle.dbtg_plan.proofs.Plans.MadeAtOnce.{find_is_made}
 use Rattle.dbtg_plan.proofs.finding.make_find.Goals as goal
 
-pub find_key-found-requires : goal.find_key-found-requires
-find_key-found-requires c = record { fits = (and_parts _ _ c.requires.may.fits).0; within = c.requires.may.within }
+pub found_in-found-requires : goal.found_in-found-requires
+found_in-found-requires c = record { fits = (and_parts _ _ c.requires.may.fits).0; within = c.requires.may.within }
 
 pub returns : goal.returns
 returns c =
@@ -15,6 +15,6 @@ returns c =
     let unit = c.args.unit.now in
     let hands = c.args.held.now in
     let suppress = c.args.suppress.now in
-    let is = c.see_found.ensures ∙ ap (λ f. made_by schema unit hands (plan_of_found hands suppress f)) c.find_key-found.ensures in
+    let is = c.see_found.ensures ∙ ap (λ f. made_by schema unit hands (plan_of_found hands suppress f)) c.found_in-found.ensures in
     subst (IsMadeOnEach schema c.args.capacity unit hands (Find c.args.form.now suppress)) (sym is)
     (find_is_made schema unit hands c.args.capacity c.args.form.now suppress c.requires.may c.requires.passes)

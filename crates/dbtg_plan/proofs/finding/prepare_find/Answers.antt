@@ -8,8 +8,8 @@ use Rattle.dbtg_plan.specs.Inside.Finding.{plan_of_found}
 use Rattle.dbtg_plan.proofs.Find.FindPlans.{find_can_finish}
 use Rattle.dbtg_plan.proofs.finding.prepare_find.Goals as goal
 
-pub find_key-found-requires : goal.find_key-found-requires
-find_key-found-requires c = record { fits = (and_parts _ _ c.requires.may.fits).0; within = c.requires.may.within }
+pub found_in-found-requires : goal.found_in-found-requires
+found_in-found-requires c = record { fits = (and_parts _ _ c.requires.may.fits).0; within = c.requires.may.within }
 
 pub returns : goal.returns
 returns c =
@@ -17,6 +17,6 @@ returns c =
     let unit = c.args.unit.now in
     let hands = c.args.held.now in
     let suppress = c.args.suppress.now in
-    let is = c.plan_of_found.ensures ∙ ap (plan_of_found hands suppress) c.find_key-found.ensures in
+    let is = c.plan_of_found.ensures ∙ ap (plan_of_found hands suppress) c.found_in-found.ensures in
     subst (λ (plan : Plan). CanFinish schema c.args.capacity unit hands (Find c.args.form.now suppress) plan) (sym is)
     (find_can_finish schema c.args.capacity unit hands c.args.form.now suppress (may_plan c.requires.may) c.requires.passes)

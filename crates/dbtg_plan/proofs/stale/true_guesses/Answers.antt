@@ -8,19 +8,19 @@ use Rattle.dbtg_plan.specs.Inside.Stale.{wrong_owner_in}
 use Rattle.dbtg_plan.proofs.Needs.WrongGuesses.{owners_of_stale, stale_has_current}
 use Rattle.dbtg_plan.proofs.stale.true_guesses.Goals as goal
 
-pub with_true_owners-requires : goal.with_true_owners-requires
-with_true_owners-requires c =
+pub with_owners-requires : goal.with_owners-requires
+with_owners-requires c =
     ap length c.guesses.ensures ∙ c.requires.count
     ∙ sym (
-    ap length c.wrong_owners-owners.ensures
+    ap length c.wrong_owners_in-owners.ensures
     ∙ length-map (set_numbers c.args.schema.now) (wrong_owner_in c.args.held.now (guessed_sets c.args.schema.now c.args.unit.now c.args.statement.now) c.in-Some.key)
     ∙ length-range_with_len 0 (length c.args.schema.now.sets)
     )
 
 pub returns-in-Some : goal.returns-in-Some
 returns-in-Some c capacity db agrees stale =
-    let owners = c.wrong_owners-owners.ensures ∙ sym (owners_of_stale c.args.schema.now capacity db c.args.held.now c.args.unit.now c.args.statement.now c.requires.fits agrees stale c.in-Some.key c.in-Some.is) in
-    c.with_true_owners.ensures ∙ (λ i. with_owners (c.guesses.ensures i) (owners i))
+    let owners = c.wrong_owners_in-owners.ensures ∙ sym (owners_of_stale c.args.schema.now capacity db c.args.held.now c.args.unit.now c.args.statement.now c.requires.fits agrees stale c.in-Some.key c.in-Some.is) in
+    c.with_owners.ensures ∙ (λ i. with_owners (c.guesses.ensures i) (owners i))
 
 pub returns-in-None : goal.returns-in-None
 returns-in-None c capacity db agrees stale =

@@ -1,4 +1,4 @@
-use Rattle.dbtg_program.proofs.Kept.{fields_hold}
+use Rattle.dbtg_program.proofs.FieldsFit.{fields_hold}
 use Rattle.dbtg_program.proofs.laws.fields_hold_their_values.Goals as goal
 
 pub returns : goal.returns

@@ -3,7 +3,7 @@ use Rattle.dbtg_schema.specs.Lookups.{first}
 use Rattle.dbtg_script.specs.declared.fault.Fault.{Fault}
 use Rattle.dbtg_script.specs.Lines.{lines}
 use Rattle.dbtg_script.specs.Reading.{lines_faults_at_once, script_faults_at_once}
-use Rattle.dbtg_script.specs.Known.{IsKnown}
+use Rattle.dbtg_script.specs.LineCache.{IsKnown}
 use Rattle.dbtg_script.specs.Inside.Reading.{lines_verdict}
 use Rattle.dbtg_script.specs.Statements.{script, statements_of}
 use Rattle.dbtg_script.proofs.reader.read_script.Given as goal

@@ -1,6 +1,6 @@
 use Rattle.std.proofs.Common.{◌≡◌, ◌∷◌, ◌++◌, ◌∙◌, [], length, sym, subst, arith, ℕ}
-use Rattle.dbtg_script.specs.Inside.Known.{Says}
-use Rattle.dbtg_script.specs.Known.{IsRead}
+use Rattle.dbtg_script.specs.Inside.LineCache.{Says}
+use Rattle.dbtg_script.specs.LineCache.{IsRead}
 use Rattle.dbtg_script.proofs.Reading.AtOnce.{not_a_note}
 use Rattle.dbtg_script.proofs.Reading.KnownLines.{new_read, still_known}
 use Rattle.dbtg_script.proofs.reader.take_new_line.Goals as goal

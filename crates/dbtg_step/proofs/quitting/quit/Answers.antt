@@ -1,7 +1,7 @@
 use Rattle.std.proofs.Common.{◌≡◌, Some, slice_get, length, refl, sym, subst, inl, inr, ◌∙◌, ◌-◌, arith}
 use Rattle.std.proofs.lemmas.Option.{same_Some, slice_get_read}
 use Rattle.dbtg_schema.proofs.Public.{none_is, some_is}
-use Rattle.dbtg_step.specs.declared.parts.Runner.{Runner}
+use Rattle.dbtg_step.specs.declared.parts.UnitState.{UnitState}
 use Rattle.dbtg_step.specs.Inside.Stands.{StandsUnticketed}
 use Rattle.dbtg_step.proofs.TheCore.QuitShown.{between_quits, no_unit_quits, ticketed_quits}
 use Rattle.dbtg_step.proofs.quitting.quit.Goals as goal
@@ -17,7 +17,7 @@ quit_event-requires-clause-stands c r is =
     let items = c.args.parts.now.runners.items in
     let at : slice_get items (c.args.unit - 1) ≡ Some c.index.result.now = slice_get_read items (length items) (c.args.unit - 1) c.index.result.now refl (omega arith) c.index.ensures in
     let same : c.index.result.now ≡ r = same_Some _ r (sym at ∙ is) in
-    subst (λ (x : Runner). StandsUnticketed x) same (record { w = c.in-Some.progress; progress = c.in-Some.is; ticket = none_is c.in-Some.progress.ticket (sym c.is_some.ensures ∙ c.if-is_some.false) })
+    subst (λ (x : UnitState). StandsUnticketed x) same (record { w = c.in-Some.progress; progress = c.in-Some.is; ticket = none_is c.in-Some.progress.ticket (sym c.is_some.ensures ∙ c.if-is_some.false) })
 
 pub returns-in-None : goal.returns-in-None
 returns-in-None c =

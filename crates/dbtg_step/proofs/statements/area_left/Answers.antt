@@ -1,5 +1,5 @@
 use Rattle.std.proofs.Common.{sym, ◌∙◌}
-use Rattle.dbtg_step.proofs.TheCore.CoursesKept.{area_needed, no_cells}
+use Rattle.dbtg_step.proofs.TheCore.CoursesMatch.{area_needed, no_cells}
 use Rattle.dbtg_step.proofs.statements.area_left.Goals as goal
 
 pub returns-in-Some-clause-kept : goal.returns-in-Some-clause-kept

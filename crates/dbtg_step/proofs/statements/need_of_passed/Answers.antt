@@ -1,5 +1,5 @@
 use Rattle.std.proofs.Common.{sym, ◌∙◌}
-use Rattle.dbtg_step.proofs.TheCore.CoursesKept.{area_needed}
+use Rattle.dbtg_step.proofs.TheCore.CoursesMatch.{area_needed}
 use Rattle.dbtg_step.proofs.statements.need_of_passed.Goals as goal
 
 pub returns-in-Some : goal.returns-in-Some

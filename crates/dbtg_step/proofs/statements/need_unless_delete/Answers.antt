@@ -1,6 +1,6 @@
 use Rattle.std.proofs.Common.{sym, ap, ◌∙◌}
 use Rattle.std.specs.Prelude.{is_some}
-use Rattle.dbtg_step.proofs.TheCore.CoursesKept.{refused_needs}
+use Rattle.dbtg_step.proofs.TheCore.CoursesMatch.{refused_needs}
 use Rattle.dbtg_step.proofs.statements.need_unless_delete.Goals as goal
 
 pub returns-in-Some : goal.returns-in-Some

@@ -1,7 +1,7 @@
 use Rattle.std.proofs.Common.{Some, subst, ap, ◌∙◌}
 use Rattle.dbtg_unit.specs.declared.held.Need.TheVariants.{Area}
-use Rattle.dbtg_step.specs.Core.Courses.{IsCourseKept}
-use Rattle.dbtg_step.proofs.TheCore.CoursesKept.{refused_needs}
+use Rattle.dbtg_step.specs.Core.Courses.{CourseMatches}
+use Rattle.dbtg_step.proofs.TheCore.CoursesMatch.{refused_needs}
 use Rattle.dbtg_step.proofs.TheCore.NeedsOrdered.{above_hands, above_of, in_held_area}
 use Rattle.dbtg_step.proofs.statements.next_need.Goals as goal
 
@@ -20,4 +20,4 @@ returns-in-Some-HasAreas-clause-in_area c =
 pub returns-in-Some-Refused-clause-need : goal.returns-in-Some-Refused-clause-need
 returns-in-Some-Refused-clause-need c = λ db agrees.
     refused_needs c.args.schema.now c.args.capacity db c.args.held.now c.args.unit.now c.args.statement.now
-    (subst (IsCourseKept c.args.schema.now c.args.capacity c.args.held.now c.args.unit.now c.args.statement.now) (c.in-Some-Refused.is ∙ ap Some c.in-Some-Refused.field-0-is) c.area_next.ensures.kept)
+    (subst (CourseMatches c.args.schema.now c.args.capacity c.args.held.now c.args.unit.now c.args.statement.now) (c.in-Some-Refused.is ∙ ap Some c.in-Some-Refused.field-0-is) c.area_next.ensures.kept)

@@ -1,6 +1,6 @@
 use Rattle.std.proofs.Common.{◌≡◌, Some, slice_get, length, refl, sym, subst, inl, inr, ◌∙◌, ◌-◌, arith}
 use Rattle.std.proofs.lemmas.Option.{same_Some, slice_get_read}
-use Rattle.dbtg_step.specs.declared.parts.Runner.{Runner}
+use Rattle.dbtg_step.specs.declared.parts.UnitState.{UnitState}
 use Rattle.dbtg_step.specs.Inside.Stands.{StandsBetween, StandsNeeding, StandsTicketed, StandsTurning}
 use Rattle.dbtg_step.proofs.TheCore.EventsShown.{has_statement, no_unit_idle, over_idle, stands_so}
 use Rattle.dbtg_step.proofs.stepping.step.Goals as goal
@@ -28,7 +28,7 @@ begin_event-requires-clause-stands c r is =
     let items = c.args.parts.now.runners.items in
     let at : slice_get items (c.args.unit - 1) ≡ Some c.index-runner.result.now = slice_get_read items (length items) (c.args.unit - 1) c.index-runner.result.now refl (omega arith) c.index-runner.ensures in
     let same : c.index-runner.result.now ≡ r = same_Some _ r (sym at ∙ is) in
-    subst (λ (x : Runner). StandsBetween x) same (rw c.in-Between.is at c.phase_of.ensures)
+    subst (λ (x : UnitState). StandsBetween x) same (rw c.in-Between.is at c.phase_of.ensures)
 
 pub turn_back_event-requires-clause-stands : goal.turn_back_event-requires-clause-stands
 turn_back_event-requires-clause-stands c r is =

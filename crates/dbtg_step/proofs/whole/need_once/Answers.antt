@@ -1,4 +1,4 @@
-use Rattle.dbtg_step.proofs.TheCore.CoursesKept.{no_course}
+use Rattle.dbtg_step.proofs.TheCore.CoursesMatch.{no_course}
 use Rattle.dbtg_step.proofs.whole.need_once.Goals as goal
 
 pub next_need-requires-clause-kept : goal.next_need-requires-clause-kept

@@ -2,7 +2,7 @@ use Rattle.std.proofs.Common.{◌≡◌, ◌∙◌, List, Some, ap, slice_get, s
 use Rattle.dbtg_script.proofs.Public.{at_index}
 use Rattle.dbtg_trace.specs.declared.traced.Said.{Said}
 use Rattle.dbtg_trace.specs.declared.traced.Traced.{Traced}
-use Rattle.dbtg_trace.proofs.AnswersKept.{said_there}
+use Rattle.dbtg_trace.proofs.CachedAnswers.{said_there}
 use Rattle.dbtg_trace.proofs.reader.answered_again.Goals as goal
 
 pub returns-in_ok-copy-in-Some-get : goal.returns-in_ok-copy-in-Some-get

@@ -2,10 +2,10 @@ use Rattle.std.proofs.Common.{rules, ◌≡◌, ◌∷◌, ◌++◌, [], List, N
 use Rattle.std.proofs.lemmas.Result.{err_from_is_err_and}
 use Rattle.dbtg_trace.specs.Answers.{answer_in}
 use Rattle.dbtg_trace.specs.Parts.{halves, unit_named}
-use Rattle.dbtg_script.specs.declared.known.Seen.{Seen}
+use Rattle.dbtg_script.specs.declared.line_cache.Seen.{Seen}
 use Rattle.dbtg_trace.specs.declared.traced.Traced.{Traced}
-use Rattle.dbtg_trace.specs.Inside.Known.{AreSaid, IsSaid}
-use Rattle.dbtg_trace.proofs.AnswersKept.{said_next, still_said}
+use Rattle.dbtg_trace.specs.Inside.AnswerCache.{AreSaid, IsSaid}
+use Rattle.dbtg_trace.proofs.CachedAnswers.{said_next, still_said}
 use Rattle.dbtg_trace.proofs.EntrySteps.{all_said, entry_refused, no_answer}
 use Rattle.dbtg_trace.proofs.reader.read_entry.Goals as goal
 

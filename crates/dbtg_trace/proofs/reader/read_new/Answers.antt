@@ -1,6 +1,6 @@
 use Rattle.std.proofs.Common.{rules, ◌≡◌, ◌∷◌, ◌++◌, [], List, Some, arith, length, subst, sym, true, ℕ}
 use Rattle.dbtg_script.specs.Lines.{is_statement, trimmed}
-use Rattle.dbtg_script.specs.Known.{IsRead}
+use Rattle.dbtg_script.specs.LineCache.{IsRead}
 use Rattle.dbtg_script.specs.Statements.{line_statement}
 use Rattle.dbtg_script.proofs.Public.{still_known}
 use Rattle.dbtg_trace.specs.Inside.Reading.{statements_in}

@@ -1,5 +1,5 @@
 use Rattle.std.proofs.Common.{◌∷◌, [], sym}
-use Rattle.dbtg_script.specs.Known.{IsRead}
+use Rattle.dbtg_script.specs.LineCache.{IsRead}
 use Rattle.dbtg_script.specs.Lines.{trimmed}
 use Rattle.dbtg_script.proofs.Public.{still_known}
 use Rattle.dbtg_trace.specs.Inside.Reading.{statements_in}

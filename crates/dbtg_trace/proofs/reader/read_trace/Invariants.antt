@@ -5,7 +5,7 @@ use Rattle.dbtg_schema.specs.Sound.{IsSound}
 use Rattle.dbtg_unit.specs.Database.Statements.Fits.{fits}
 use Rattle.dbtg_script.specs.Lines.{lines}
 use Rattle.dbtg_trace.specs.declared.fault.Fault.{Fault}
-use Rattle.dbtg_trace.specs.Inside.Known.{IsKept}
+use Rattle.dbtg_trace.specs.Inside.AnswerCache.{AreCached}
 use Rattle.dbtg_trace.specs.Inside.Reading.{lines_verdict}
 use Rattle.dbtg_trace.specs.Parts.{is_unit}
 use Rattle.dbtg_trace.specs.Reading.{faults_at_once, lines_faults_at_once}
@@ -19,7 +19,7 @@ invariant-loop-line l = record {
   fitting : IsSound l.schema → list_all (λ t. fits l.schema t.statement) l.so_far.entries.items ≡ true;
   named : list_all (λ t. is_unit l.fn.units t.unit) l.so_far.entries.items ≡ true;
   at_once : (f : Fault) → first (faults_at_once l.schema l.fn.units l.fn.text) ≡ Some f → (l.so_far.entries.items ≡ []) × (first (lines_faults_at_once l.schema l.fn.units l.number (lines l.left.rest.now)) ≡ Some f);
-  kept : IsKept l.schema l.so_far.entries.items l.so_far.known.places l.so_far.answers.places;
+  kept : AreCached l.schema l.so_far.entries.items l.so_far.known.places l.so_far.answers.places;
   in_range : l.number + length l.left.rest.now ≤ length l.fn.text + 1;
 }
 

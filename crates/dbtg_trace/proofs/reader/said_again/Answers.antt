@@ -1,6 +1,6 @@
 use Rattle.std.proofs.Common.{◌≡◌, ◌∷◌, ◌∙◌, [], List, Some, ap, slice_get, subst, sym}
 use Rattle.dbtg_unit.specs.declared.statement.Statement.{Statement}
-use Rattle.dbtg_script.specs.Known.{IsRead}
+use Rattle.dbtg_script.specs.LineCache.{IsRead}
 use Rattle.dbtg_script.proofs.Public.{at_index}
 use Rattle.dbtg_trace.specs.declared.traced.Traced.{Traced}
 use Rattle.dbtg_trace.specs.Inside.Reading.{statements_in}

@@ -11,9 +11,9 @@ use Rattle.dbtg_unit.specs.declared.unit.Unit.{Unit}
 use Rattle.dbtg_unit.specs.declared.unit.Cause.{Cause}
 use Rattle.dbtg_unit.specs.declared.unit.Status.TheVariants.{Done, Refused}
 use Rattle.dbtg_unit.specs.Database.State.Base.{Database}
-use Rattle.dbtg_unit.specs.Database.Statements.Effect.{Outcome, effect, effect_on_cells, done, refused, store_checks, stored, new_key, free_number}
+use Rattle.dbtg_unit.specs.Database.Statements.Effect.{StatementEffect, effect, effect_on_cells, done, refused, store_checks, stored, new_key, free_number}
 use Rattle.dbtg_unit.specs.Database.Statements.Checks.{open_checks}
-use Rattle.dbtg_unit.specs.Database.Statements.View.{whole}
+use Rattle.dbtg_unit.specs.Database.Statements.StoredFacts.{whole}
 use Rattle.dbtg_unit.proofs.Database.Legal.Outcomes.{of_current, of_done as of_done_current, of_effect, of_finding, of_unless, on_current}
 use Rattle.dbtg_unit.specs.Database.Statements.Found.{found}
 use Rattle.dbtg_unit.specs.Database.Laws.Answering.{gives_key, gives_items, IsAnswered}
@@ -29,10 +29,10 @@ module _ (db : Database) (unit : Unit) (statement : Statement) where
       → IsAnswered db unit statement (done new after key items)
   of_done new after key items h g = record { refusal = λ c e. not_refused e; key = h; items = g }
 
-  abbrev Answers : Outcome → Type 0
+  abbrev Answers : StatementEffect → Type 0
   Answers = IsAnswered db unit statement
 
-  of_statement_about : (current : Option DbKey) (checks : DbKey → List (Bool × Cause)) (outcome : DbKey → Outcome) → ((k : DbKey) → Answers (outcome k)) → Answers (on_current db unit current checks outcome)
+  of_statement_about : (current : Option DbKey) (checks : DbKey → List (Bool × Cause)) (outcome : DbKey → StatementEffect) → ((k : DbKey) → Answers (outcome k)) → Answers (on_current db unit current checks outcome)
   of_statement_about current checks outcome h = of_current db unit Answers of_refused current checks outcome (λ k e free. h k)
 
 module _ (schema : Lists) (capacity : ℕ) (db : Database) (unit : Unit) where

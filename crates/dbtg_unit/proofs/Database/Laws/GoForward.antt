@@ -1,5 +1,5 @@
 -- Versions, generations and deleted keys only go forward.
-use Rattle.dbtg_unit.specs.Database.Statements.View.{whole}
+use Rattle.dbtg_unit.specs.Database.Statements.StoredFacts.{whole}
 use Rattle.dbtg_unit.specs.Database.Statements.Checks.{open_checks}
 use Rattle.std.proofs.Common.{◌≡◌, refl, ◌∙◌, ap, ℕ, ◌+◌, ◌≤◌, Bool, true, false, cond, not, ◌&&◌, List, [], ◌∷◌, ◌++◌, Option, Some, None, arith, eqb}
 use Rattle.std.specs.Prelude.{◌==◌, is_some, option_map, unwrap_or, slice_set, if◌then◌else◌}
@@ -16,7 +16,7 @@ use Rattle.dbtg_unit.specs.declared.unit.Unit.{Unit}
 use Rattle.dbtg_unit.specs.Database.State.Base.{Database, Record, is_live, items_of, is_member}
 use Rattle.dbtg_unit.specs.Database.Statements.Doomed.{doomed}
 use Rattle.dbtg_unit.specs.Database.Statements.Found.{found}
-use Rattle.dbtg_unit.specs.Database.Statements.Effect.{Outcome, effect, effect_on_cells, done, raised, next_version, version_of, with_new, with_items, with_its_items, connected_in, stored, store_checks, new_key, free_number, changed_items}
+use Rattle.dbtg_unit.specs.Database.Statements.Effect.{StatementEffect, effect, effect_on_cells, done, raised, next_version, version_of, with_new, with_items, with_its_items, connected_in, stored, store_checks, new_key, free_number, changed_items}
 use Rattle.dbtg_unit.specs.Database.Laws.Forward.{is_deleted, GoesForward}
 use Rattle.dbtg_unit.proofs.Database.Legal.Outcomes.{of_unless, of_current, of_done, of_finding, of_effect}
 
@@ -92,7 +92,7 @@ stored_forward schema db t n items =
           absurd (omega arith)
 
 module _ (schema : Lists) (capacity : ℕ) (db : Database) (unit : Unit) where
-  abbrev Forward : Outcome → Type 0
+  abbrev Forward : StatementEffect → Type 0
   Forward o = GoesForward db o.database
 
   on_cells : (statement : Statement) → Forward (effect_on_cells schema capacity db unit statement)

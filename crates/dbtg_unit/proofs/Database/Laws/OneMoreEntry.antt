@@ -8,8 +8,8 @@ use Rattle.std.proofs.lemmas.List.FromFn.{length-range_with_len}
 use Rattle.dbtg_schema.specs.Lists.{Lists}
 use Rattle.dbtg_unit.specs.declared.unit.Unit.{Unit}
 use Rattle.dbtg_unit.specs.declared.unit.Entry.{Entry}
-use Rattle.dbtg_unit.specs.Database.Statements.Effect.{Outcome, effect}
-use Rattle.dbtg_unit.specs.Database.Laws.Replay.{State, AnswersHold, TicketsInOrder, after, after_entry, after_outcome, opening_state, outcome_of, replay, unit_of, entries_of}
+use Rattle.dbtg_unit.specs.Database.Statements.Effect.{StatementEffect, effect}
+use Rattle.dbtg_unit.specs.Database.Laws.Replay.{State, AnswersHold, TicketsInOrder, after, after_entry, after_effect, opening_state, effect_of_unit, replay, unit_of, entries_of}
 use Rattle.dbtg_unit.specs.Database.Laws.Replaying.{ReplaysOneMore, IsDetermined}
 use Rattle.dbtg_unit.specs.Database.Laws.Forward.{GoesForward, ReplayGoesForward}
 use Rattle.dbtg_unit.specs.Database.State.Versions.{VersionsUpTo}
@@ -98,17 +98,17 @@ slice_get_set_other (y ∷ xs) (suc i) (suc j) x h = slice_get_set_other xs i j 
 -- an entry leaves each other unit as it was
 pub other_unit : (schema : Lists) (capacity : ℕ) (state : State) (entry : Entry) (number : ℕ) → (entry.unit ≡ number → ⊥) → unit_of (after_entry schema capacity state entry) number ≡ unit_of state number
 other_unit schema capacity state entry number h = by_unit entry.unit number h where
-  by_number : (m number : ℕ) (outcome : Outcome) → (suc m ≡ number → ⊥) → unit_of (after state (suc m) outcome) number ≡ unit_of state number
+  by_number : (m number : ℕ) (outcome : StatementEffect) → (suc m ≡ number → ⊥) → unit_of (after state (suc m) outcome) number ≡ unit_of state number
   by_number m zero outcome h = refl
   by_number m (suc n) outcome h = ap (λ i. slice_get (slice_set state.units i outcome.unit) n) (omega arith) ∙ slice_get_set_other state.units m n outcome.unit (λ e. h (ap suc e))
 
-  by_outcome : (m number : ℕ) → (suc m ≡ number → ⊥) → (outcome : Option Outcome) → unit_of (after_outcome state (suc m) outcome) number ≡ unit_of state number
+  by_outcome : (m number : ℕ) → (suc m ≡ number → ⊥) → (outcome : Option StatementEffect) → unit_of (after_effect state (suc m) outcome) number ≡ unit_of state number
   by_outcome m number h None = refl
   by_outcome m number h (Some outcome) = by_number m number outcome h
 
-  by_unit : (m number : ℕ) → (m ≡ number → ⊥) → unit_of (after_outcome state m (outcome_of schema capacity state m entry.statement)) number ≡ unit_of state number
+  by_unit : (m number : ℕ) → (m ≡ number → ⊥) → unit_of (after_effect state m (effect_of_unit schema capacity state m entry.statement)) number ≡ unit_of state number
   by_unit zero number h = refl
-  by_unit (suc m) number h = by_outcome m number h (outcome_of schema capacity state (suc m) entry.statement)
+  by_unit (suc m) number h = by_outcome m number h (effect_of_unit schema capacity state (suc m) entry.statement)
 
 pub replays_one_more : (schema : Lists) (capacity : ℕ) (state : State) (history : List Entry) (entry : Entry) → ReplaysOneMore schema capacity state history entry
 unfolding replay AnswersHold
@@ -140,7 +140,7 @@ statements_determine schema capacity state (e ∷ es) =
 -- the database after an entry is as it was, or what a statement made of it
 pub entry_forward : (schema : Lists) (capacity : ℕ) (state : State) (entry : Entry) → GoesForward state.database (after_entry schema capacity state entry).database
 entry_forward schema capacity state entry = by_unit (unit_of state entry.unit) where
-  by_unit : (unit : Option Unit) → GoesForward state.database (after_outcome state entry.unit (option_map (λ unit. effect schema capacity state.database unit entry.statement) unit)).database
+  by_unit : (unit : Option Unit) → GoesForward state.database (after_effect state entry.unit (option_map (λ unit. effect schema capacity state.database unit entry.statement) unit)).database
   by_unit None = same_forward state.database
   by_unit (Some unit) = each_goes_forward schema capacity state.database unit entry.statement
 

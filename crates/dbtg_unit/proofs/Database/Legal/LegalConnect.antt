@@ -20,7 +20,7 @@ use Rattle.dbtg_unit.specs.declared.unit.Unit.{Unit}
 use Rattle.dbtg_unit.specs.Database.State.Base.{Database, is_member, members_of, sort_key}
 use Rattle.dbtg_unit.specs.Database.State.Units.{place_in}
 use Rattle.dbtg_unit.specs.Database.Statements.Fits.{values_fit}
-use Rattle.dbtg_unit.specs.Database.Statements.View.{whole}
+use Rattle.dbtg_unit.specs.Database.Statements.StoredFacts.{whole}
 use Rattle.dbtg_unit.specs.Database.Statements.Effect.{place_checks, is_current_owner, refuses_equal, option_value_eq, uses_position}
 use Rattle.dbtg_unit.specs.Database.Statements.Found.{is_lost}
 use Rattle.dbtg_unit.specs.declared.unit.Cause.{Cause}

@@ -1,5 +1,5 @@
 -- Each statement keeps a database legal, and its unit a unit of it.
-use Rattle.dbtg_unit.specs.Database.Statements.Effect.{Outcome}
+use Rattle.dbtg_unit.specs.Database.Statements.Effect.{StatementEffect}
 use Rattle.dbtg_unit.specs.Database.Statements.Conditions.{refuses_equal, sort_key_taken}
 use Rattle.dbtg_unit.specs.Database.Statements.Checks.{live_checks, open_checks}
 use Rattle.std.proofs.Common.{◌≡◌, refl, sym, ◌∙◌, ap, subst, ℕ, ◌<◌, Bool, true, false, cond, not, ◌&&◌, List, [], ◌∷◌, ◌++◌, length, Option, Some, None, eqb, ltb, arith, map, length-set}
@@ -34,7 +34,7 @@ use Rattle.dbtg_unit.specs.Database.Statements.Found.{found}
 use Rattle.dbtg_unit.specs.Database.Statements.Doomed.{doomed}
 use Rattle.dbtg_unit.specs.Database.Statements.Fits.{fits, is_type, values_fit, value_fits, suppress_fits, distinct_items}
 use Rattle.dbtg_unit.specs.Database.Statements.Checks.{accepts_type, current_type, is_inserting_mandatory_automatic, is_opening_again, is_removing_mandatory, lacks_current, needs_current, refused_at_once}
-use Rattle.dbtg_unit.specs.Database.Statements.View.{whole}
+use Rattle.dbtg_unit.specs.Database.Statements.StoredFacts.{whole}
 use Rattle.dbtg_unit.specs.Database.Statements.Effect.{calc_taken, changed_items, conflict, connected_in, delete_checks, deleted, done, effect, effect_on_cells, free_number, insert_checks, inserted, modified, modify_checks, moved, new_key, own_checks, place_checks, remove_checks, removed, renoted, store_checks, stored, version_of, with_new, has_members, is_plain, names_calc}
 use Rattle.dbtg_unit.specs.Database.State.Legal.{Legal, mode_in}
 use Rattle.dbtg_unit.specs.Database.State.LegalWith.{IsUnitIn}
@@ -102,7 +102,7 @@ module _ (schema : Lists) (capacity : ℕ) (db : Database) (unit : Unit) (number
   abbrev Step : Database → Unit → Type 0
   Step new after = IsStep schema capacity db number new after
 
-  abbrev Left : Outcome → Type 0
+  abbrev Left : StatementEffect → Type 0
   Left outcome = Step outcome.database outcome.unit
 
   -- a step that leaves usage lists and modes

@@ -19,7 +19,7 @@ use Rattle.dbtg_unit.specs.Database.Statements.Fits.{fits}
 use Rattle.dbtg_unit.specs.Database.Statements.Effect.{effect}
 use Rattle.dbtg_unit.specs.Database.State.Legal.{Legal, has_occurrence, pairwise, differ, in_order}
 use Rattle.dbtg_unit.specs.Database.State.LegalWith.{IsUnitIn, LegalWith}
-use Rattle.dbtg_unit.specs.Database.Laws.Replay.{State, after_entry, after_outcome, outcome_of, replay}
+use Rattle.dbtg_unit.specs.Database.Laws.Replay.{State, after_entry, after_effect, effect_of_unit, replay}
 use Rattle.dbtg_unit.specs.Database.Laws.StaysLegal.{IsLegalState, OpeningIsLegal, ReplayKeepsLegal}
 use Rattle.dbtg_unit.proofs.Database.Legal.LegalUnits.{effect_keeps_legal}
 use Rattle.dbtg_unit.proofs.Database.Records.Openings.{nothing_at, opening_unit_of_schema, opening_unit_within}
@@ -82,10 +82,10 @@ opening_is_legal schema capacity units =
 -- A HISTORY
 
 module _ (schema : Lists) (capacity : ℕ) (schema_is : IsSound schema) where
-  after_statement : (state : State) (number : ℕ) (statement : Statement) → IsLegalState schema capacity state → fits schema statement ≡ true → IsLegalState schema capacity (after_outcome state number (outcome_of schema capacity state number statement))
+  after_statement : (state : State) (number : ℕ) (statement : Statement) → IsLegalState schema capacity state → fits schema statement ≡ true → IsLegalState schema capacity (after_effect state number (effect_of_unit schema capacity state number statement))
   after_statement state zero statement legal fit = legal
   after_statement state (suc i) statement legal fit = at (slice_get state.units i) refl where
-    at : (found : Option Unit) → slice_get state.units i ≡ found → IsLegalState schema capacity (after_outcome state (suc i) (option_map (λ unit. effect schema capacity state.database unit statement) found))
+    at : (found : Option Unit) → slice_get state.units i ≡ found → IsLegalState schema capacity (after_effect state (suc i) (option_map (λ unit. effect schema capacity state.database unit statement) found))
     at None is = legal
     at (Some unit) is =
         let e : i ≡ suc i - 1 = omega arith in

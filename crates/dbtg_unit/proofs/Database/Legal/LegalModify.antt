@@ -21,7 +21,7 @@ use Rattle.dbtg_unit.specs.Database.State.Units.{place_in}
 use Rattle.dbtg_unit.specs.Database.Statements.Fits.{value_fits, values_fit}
 use Rattle.dbtg_unit.specs.Database.Statements.Conditions.{calc_taken, changed_items, names_calc, refuses_equal, sort_key_taken}
 use Rattle.dbtg_unit.specs.Database.Statements.Effect.{modified, option_value_eq, with_items, with_its_items, without, joined}
-use Rattle.dbtg_unit.specs.Database.Statements.View.{whole}
+use Rattle.dbtg_unit.specs.Database.Statements.StoredFacts.{whole}
 use Rattle.dbtg_unit.specs.Database.State.Legal.{Legal}
 use Rattle.dbtg_unit.proofs.Database.Records.ValuesOfPictures.{values_swap}
 use Rattle.dbtg_unit.proofs.Database.Legal.LegalParts.{Rows, Rings, Sound, Stock, has_list, unique_calc, members_in, key_in, sound_of, uses_of, legal_raised}

@@ -1,5 +1,5 @@
 -- STORE keeps a database legal.
-use Rattle.dbtg_unit.specs.Database.Statements.View.{whole}
+use Rattle.dbtg_unit.specs.Database.Statements.StoredFacts.{whole}
 use Rattle.std.proofs.Common.{Bool, ◌≡◌, refl, sym, ◌∙◌, ap, subst, ℕ, ◌+◌, ◌<◌, ◌≤◌, true, false, cond, ◌&&◌, ◌||◌, List, [], length, Option, Some, None, inl, inr, ⊎_elim, ◌⊎◌, eqb, arith}
 use Rattle.std.specs.Prelude.{is_some, is_none, option_map, option_and_then, unwrap_or, slice_get}
 use Rattle.std.specs.List.{find, list_any}

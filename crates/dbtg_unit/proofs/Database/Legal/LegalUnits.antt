@@ -10,7 +10,7 @@ use Rattle.dbtg_cells.proofs.Public.{get_set_same}
 use Rattle.dbtg_unit.specs.declared.unit.Unit.{Unit}
 use Rattle.dbtg_unit.specs.Database.State.Base.{Database}
 use Rattle.dbtg_unit.specs.Database.Statements.Checks.{is_update}
-use Rattle.dbtg_unit.specs.Database.Statements.Effect.{Outcome, conflict, effect, is_exclusive, is_protected}
+use Rattle.dbtg_unit.specs.Database.Statements.Effect.{StatementEffect, conflict, effect, is_exclusive, is_protected}
 use Rattle.dbtg_unit.specs.Database.State.Legal.{agree, mode_in, pairwise}
 use Rattle.dbtg_unit.specs.Database.State.LegalWith.{IsUnitIn, LegalWith}
 use Rattle.dbtg_unit.specs.Database.Laws.StaysLegal.{EffectKeepsLegal, LegalAfter, UnitsNeverConflict}
@@ -25,7 +25,7 @@ get_set_other (y ∷ ys) (suc i) zero x other = refl
 get_set_other (y ∷ ys) (suc i) (suc j) x other = get_set_other ys i j x (λ e. other (ap suc e))
 
 -- a step of one unit, in the list of all
-legal_after : (schema : Lists) (capacity : ℕ) (db : Database) (units : List Unit) (i : ℕ) (unit : Unit) (outcome : Outcome) → LegalWith schema capacity db units → slice_get units i ≡ Some unit
+legal_after : (schema : Lists) (capacity : ℕ) (db : Database) (units : List Unit) (i : ℕ) (unit : Unit) (outcome : StatementEffect) → LegalWith schema capacity db units → slice_get units i ≡ Some unit
     → IsStep schema capacity db (suc i) outcome.database outcome.unit → LegalAfter schema capacity units i outcome
 legal_after schema capacity db units i unit outcome with_units is step =
     record {

@@ -9,22 +9,22 @@ use Rattle.dbtg_unit.specs.declared.unit.Unit.{Unit}
 use Rattle.dbtg_unit.specs.declared.unit.Cause.{Cause}
 use Rattle.dbtg_unit.specs.Database.State.Base.{Database}
 use Rattle.dbtg_unit.specs.Database.Statements.Checks.{about, refused_at_once}
-use Rattle.dbtg_unit.specs.Database.Statements.Effect.{Outcome, effect, effect_on_cells, done, done_on_current, refused, unless_refused, finding}
+use Rattle.dbtg_unit.specs.Database.Statements.Effect.{StatementEffect, effect, effect_on_cells, done, done_on_current, refused, unless_refused, finding}
 
 -- the outcome of a statement about a current, which passes these checks
-abbrev pub on_current : Database → Unit → Option DbKey → (DbKey → List (Bool × Cause)) → (DbKey → Outcome) → Outcome
+abbrev pub on_current : Database → Unit → Option DbKey → (DbKey → List (Bool × Cause)) → (DbKey → StatementEffect) → StatementEffect
 on_current db unit current checks outcome = unless_refused db unit (first_cause (about current checks)) (done_on_current db unit current outcome)
 
-module _ (db : Database) (unit : Unit) (P : Outcome → Type 0) (refusal : (cause : Cause) → P (refused db unit cause)) where
-  pub of_unless : (check : Option Cause) (outcome : Outcome) → (check ≡ None → P outcome) → P (unless_refused db unit check outcome)
+module _ (db : Database) (unit : Unit) (P : StatementEffect → Type 0) (refusal : (cause : Cause) → P (refused db unit cause)) where
+  pub of_unless : (check : Option Cause) (outcome : StatementEffect) → (check ≡ None → P outcome) → P (unless_refused db unit check outcome)
   of_unless (Some cause) outcome h = refusal cause
   of_unless None outcome h = h refl
 
-  pub of_done : (current : Option DbKey) (outcome : DbKey → Outcome) → ((k : DbKey) → current ≡ Some k → P (outcome k)) → P (done_on_current db unit current outcome)
+  pub of_done : (current : Option DbKey) (outcome : DbKey → StatementEffect) → ((k : DbKey) → current ≡ Some k → P (outcome k)) → P (done_on_current db unit current outcome)
   of_done None outcome h = refusal _
   of_done (Some k) outcome h = h k refl
 
-  pub of_current : (current : Option DbKey) (checks : DbKey → List (Bool × Cause)) (outcome : DbKey → Outcome)
+  pub of_current : (current : Option DbKey) (checks : DbKey → List (Bool × Cause)) (outcome : DbKey → StatementEffect)
       → ((k : DbKey) → current ≡ Some k → first_cause (checks k) ≡ None → P (outcome k)) → P (on_current db unit current checks outcome)
   of_current None checks outcome h = refusal _
   of_current (Some k) checks outcome h = of_unless (first_cause (checks k)) (outcome k) (h k refl)

@@ -14,7 +14,7 @@ use Rattle.dbtg_cells.proofs.Public.{key_eq_refl, same_key}
 use Rattle.dbtg_unit.specs.Database.State.Base.{Database, is_live, items_of, is_member, calc_items, live_keys}
 use Rattle.dbtg_unit.specs.Database.Statements.Found.{with_calc}
 use Rattle.dbtg_unit.specs.Database.Statements.Conditions.{calc_taken}
-use Rattle.dbtg_unit.specs.Database.Statements.View.{whole}
+use Rattle.dbtg_unit.specs.Database.Statements.StoredFacts.{whole}
 use Rattle.dbtg_unit.specs.Database.State.Legal.{Legal}
 use Rattle.dbtg_unit.proofs.Database.Legal.LegalParts.{unique_calc}
 use Rattle.dbtg_unit.proofs.Database.Legal.ListsChanged.{keeps_member}

@@ -30,8 +30,8 @@ use Rattle.dbtg_unit.specs.Database.State.Cells.{cell}
 use Rattle.dbtg_unit.specs.Database.Statements.Checks.{lacks_current}
 use Rattle.dbtg_unit.specs.Hands.Edits.{edited_at}
 use Rattle.dbtg_unit.specs.Hands.EditsOf.{edits_of, is_delete}
-use Rattle.dbtg_unit.specs.Database.Statements.View.{whole}
-use Rattle.dbtg_unit.specs.Database.Statements.Effect.{Outcome, calc_taken, conflict, done, effect, effect_on_cells, free_number, inserted, insert_checks, modified, modify_checks, new_key, own_checks, place_checks, refused, removed, remove_checks, store_checks, stored, version_of}
+use Rattle.dbtg_unit.specs.Database.Statements.StoredFacts.{whole}
+use Rattle.dbtg_unit.specs.Database.Statements.Effect.{StatementEffect, calc_taken, conflict, done, effect, effect_on_cells, free_number, inserted, insert_checks, modified, modify_checks, new_key, own_checks, place_checks, refused, removed, remove_checks, store_checks, stored, version_of}
 use Rattle.dbtg_unit.specs.Database.Statements.Found.{found}
 use Rattle.dbtg_unit.specs.Database.State.Legal.{Legal}
 use Rattle.dbtg_unit.specs.Database.State.Units.{forgotten, noted, place_in, seen}
@@ -51,7 +51,7 @@ pub record StoreFound (schema : Lists) (capacity : ℕ) (db : Database) (unit : 
 
 module _ (schema : Lists) (capacity : ℕ) (db : Database) (unit : Unit) (legal : Legal schema capacity db) where
   -- where the outcome is done and legal, its cells are the edited ones
-  abbrev pub Edited : List CellEdit → Outcome → Type 0
+  abbrev pub Edited : List CellEdit → StatementEffect → Type 0
   Edited edits outcome = outcome.answer.status ≡ Done → Legal schema capacity outcome.database → (c : CellName) → cell schema capacity outcome.database c ≡ edited_at c edits (cell schema capacity db c)
 
   pub no_refusal : (edits : List CellEdit) (cause : Cause) → Edited edits (refused db unit cause)

@@ -1,5 +1,5 @@
 -- The effect of a statement on the cells is its edits.
-use Rattle.dbtg_unit.specs.Database.Statements.View.{whole}
+use Rattle.dbtg_unit.specs.Database.Statements.StoredFacts.{whole}
 use Rattle.std.proofs.Common.{refl, sym, ◌∙◌, ap, ℕ, ◌&&◌, [], ◌∷◌}
 use Rattle.dbtg_schema.specs.Lists.{Lists}
 use Rattle.dbtg_unit.specs.declared.statement.Erase.{Erase}

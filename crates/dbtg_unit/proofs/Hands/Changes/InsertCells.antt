@@ -22,7 +22,7 @@ use Rattle.dbtg_unit.specs.Database.Statements.Effect.{inserted, spot, is_curren
 use Rattle.dbtg_unit.specs.Database.State.Legal.{Legal}
 use Rattle.dbtg_unit.specs.Database.State.Cells.{cell, ring_of}
 use Rattle.dbtg_unit.specs.Hands.Edits.{edited_at, member_spot, with_members}
-use Rattle.dbtg_unit.specs.Database.Statements.View.{whole}
+use Rattle.dbtg_unit.specs.Database.Statements.StoredFacts.{whole}
 use Rattle.dbtg_unit.specs.Hands.PlanOf.{inserting}
 use Rattle.dbtg_unit.proofs.Hands.Changes.OneMembership.{ChangesMembership, changed_items_same, membership_edits, membership_cells}
 use Rattle.dbtg_unit.specs.declared.edit.Edit.{Edit}

@@ -27,7 +27,7 @@ use Rattle.dbtg_unit.specs.declared.unit.Unit.{Unit}
 use Rattle.dbtg_unit.specs.Database.State.Base.{Database, Record, is_live, items_of, members_of, is_member, owner_of, sort_key, key_item, key_at, calc_items}
 use Rattle.dbtg_unit.specs.Database.State.Units.{place_in, owners_of}
 use Rattle.dbtg_unit.specs.Database.Statements.Effect.{modified, with_items, with_its_items, changed_items, names_calc, next_version, joined, without}
-use Rattle.dbtg_unit.specs.Database.Statements.View.{whole}
+use Rattle.dbtg_unit.specs.Database.Statements.StoredFacts.{whole}
 use Rattle.dbtg_unit.specs.Database.State.Legal.{Legal}
 use Rattle.dbtg_unit.specs.Database.State.Cells.{cell, owner_at, slot_of, ring_of, number_of}
 use Rattle.dbtg_unit.specs.Database.State.CellNames.{place_of}

@@ -15,7 +15,7 @@ use Rattle.dbtg_unit.specs.Database.Statements.Effect.{removed, without}
 use Rattle.dbtg_unit.specs.Database.State.Legal.{Legal}
 use Rattle.dbtg_unit.specs.Database.State.Cells.{cell, ring_of}
 use Rattle.dbtg_unit.specs.Hands.Edits.{edited_at, members_without, with_members}
-use Rattle.dbtg_unit.specs.Database.Statements.View.{whole}
+use Rattle.dbtg_unit.specs.Database.Statements.StoredFacts.{whole}
 use Rattle.dbtg_unit.specs.Hands.PlanOf.{removing}
 use Rattle.dbtg_unit.proofs.Lists.PlacedMaps.{map_filter}
 use Rattle.dbtg_unit.proofs.Hands.Untouched.LocalRemove.{without_absent, member_without}

@@ -25,14 +25,14 @@ use Rattle.dbtg_unit.specs.declared.unit.Unit.{Unit}
 use Rattle.dbtg_unit.specs.Database.State.Base.{Database, Record, is_live, items_of, members_of, owner_of, sort_key}
 use Rattle.dbtg_unit.specs.Database.State.CellNames.{slot_name, place_of}
 use Rattle.dbtg_unit.specs.Database.State.Cells.{cell, number_of}
-use Rattle.dbtg_unit.specs.Database.Statements.View.{whole}
+use Rattle.dbtg_unit.specs.Database.Statements.StoredFacts.{whole}
 use Rattle.dbtg_unit.specs.Database.Statements.Effect.{version_of}
 use Rattle.dbtg_unit.specs.Hands.Hands.{Hands, cell_of}
 use Rattle.dbtg_unit.specs.Hands.InHand.{stored_of, stored_in, of_owner, occurrence_of, occurrence_in, numbers_of, numbers_in, users_of, users_in, items_in, version_in, owner_in, in_hand}
 use Rattle.dbtg_unit.specs.Hands.Local.{Agrees, holds}
 use Rattle.dbtg_unit.specs.Database.State.Units.{owners_of}
-use Rattle.dbtg_unit.specs.Database.Statements.View.{whole}
-use Rattle.dbtg_unit.proofs.Database.Legal.SameView.{SameOccurrence, SameRecord}
+use Rattle.dbtg_unit.specs.Database.Statements.StoredFacts.{whole}
+use Rattle.dbtg_unit.proofs.Database.Legal.SameFacts.{SameOccurrence, SameRecord}
 use Rattle.dbtg_unit.proofs.Database.Records.Determined.{usage_in, extent_in, ring_in, slot_in, record_in}
 use Rattle.dbtg_unit.proofs.Database.Records.LiveKeys.{unlisted_has_no_owner}
 use Rattle.dbtg_unit.proofs.Lists.Membership.{In, of_range}

@@ -25,10 +25,10 @@ use Rattle.dbtg_unit.specs.Hands.InHand.{in_hand, next_key_of, numbers_in}
 use Rattle.dbtg_unit.specs.Inside.InHand.{key_of, values_of_key}
 use Rattle.dbtg_unit.specs.Database.State.Legal.{Legal}
 use Rattle.dbtg_unit.specs.Hands.Local.{Agrees, holds}
-use Rattle.dbtg_unit.specs.Database.Statements.View.{whole}
+use Rattle.dbtg_unit.specs.Database.Statements.StoredFacts.{whole}
 use Rattle.dbtg_unit.specs.declared.unit.Unit.{Unit}
 use Rattle.dbtg_unit.proofs.Hands.Reading.AsTheDatabase.{numbers_in_hand}
-use Rattle.dbtg_unit.proofs.Database.Legal.SameView.{SameNumbers}
+use Rattle.dbtg_unit.proofs.Database.Legal.SameFacts.{SameNumbers}
 use Rattle.dbtg_unit.proofs.Hands.Reading.ReadingCells.{calc_at, calc_in, calc_reads, last_reads}
 
 -- LISTS

@@ -31,8 +31,8 @@ use Rattle.dbtg_unit.specs.declared.unit.Cause.{Cause}
 use Rattle.dbtg_unit.specs.declared.unit.Cause.TheVariants.{UsageConflict, Deleted, NotMember, NoRoom, DuplicatesNotAllowed, OwnerHasMembers}
 use Rattle.dbtg_unit.specs.Database.State.Base.{Database, is_live, owner_of, owners, members_of, is_member, key_item}
 use Rattle.dbtg_unit.specs.Database.Statements.Doomed.{all_keys, doomed}
-use Rattle.dbtg_unit.specs.Database.Statements.View.{whole}
-use Rattle.dbtg_unit.specs.Database.Statements.Effect.{Outcome, effect_on_cells, done, store_checks, stored, new_key, free_number, conflict, own_checks, is_plain, has_members, names_calc, calc_taken, place_checks}
+use Rattle.dbtg_unit.specs.Database.Statements.StoredFacts.{whole}
+use Rattle.dbtg_unit.specs.Database.Statements.Effect.{StatementEffect, effect_on_cells, done, store_checks, stored, new_key, free_number, conflict, own_checks, is_plain, has_members, names_calc, calc_taken, place_checks}
 use Rattle.dbtg_unit.specs.Database.State.CellNames.{slot_name, place_of}
 use Rattle.dbtg_unit.specs.Database.State.Cells.{cell}
 use Rattle.dbtg_unit.specs.Hands.Erasing.{names_once, doomed_in_turn, own_rings, cells_of_doomed, outer_cells, delete_cells_of}
@@ -109,7 +109,7 @@ module _ (schema : Lists) (capacity : ℕ) (db : Database) (unit : Unit) (guesse
   slot_in_names k e = subst (λ (r : Option DbKey). In (slot_name k) (slot_names r)) (sym e) (inl refl)
 
   -- the cells that are not named stay, where the database is legal again
-  abbrev pub Stays : Statement → Outcome → Type 0
+  abbrev pub Stays : Statement → StatementEffect → Type 0
   Stays statement o =
       Legal schema capacity o.database → (c : CellName) → list_any (name_eq c) (cells_of schema capacity db unit guesses statement) ≡ false → cell schema capacity o.database c ≡ cell schema capacity db c
 
@@ -163,7 +163,7 @@ module _ (schema : Lists) (capacity : ℕ) (db : Database) (unit : Unit) (guesse
         number_of_test : (s : ℕ) (sets : List ℕ) → among s sets ≡ true → In s sets
         number_of_test s sets h = let e = any_element (λ s'. eqb s' s) sets h in subst (λ n. In n sets) (eqb-true e.0 s e.2) e.1
 
-  abbrev opened : ℕ → Mode → Outcome
+  abbrev opened : ℕ → Mode → StatementEffect
   opened a mode = done (record db { usage = λ b. if b == a then db.usage b ++ (unit.number, mode) ∷ [] else db.usage b }) (record unit { modes = slice_set unit.modes a (Some mode) }) None None
 
   of_opened : (a : ℕ) (mode : Mode) → Stays (OpenArea a mode) (opened a mode)

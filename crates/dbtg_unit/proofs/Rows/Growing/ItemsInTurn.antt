@@ -22,9 +22,9 @@ use Rattle.dbtg_unit.specs.declared.statement.Statement.{Statement}
 use Rattle.dbtg_unit.specs.declared.unit.Cause.TheVariants.{DuplicatesNotAllowed, NoRoom}
 use Rattle.dbtg_unit.specs.declared.unit.Unit.{Unit}
 use Rattle.dbtg_unit.specs.Database.State.Base.{Database, Record, is_live, is_member, key_at, key_item, live_keys, members_of, owner_of, sort_key}
-use Rattle.dbtg_unit.specs.Database.Statements.View.{whole}
-use Rattle.dbtg_unit.specs.Database.Statements.Effect.{Outcome, calc_taken, comes_before, connected_in, done, effect, free_number, joined, new_key, place_checks, spot, stored, unless_refused, with_new}
-use Rattle.dbtg_unit.specs.Database.Laws.Replay.{State, after_outcome, answers, outcome_of, state_after}
+use Rattle.dbtg_unit.specs.Database.Statements.StoredFacts.{whole}
+use Rattle.dbtg_unit.specs.Database.Statements.Effect.{StatementEffect, calc_taken, comes_before, connected_in, done, effect, free_number, joined, new_key, place_checks, spot, stored, unless_refused, with_new}
+use Rattle.dbtg_unit.specs.Database.Laws.Replay.{State, after_effect, answers, effect_of_unit, state_after}
 use Rattle.dbtg_unit.specs.Database.State.Units.{owners_of, seen, seen_with}
 use Rattle.dbtg_unit.proofs.Lists.Listing.{any_placed}
 use Rattle.dbtg_unit.proofs.Lists.RangeFilters.{all_kept_in_range, first_in_range, joins_its_block, none_in_range}
@@ -289,7 +289,7 @@ owners_now c k = λ i. of_customers i ∷ of_orders i ∷ None ∷ [] where
 
 module _ (c k : ℕ) (current : DbKey) (last : Option DbKey) where
   -- the outcome, by the number that is free
-  abbrev outcome_at : Option ℕ → Outcome
+  abbrev outcome_at : Option ℕ → StatementEffect
   outcome_at free =
       unless_refused (shop_with k) (unit_at current last)
       (first_cause ((is_none free, NoRoom)
@@ -324,7 +324,7 @@ state_with k = record { database = shop_with k; units = unit_after k ∷ [] }
 abbrev pub store_items : ℕ → ℕ → List (ℕ × Statement)
 store_items a n = by 1 (map store_item (range_with_len a n))
 
-store_next : (c k : ℕ) → k < suc c → outcome_of shop (suc c) (state_with k) 1 (store_item (suc k)) ≡ Some (done (shop_with (suc k)) (unit_after (suc k)) (Some (item_key (suc k))) None)
+store_next : (c k : ℕ) → k < suc c → effect_of_unit shop (suc c) (state_with k) 1 (store_item (suc k)) ≡ Some (done (shop_with (suc k)) (unit_after (suc k)) (Some (item_key (suc k))) None)
 store_next c zero room = ap Some (store_one_more c zero (ordr_key 1) None room)
 store_next c (suc k) room = ap Some (store_one_more c (suc k) (item_key (suc k)) (Some (item_key (suc k))) room)
 
@@ -335,7 +335,7 @@ module _ (c : ℕ) (rest : List (ℕ × Statement)) where
   state_after_items k (suc n) room =
       let next : suc k + 1 ≡ suc (suc k) = omega arith in
       let whole : suc k + n ≡ k + suc n = omega arith in
-      ap (λ outcome. state_after shop (suc c) (after_outcome (state_with k) 1 outcome) (store_items (suc k + 1) n ++ rest)) (store_next c k (omega (arith, room)))
+      ap (λ outcome. state_after shop (suc c) (after_effect (state_with k) 1 outcome) (store_items (suc k + 1) n ++ rest)) (store_next c k (omega (arith, room)))
       ∙ ap (λ a. state_after shop (suc c) (state_with (suc k)) (store_items a n ++ rest)) next
       ∙ state_after_items (suc k) n (omega (arith, room))
       ∙ ap (λ j. state_after shop (suc c) (state_with j) rest) whole
@@ -345,7 +345,7 @@ module _ (c : ℕ) (rest : List (ℕ × Statement)) where
   answers_to_items k (suc n) room =
       let next : suc k + 1 ≡ suc (suc k) = omega arith in
       let whole : suc k + n ≡ k + suc n = omega arith in
-      ap (λ outcome. option_map (λ (o : Outcome). o.answer) outcome ∷ answers shop (suc c) (after_outcome (state_with k) 1 outcome) (store_items (suc k + 1) n ++ rest)) (store_next c k (omega (arith, room)))
+      ap (λ outcome. option_map (λ (o : StatementEffect). o.answer) outcome ∷ answers shop (suc c) (after_effect (state_with k) 1 outcome) (store_items (suc k + 1) n ++ rest)) (store_next c k (omega (arith, room)))
       ∙ ap (λ a. found (item_key (suc k)) ∷ answers shop (suc c) (state_with (suc k)) (store_items a n ++ rest)) next
       ∙ ap (λ others. found (item_key (suc k)) ∷ others) (answers_to_items (suc k) n (omega (arith, room)))
       ∙ ap (λ j. found (item_key (suc k)) ∷ (map found (map item_key (range_with_len (suc (suc k)) n)) ++ answers shop (suc c) (state_with j) rest)) whole

@@ -1,6 +1,6 @@
 -- A shop that is opened, with a customer, an order and items in turn, at any capacity.
 -- c is one less than the capacity, which is at least 1.
-use Rattle.dbtg_unit.specs.Database.Statements.View.{whole}
+use Rattle.dbtg_unit.specs.Database.Statements.StoredFacts.{whole}
 use Rattle.std.proofs.Common.{◌≡◌, refl, sym, ◌∙◌, ap, subst, ℕ, zero, suc, ◌+◌, ◌≤◌, true, false, cond, ◌&&◌, List, [], ◌∷◌, ◌++◌, Option, Some, None, map, inl, inr, arith}
 use Rattle.std.specs.Prelude.{◌==◌, filter, is_some, option_map, unwrap_or, if◌then◌else◌}
 use Rattle.std.specs.List.{find, list_any}
@@ -23,8 +23,8 @@ use Rattle.dbtg_unit.specs.declared.unit.Cause.TheVariants.{DuplicatesNotAllowed
 use Rattle.dbtg_unit.specs.declared.unit.Unit.{Unit}
 use Rattle.dbtg_unit.specs.Database.State.Base.{Database, calc_items, is_live, is_member, items_of, key_at, live_keys, members_of, opening, owner_of}
 use Rattle.dbtg_unit.specs.Database.Statements.Checks.{refused_at_once}
-use Rattle.dbtg_unit.specs.Database.Statements.Effect.{Outcome, connected_in, done, effect, effect_on_cells, free_number, new_key, store_checks, stored, unless_refused, with_new}
-use Rattle.dbtg_unit.specs.Database.Laws.Replay.{State, after_outcome, answers, opening_state, state_after}
+use Rattle.dbtg_unit.specs.Database.Statements.Effect.{StatementEffect, connected_in, done, effect, effect_on_cells, free_number, new_key, store_checks, stored, unless_refused, with_new}
+use Rattle.dbtg_unit.specs.Database.Laws.Replay.{State, after_effect, answers, opening_state, state_after}
 use Rattle.dbtg_unit.specs.Database.State.Units.{opening_unit, owners_of, seen, seen_with}
 use Rattle.dbtg_unit.proofs.Lists.RangeFilters.{none_in_range}
 use Rattle.dbtg_unit.proofs.Rows.Defined.Schemas.{shop, main, side, customers, orders, items, has, lines}
@@ -171,13 +171,13 @@ module _ (c : ℕ) where
   open_side = refl
 
   -- one statement of a unit that is alone, and what comes after it
-  then_state : (db : Database) (unit : Unit) (statement : Statement) (rest : List (ℕ × Statement)) (outcome : Outcome) → effect shop (suc c) db unit statement ≡ outcome
+  then_state : (db : Database) (unit : Unit) (statement : Statement) (rest : List (ℕ × Statement)) (outcome : StatementEffect) → effect shop (suc c) db unit statement ≡ outcome
       → state_after shop (suc c) (alone db unit) ((1, statement) ∷ rest) ≡ state_after shop (suc c) (alone outcome.database outcome.unit) rest
-  then_state db unit statement rest outcome is = ap (λ o. state_after shop (suc c) (after_outcome (alone db unit) 1 (Some o)) rest) is
+  then_state db unit statement rest outcome is = ap (λ o. state_after shop (suc c) (after_effect (alone db unit) 1 (Some o)) rest) is
 
-  then_answers : (db : Database) (unit : Unit) (statement : Statement) (rest : List (ℕ × Statement)) (outcome : Outcome) → effect shop (suc c) db unit statement ≡ outcome
+  then_answers : (db : Database) (unit : Unit) (statement : Statement) (rest : List (ℕ × Statement)) (outcome : StatementEffect) → effect shop (suc c) db unit statement ≡ outcome
       → answers shop (suc c) (alone db unit) ((1, statement) ∷ rest) ≡ Some outcome.answer ∷ answers shop (suc c) (alone outcome.database outcome.unit) rest
-  then_answers db unit statement rest outcome is = ap (λ o. Some o.answer ∷ answers shop (suc c) (after_outcome (alone db unit) 1 (Some o)) rest) is
+  then_answers db unit statement rest outcome is = ap (λ o. Some o.answer ∷ answers shop (suc c) (after_effect (alone db unit) 1 (Some o)) rest) is
 
   module _ (rest : List (ℕ × Statement)) where
     abbrev fourth : List (ℕ × Statement)

@@ -9,5 +9,5 @@ use Rattle.dbtg_unit.proofs.names.find_indexed.Goals as goal
 pub returns-in-None : goal.returns-in-None
 returns-in-None c =
     let name = c.args.name.now in
-    let nowhere : past 8 (position_from (name_eq name) 0 c.args.names.now) ≡ None = sym (c.requires name) ∙ ap (get key_eq c.args.index.now) (sym c.key_of.ensures) ∙ sym c.find_key.ensures ∙ c.in-None.is in
+    let nowhere : past 8 (position_from (name_eq name) 0 c.args.names.now) ≡ None = sym (c.requires name) ∙ ap (get key_eq c.args.index.now) (sym c.name_key.ensures) ∙ sym c.find_key.ensures ∙ c.in-None.is in
     c.find_name-in-None.ensures ∙ found_in_place 8 name c.args.names.now nowhere

@@ -29,7 +29,7 @@ returns-else-at-count c =
     let count = c.in-Numbered.count in
     let numbered = (c.requires.numbered layout count c.in-Numbered.is).1 in
     let place : c.number-at.result ≡ place_in layout name = c.number-at.ensures in
-    c.find_key.ensures ∙ ap (get key_eq c.args.index.now) c.key_of.ensures ∙ c.requires.index name
+    c.find_key.ensures ∙ ap (get key_eq c.args.index.now) c.name_key.ensures ∙ c.requires.index name
     ∙ ap (λ first. past (first_count first) (position_from (name_eq name) 0 names)) c.in-Numbered.is
     ∙ found_past_numbers layout count names numbered name
     (λ within there.

@@ -7,7 +7,7 @@ use Rattle.dbtg_unit.specs.declared.unit.Unit.{Unit}
 use Rattle.dbtg_unit.specs.declared.unit.Cause.{Cause}
 use Rattle.dbtg_unit.specs.declared.unit.Status.TheVariants.{Refused}
 use Rattle.dbtg_unit.specs.Database.State.Base.{Database}
-use Rattle.dbtg_unit.specs.Database.Statements.Effect.{Outcome, effect}
+use Rattle.dbtg_unit.specs.Database.Statements.Effect.{StatementEffect, effect}
 use Rattle.dbtg_unit.specs.Database.Statements.Codes.{is_done}
 
 -- FIND, STORE and GET answer with a key
@@ -24,7 +24,7 @@ gives_items _ = false
 
 -- a refusal, whatever its cause, leaves database and unit as they were; a key and items are in the answer exactly if the statement
 -- is done and gives them
-pub record IsAnswered (db : Database) (unit : Unit) (statement : Statement) (outcome : Outcome) : Type 0 where
+pub record IsAnswered (db : Database) (unit : Unit) (statement : Statement) (outcome : StatementEffect) : Type 0 where
   pub refusal : (cause : Cause) → outcome.answer.status ≡ Refused cause → (outcome.database ≡ db) × (outcome.unit ≡ unit)
   pub key : is_some outcome.answer.key ≡ (is_done outcome.answer.status && gives_key statement)
   pub items : is_some outcome.answer.items ≡ (is_done outcome.answer.status && gives_items statement)

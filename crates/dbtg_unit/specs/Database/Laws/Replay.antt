@@ -9,7 +9,7 @@ use Rattle.dbtg_unit.specs.declared.unit.Entry.{Entry}
 use Rattle.dbtg_unit.specs.Database.State.Base.{Database, opening}
 use Rattle.dbtg_unit.specs.Database.State.Units.{opening_unit}
 use Rattle.dbtg_unit.specs.Database.Statements.Fits.{fits}
-use Rattle.dbtg_unit.specs.Database.Statements.Effect.{Outcome, effect}
+use Rattle.dbtg_unit.specs.Database.Statements.Effect.{StatementEffect, effect}
 
 -- a database, and the units by number from 1
 pub record State : Type 0 where
@@ -26,37 +26,37 @@ unit_of state zero = None
 unit_of state (suc n) = slice_get state.units n
 
 -- the state after a statement of unit `number`
-abbrev pub after : State → ℕ → Outcome → State
+abbrev pub after : State → ℕ → StatementEffect → State
 after state number outcome = record { database = outcome.database; units = slice_set state.units (number - 1) outcome.unit }
 
 -- the outcome of a statement of unit `number`, and none if there is no such unit
-abbrev pub outcome_of : Lists → ℕ → State → ℕ → Statement → Option Outcome
-outcome_of schema capacity state number statement =
+abbrev pub effect_of_unit : Lists → ℕ → State → ℕ → Statement → Option StatementEffect
+effect_of_unit schema capacity state number statement =
     option_map (λ unit. effect schema capacity state.database unit statement) (unit_of state number)
 
 -- the state after an outcome; as it was if there is none
-abbrev pub after_outcome : State → ℕ → Option Outcome → State
-after_outcome state number None = state
-after_outcome state number (Some outcome) = after state number outcome
+abbrev pub after_effect : State → ℕ → Option StatementEffect → State
+after_effect state number None = state
+after_effect state number (Some outcome) = after state number outcome
 
 -- the state after statements, each of a unit
 abbrev pub state_after : Lists → ℕ → State → List (ℕ × Statement) → State
 state_after schema capacity state [] = state
 state_after schema capacity state (s ∷ statements) =
-    state_after schema capacity (after_outcome state s.0 (outcome_of schema capacity state s.0 s.1)) statements
+    state_after schema capacity (after_effect state s.0 (effect_of_unit schema capacity state s.0 s.1)) statements
 
 -- their answers
 abbrev pub answers : Lists → ℕ → State → List (ℕ × Statement) → List (Option Answer)
 answers schema capacity state [] = []
 answers schema capacity state (s ∷ statements) =
-    let outcome = outcome_of schema capacity state s.0 s.1 in
-    option_map (λ o. o.answer) outcome ∷ answers schema capacity (after_outcome state s.0 outcome) statements
+    let outcome = effect_of_unit schema capacity state s.0 s.1 in
+    option_map (λ o. o.answer) outcome ∷ answers schema capacity (after_effect state s.0 outcome) statements
 
 -- THE REPLAY OF A HISTORY
 
 -- the state after an entry's statement, whatever answer the entry has
 abbrev pub after_entry : Lists → ℕ → State → Entry → State
-after_entry schema capacity state entry = after_outcome state entry.unit (outcome_of schema capacity state entry.unit entry.statement)
+after_entry schema capacity state entry = after_effect state entry.unit (effect_of_unit schema capacity state entry.unit entry.statement)
 
 -- the state after the entries, in their order
 unfoldable pub replay : Lists → ℕ → State → List Entry → State
@@ -65,7 +65,7 @@ replay schema capacity state (entry ∷ entries) = replay schema capacity (after
 
 -- the answer that the state gives to an entry's statement; none if there is no such unit
 abbrev pub answer_to : Lists → ℕ → State → Entry → Option Answer
-answer_to schema capacity state entry = option_map (λ o. o.answer) (outcome_of schema capacity state entry.unit entry.statement)
+answer_to schema capacity state entry = option_map (λ o. o.answer) (effect_of_unit schema capacity state entry.unit entry.statement)
 
 -- each entry is of a unit of the state, and has the answer that the state before it gives
 unfoldable pub AnswersHold : Lists → ℕ → State → List Entry → Type 0

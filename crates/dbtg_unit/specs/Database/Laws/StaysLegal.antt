@@ -10,12 +10,12 @@ use Rattle.dbtg_schema.specs.Lookups.{at}
 use Rattle.dbtg_cells.specs.declared.usage.Mode.{Mode}
 use Rattle.dbtg_unit.specs.Database.State.Base.{Database}
 use Rattle.dbtg_unit.specs.Database.Statements.Fits.{fits}
-use Rattle.dbtg_unit.specs.Database.Statements.Effect.{Outcome, conflict, effect}
+use Rattle.dbtg_unit.specs.Database.Statements.Effect.{StatementEffect, conflict, effect}
 use Rattle.dbtg_unit.specs.Database.State.LegalWith.{LegalWith}
 use Rattle.dbtg_unit.specs.Database.Laws.Replay.{State, opening_state, replay}
 
 -- the database of the outcome is legal with all units, the stepping unit as the outcome has it
-abbrev pub LegalAfter : Lists → ℕ → List Unit → ℕ → Outcome → Type 0
+abbrev pub LegalAfter : Lists → ℕ → List Unit → ℕ → StatementEffect → Type 0
 LegalAfter schema capacity units i outcome = LegalWith schema capacity outcome.database (slice_set units i outcome.unit)
 
 -- whatever statement that fits is made by whatever unit, done or refused, the database stays legal with all its units

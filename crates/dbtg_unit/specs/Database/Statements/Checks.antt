@@ -25,7 +25,7 @@ pub use Rattle.dbtg_unit.specs.Database.Statements.Conditions.{accepts_type, are
 use Rattle.dbtg_unit.specs.Database.Statements.Conditions.{calc_taken, changed_items, has_members, is_plain, joined_place, names_calc, refuses_equal, sort_key_taken, uses_position}
 use Rattle.dbtg_unit.specs.Database.Statements.Found.{is_lost}
 use Rattle.dbtg_unit.specs.Database.State.Units.{kept_version}
-use Rattle.dbtg_unit.specs.Database.Statements.View.{View}
+use Rattle.dbtg_unit.specs.Database.Statements.StoredFacts.{StoredFacts}
 
 -- WHAT NEEDS NO CELL
 
@@ -52,22 +52,22 @@ refused_at_once schema capacity unit statement = first_cause (checks_at_once sch
 -- WHAT IS STORED
 
 -- OPEN of area a in a mode
-abbrev pub open_checks : View → ℕ → Mode → List (Bool × Cause)
+abbrev pub open_checks : StoredFacts → ℕ → Mode → List (Bool × Cause)
 open_checks view a mode = (list_any (λ e. conflict e.1 mode) (view.users a), UsageConflict) ∷ []
 
 -- GET and KEEP
-abbrev pub live_checks : View → DbKey → List (Bool × Cause)
+abbrev pub live_checks : StoredFacts → DbKey → List (Bool × Cause)
 live_checks view k = (not (view.is_live k), Deleted) ∷ []
 
 -- the record that is changed: deleted; kept, with another version than it has
-abbrev pub own_checks : View → Unit → DbKey → List (Bool × Cause)
+abbrev pub own_checks : StoredFacts → Unit → DbKey → List (Bool × Cause)
 own_checks view unit k =
     (not (view.is_live k), Deleted)
     ∷ (some_and (λ n. not (n == view.version k)) (kept_version unit k), ChangedByAnother)
     ∷ []
 
 -- a new member with this sort key into set s at a place: owner deleted, position lost, duplicates
-abbrev pub checks_at : Lists → View → ℕ → Place → Option Value → List (Bool × Cause)
+abbrev pub checks_at : Lists → StoredFacts → ℕ → Place → Option Value → List (Bool × Cause)
 checks_at schema view s place v =
     (view.is_absent s place.owner, Deleted)
     ∷ (uses_position (order_of schema s) && is_lost place.at (view.members s place.owner), PositionLost)
@@ -75,27 +75,27 @@ checks_at schema view s place v =
     ∷ []
 
 -- a new member with this sort key into the current occurrence of set s
-abbrev pub place_checks : Lists → View → Unit → ℕ → Option Value → List (Bool × Cause)
+abbrev pub place_checks : Lists → StoredFacts → Unit → ℕ → Option Value → List (Bool × Cause)
 place_checks schema view unit s = checks_at schema view s (joined_place schema unit s)
 
 -- STORE of a record of type t: no number, CALC items taken; then its place in each automatic set
-abbrev pub store_checks : Lists → View → Unit → ℕ → List Value → List (Bool × Cause)
+abbrev pub store_checks : Lists → StoredFacts → Unit → ℕ → List Value → List (Bool × Cause)
 store_checks schema view unit t items =
     (view.is_full t, NoRoom)
     ∷ (calc_taken schema view t items None, DuplicatesNotAllowed)
     ∷ flat_map (λ s. place_checks schema view unit s (key_item schema s t items)) (automatic_sets schema t)
 
 -- INSERT into set s: already a member; then the place
-abbrev pub insert_checks : Lists → View → Unit → ℕ → DbKey → List (Bool × Cause)
+abbrev pub insert_checks : Lists → StoredFacts → Unit → ℕ → DbKey → List (Bool × Cause)
 insert_checks schema view unit s k =
     own_checks view unit k ++ (is_some (view.owner s k), AlreadyMember) ∷ place_checks schema view unit s (key_item schema s k.rtype (view.items k))
 
 -- REMOVE out of set s: not a member
-abbrev pub remove_checks : View → Unit → ℕ → DbKey → List (Bool × Cause)
+abbrev pub remove_checks : StoredFacts → Unit → ℕ → DbKey → List (Bool × Cause)
 remove_checks view unit s k = own_checks view unit k ++ (is_none (view.owner s k), NotMember) ∷ []
 
 -- MODIFY: new CALC items taken; then the new sort key taken, in each sorted set whose key item is named
-abbrev pub modify_checks : Lists → View → Unit → List Change → DbKey → List (Bool × Cause)
+abbrev pub modify_checks : Lists → StoredFacts → Unit → List Change → DbKey → List (Bool × Cause)
 modify_checks schema view unit changes k =
     let items = changed_items changes (view.items k) in
     own_checks view unit k
@@ -103,7 +103,7 @@ modify_checks schema view unit changes k =
     ∷ map (λ s. (refuses_equal (order_of schema s) && sort_key_taken schema view k items s, DuplicatesNotAllowed)) (rekeyed_sets schema k.rtype (map (λ c. c.item) changes))
 
 -- DELETE: the plain form wants no members
-abbrev pub delete_checks : Lists → View → Unit → Erase → DbKey → List (Bool × Cause)
+abbrev pub delete_checks : Lists → StoredFacts → Unit → Erase → DbKey → List (Bool × Cause)
 delete_checks schema view unit option k = own_checks view unit k ++ (is_plain option && has_members schema view k, OwnerHasMembers) ∷ []
 
 -- the checks about a current, if there is one
@@ -112,7 +112,7 @@ about None checks = []
 about (Some k) checks = checks k
 
 -- the checks of each statement; those of a FIND are with what it finds, in `Found`
-abbrev pub checks_on_cells : Lists → View → Unit → Statement → List (Bool × Cause)
+abbrev pub checks_on_cells : Lists → StoredFacts → Unit → Statement → List (Bool × Cause)
 checks_on_cells schema view unit (OpenArea a mode) = open_checks view a mode
 checks_on_cells schema view unit (CloseArea a) = []
 checks_on_cells schema view unit (Find form suppress) = []

@@ -24,7 +24,7 @@ use Rattle.dbtg_unit.specs.Database.State.Base.{calc_items, key_item}
 use Rattle.dbtg_unit.specs.Database.State.Units.{place_in, key_of_place, kept_version}
 use Rattle.dbtg_unit.specs.Database.Statements.Found.{needs_position}
 use Rattle.dbtg_schema.specs.Structure.{area_of, automatic_sets, calc_of, erase_areas, home, is_automatic, is_mandatory, member_clause, rekeyed_sets, set_member_types, set_numbers}
-use Rattle.dbtg_unit.specs.Database.Statements.View.{View}
+use Rattle.dbtg_unit.specs.Database.Statements.StoredFacts.{StoredFacts}
 
 -- the type of the current of run-unit
 abbrev pub current_type : Unit → Option ℕ
@@ -153,7 +153,7 @@ frees_what_is_not_kept unit _ = false
 -- WHAT IS STORED
 
 -- a live record of type t has the CALC items of these, if their duplicates are not allowed, other than the one that is left out
-abbrev pub calc_taken : Lists → View → ℕ → List Value → Option DbKey → Bool
+abbrev pub calc_taken : Lists → StoredFacts → ℕ → List Value → Option DbKey → Bool
 calc_taken schema view t items left =
     some_and (λ calc. not calc.duplicates_allowed && view.has_calc t (calc_items schema t items) left) (calc_of schema t)
 
@@ -182,7 +182,7 @@ abbrev pub names_calc : Lists → ℕ → List Change → Bool
 names_calc schema t changes = some_and (λ calc. list_any (λ i. list_any (λ c. c.item == i) changes) calc.items) (calc_of schema t)
 
 -- a member of the list of set s in which k is, other than k, has the sort key that k has with these items
-abbrev pub sort_key_taken : Lists → View → DbKey → List Value → ℕ → Bool
+abbrev pub sort_key_taken : Lists → StoredFacts → DbKey → List Value → ℕ → Bool
 sort_key_taken schema view k items s = some_and (λ o. view.has_sort_key s o (Some k) (key_item schema s k.rtype items)) (view.owner s k)
 
 -- the form that takes only the record
@@ -191,5 +191,5 @@ is_plain Plain = true
 is_plain _ = false
 
 -- k owns a member in some set
-abbrev pub has_members : Lists → View → DbKey → Bool
+abbrev pub has_members : Lists → StoredFacts → DbKey → Bool
 has_members schema view k = list_any (λ s. nat_lt 0 (length (view.members s (Rec k)))) (set_numbers schema)

@@ -30,7 +30,7 @@ use Rattle.dbtg_unit.specs.declared.unit.Cause.TheVariants.{NoCurrentOfRunUnit}
 use Rattle.dbtg_schema.specs.Lookups.{some_and, first_cause}
 pub use Rattle.dbtg_unit.specs.Database.State.Base.{free_number, new_key, version_of}
 use Rattle.dbtg_unit.specs.Database.State.Base.{Database, Record, items_of, members_of, is_member, owner_of, sort_key}
-pub use Rattle.dbtg_unit.specs.Database.Statements.View.{whole}
+pub use Rattle.dbtg_unit.specs.Database.Statements.StoredFacts.{whole}
 pub use Rattle.dbtg_unit.specs.Database.Statements.Conditions.{calc_taken, changed_items, has_members, is_plain, names_calc, refuses_equal, uses_position}
 use Rattle.dbtg_unit.specs.Database.State.Units.{place_in, seen, forgotten, noted}
 use Rattle.dbtg_unit.specs.Database.Statements.Found.{found}
@@ -40,21 +40,21 @@ pub use Rattle.dbtg_unit.specs.Database.Statements.Checks.{delete_checks, insert
 use Rattle.dbtg_schema.specs.Structure.{automatic_sets, order_of, owns, rekeyed_sets, set_numbers}
 
 -- what a statement leaves: a database, a unit, an answer
-pub record Outcome : Type 0 where
+pub record StatementEffect : Type 0 where
   pub database : Database
   pub unit : Unit
   pub answer : Answer
 
 -- done: a database, a unit, a key or none, items or none
-abbrev pub done : Database → Unit → Option DbKey → Option (List Value) → Outcome
+abbrev pub done : Database → Unit → Option DbKey → Option (List Value) → StatementEffect
 done db unit key items = record { database = db; unit = unit; answer = record { status = Done; key = key; items = items } }
 
 -- a refusal leaves database and unit as they were
-abbrev pub refused : Database → Unit → Cause → Outcome
+abbrev pub refused : Database → Unit → Cause → StatementEffect
 refused db unit cause = record { database = db; unit = unit; answer = record { status = Refused cause; key = None; items = None } }
 
 -- refused for the first cause, if there is one; otherwise this outcome
-abbrev pub unless_refused : Database → Unit → Option Cause → Outcome → Outcome
+abbrev pub unless_refused : Database → Unit → Option Cause → StatementEffect → StatementEffect
 unless_refused db unit (Some cause) outcome = refused db unit cause
 unless_refused db unit None outcome = outcome
 
@@ -111,7 +111,7 @@ connected_in schema db unit sets m =
     }
 
 -- the record added, connected in its automatic sets, and seen
-abbrev pub stored : Lists → ℕ → Database → Unit → DbKey → List Value → Suppress → Outcome
+abbrev pub stored : Lists → ℕ → Database → Unit → DbKey → List Value → Suppress → StatementEffect
 stored schema capacity db unit k items suppress =
     let new = connected_in schema (with_new schema db k items) unit (automatic_sets schema k.rtype) k in
     done new (seen schema capacity new unit k suppress) (Some k) None
@@ -137,14 +137,14 @@ abbrev pub moved : Unit → ℕ → Place → Unit
 moved unit s place = record unit { currency = record unit.currency { sets = slice_set unit.currency.sets s (Some place) } }
 
 -- k in its place in the current occurrence, and current of the set
-abbrev pub inserted : Lists → Database → Unit → ℕ → DbKey → Outcome
+abbrev pub inserted : Lists → Database → Unit → ℕ → DbKey → StatementEffect
 inserted schema db unit s k =
     let new = raised (key_eq k) (connected_in schema db unit (s ∷ []) k) in
     let owner = unwrap_or (option_map (λ place. place.owner) (place_in schema unit s)) System in
     done new (renoted (key_eq k) new (moved unit s (record { owner = owner; at = Some k }))) None None
 
 -- k out of its list of set s
-abbrev pub removed : Database → Unit → ℕ → DbKey → Outcome
+abbrev pub removed : Database → Unit → ℕ → DbKey → StatementEffect
 removed db unit s k =
     let new = raised (key_eq k) (record db { lists = λ s' o. if s' == s then option_map (without k) (db.lists s' o) else db.lists s' o }) in
     done new (renoted (key_eq k) new unit) None None
@@ -160,7 +160,7 @@ abbrev pub with_items : Database → DbKey → List Value → Database
 with_items db k items = record db { records = λ x. if key_eq k x then option_map (with_its_items items) (db.records x) else db.records x }
 
 -- k with its changed items, placed again
-abbrev pub modified : Lists → ℕ → Database → Unit → List Change → DbKey → Outcome
+abbrev pub modified : Lists → ℕ → Database → Unit → List Change → DbKey → StatementEffect
 modified schema capacity db unit changes k =
     let with_new_items = with_items db k (changed_items changes (items_of db k)) in
     let sets = rekeyed_sets schema k.rtype (map (λ c. c.item) changes) in
@@ -180,7 +180,7 @@ is_gone gone System = false
 is_gone gone (Rec o) = is_member o gone
 
 -- the records that go, each out of all lists, with their own lists; a member of one of these lists that stays gets its next version
-abbrev pub deleted : Lists → ℕ → Database → Unit → Erase → DbKey → Outcome
+abbrev pub deleted : Lists → ℕ → Database → Unit → Erase → DbKey → StatementEffect
 deleted schema capacity db unit option k =
     let gone = doomed schema capacity db option k in
     let is_taken_out : DbKey → Bool = λ x. not (is_member x gone) && list_any (λ s. list_any (λ o. is_member x (members_of db s (Rec o))) gone) (set_numbers schema) in
@@ -194,17 +194,17 @@ deleted schema capacity db unit option k =
 -- THE WHOLE
 
 -- the outcome of a FIND
-abbrev pub finding : Database → Unit → Result DbKey Cause → (DbKey → Unit) → Outcome
+abbrev pub finding : Database → Unit → Result DbKey Cause → (DbKey → Unit) → StatementEffect
 finding db unit (Ok k) after = done db (after k) (Some k) None
 finding db unit (Err cause) after = refused db unit cause
 
 -- what is done about a current, if there is one
-abbrev pub done_on_current : Database → Unit → Option DbKey → (DbKey → Outcome) → Outcome
+abbrev pub done_on_current : Database → Unit → Option DbKey → (DbKey → StatementEffect) → StatementEffect
 done_on_current db unit None outcome = refused db unit NoCurrentOfRunUnit
 done_on_current db unit (Some k) outcome = outcome k
 
 -- what a statement does that no check refuses
-abbrev pub done_on_cells : Lists → ℕ → Database → Unit → Statement → Outcome
+abbrev pub done_on_cells : Lists → ℕ → Database → Unit → Statement → StatementEffect
 done_on_cells schema capacity db unit (OpenArea a mode) =
     done (record db { usage = λ b. if b == a then db.usage b ++ (unit.number, mode) ∷ [] else db.usage b }) (record unit { modes = slice_set unit.modes a (Some mode) }) None None
 done_on_cells schema capacity db unit (CloseArea a) =
@@ -221,11 +221,11 @@ done_on_cells schema capacity db unit (Free true) = done db (record unit { kept 
 done_on_cells schema capacity db unit (Free false) = done_on_current db unit unit.currency.run_unit (λ k. done db (record unit { kept = forgotten k unit.kept }) None None)
 
 -- the effect of a statement that no check without cells refuses
-abbrev pub effect_on_cells : Lists → ℕ → Database → Unit → Statement → Outcome
+abbrev pub effect_on_cells : Lists → ℕ → Database → Unit → Statement → StatementEffect
 effect_on_cells schema capacity db unit statement =
     unless_refused db unit (first_cause (checks_on_cells schema (whole schema capacity db) unit statement)) (done_on_cells schema capacity db unit statement)
 
 -- the effect of a statement on a database and a unit
-unfoldable pub effect : Lists → ℕ → Database → Unit → Statement → Outcome
+unfoldable pub effect : Lists → ℕ → Database → Unit → Statement → StatementEffect
 effect schema capacity db unit statement =
     unless_refused db unit (refused_at_once schema capacity unit statement) (effect_on_cells schema capacity db unit statement)

@@ -5,7 +5,7 @@ use Rattle.dbtg_step.specs.Core.Whole.{Making}
 use Rattle.dbtg_going.specs.Goings.{IsGoing}
 use Rattle.dbtg_going.proofs.Turning.{index_at, last_is, on_ok, written}
 use Rattle.dbtg_explore.specs.Orders.{Meeting}
-use Rattle.dbtg_explore.specs.Inside.Places.{HasTurned}
+use Rattle.dbtg_explore.specs.Inside.Whereabouts.{HasTurned}
 use Rattle.dbtg_explore.proofs.Placed.{awaits, entry, has_turned, history_is}
 use Rattle.dbtg_explore.proofs.meeting.Meeting.make.Goals as goal
 

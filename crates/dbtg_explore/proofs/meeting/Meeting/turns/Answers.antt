@@ -1,6 +1,6 @@
 use Rattle.std.proofs.Common.{take, subst, sym}
 use Rattle.std.proofs.lemmas.List.{take_more}
-use Rattle.dbtg_explore.specs.Inside.Places.{HaveTurned}
+use Rattle.dbtg_explore.specs.Inside.Whereabouts.{HaveTurned}
 use Rattle.dbtg_explore.proofs.Placed.{next_can, none_turned, turned_also}
 use Rattle.dbtg_explore.proofs.meeting.Meeting.turns.Goals as goal
 

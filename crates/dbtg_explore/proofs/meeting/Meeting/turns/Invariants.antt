@@ -1,5 +1,5 @@
 use Rattle.std.proofs.Common.{take}
-use Rattle.dbtg_explore.specs.Inside.Places.{HaveTurned}
+use Rattle.dbtg_explore.specs.Inside.Whereabouts.{HaveTurned}
 use Rattle.dbtg_explore.proofs.meeting.Meeting.turns.Given as goal
 
 abbrev pub invariant-loop-unit : goal.invariant-loop-unit

@@ -1,6 +1,6 @@
 use Rattle.std.proofs.Common.{◌≡◌, ◌+◌, ℕ, List, [], subst, sym, length, get_or, arith}
 use Rattle.std.proofs.lemmas.Result.{err_from_is_err_and}
-use Rattle.dbtg_explore.specs.Inside.Places.{IsPlaceOf}
+use Rattle.dbtg_explore.specs.Inside.Whereabouts.{AreWhereaboutsOf}
 use Rattle.dbtg_explore.specs.Inside.Steps.{Goes}
 use Rattle.dbtg_explore.specs.States.{HasMoreStates}
 use Rattle.dbtg_explore.proofs.Steps.{cannot_before, goes_both, goes_to_next, kept_at, kept_range, stays}
@@ -20,7 +20,7 @@ go_on_by-requires-clause-within c = kept_range c.args.meeting.now c.args.place c
 pub go_on_by-requires-clause-here : goal.go_on_by-requires-clause-here
 go_on_by-requires-clause-here c =
     let m = c.args.meeting.now in
-    subst (λ (o : List ℕ). IsPlaceOf m o c.args.here.now) (sym (kept_at m c.args.place c.args.place (c.loop-before.before + 1) c.args.self.now c.loop-before.self c.loop-before.invariant c.requires.within)) c.requires.here
+    subst (λ (o : List ℕ). AreWhereaboutsOf m o c.args.here.now) (sym (kept_at m c.args.place c.args.place (c.loop-before.before + 1) c.args.self.now c.loop-before.self c.loop-before.invariant c.requires.within)) c.requires.here
 
 pub loop-before-preserved : goal.loop-before-preserved
 loop-before-preserved c =

@@ -8,4 +8,4 @@ extended-requires-clause-fitting c = next_fitting c.args.self.now c.requires.mee
 
 pub returns : goal.returns
 returns c =
-    broken_by c.args.self.now c.args.wish (statements_of c.args.history.now) c.args.statement.now c.in_ok-run.status c.is_broken_by.result c.requires.next c.requires.placed c.in_ok-run.ensures.status c.is_broken_by.ensures
+    broken_by c.args.self.now c.args.wish (statements_of c.args.history.now) c.args.statement.now c.in_ok-run.status c.breaks.result c.requires.next c.requires.placed c.in_ok-run.ensures.status c.breaks.ensures

@@ -14,7 +14,7 @@ use Rattle.dbtg_run.specs.Inside.Posed.{turns_left}
 use Rattle.dbtg_run.specs.Inside.Tries.{Suffice}
 use Rattle.dbtg_run.specs.declared.tries.Tries.{Tries}
 use Rattle.dbtg_run.specs.Inside.Works.{IsAtWork, KnowsBetter}
-use Rattle.dbtg_step.specs.Core.Courses.{IsCourseKept}
+use Rattle.dbtg_step.specs.Core.Courses.{CourseMatches}
 use Rattle.dbtg_step.proofs.Public.{no_course}
 use Rattle.dbtg_run.proofs.Units.Courses.{course_goes_on}
 use Rattle.dbtg_run.proofs.Units.Needing.{try_nearer}
@@ -45,7 +45,7 @@ needs-preserved c =
       known = search rules;
       given = search rules;
       tries = search rules;
-      course = subst (IsCourseKept db.schema db.about.capacity new.held new.unit c.args.statement.now) (sym c.forget.ensures) (no_course db.schema db.about.capacity new.held new.unit c.args.statement.now);
+      course = subst (CourseMatches db.schema db.about.capacity new.held new.unit c.args.statement.now) (sym c.forget.ensures) (no_course db.schema db.about.capacity new.held new.unit c.args.statement.now);
     }
 
 -- a look in vain that has a try leaves one fewer

@@ -1,7 +1,7 @@
 use Rattle.std.proofs.Common.{◌≡◌, ◌⊎◌, ◌-◌, ◌<◌, false}
 use Rattle.dbtg_unit.specs.Hands.Making.{IsReady}
 use Rattle.dbtg_unit.specs.Hands.Needs.{is_stale}
-use Rattle.dbtg_step.specs.Core.Courses.{IsCourseKept}
+use Rattle.dbtg_step.specs.Core.Courses.{CourseMatches}
 use Rattle.dbtg_run.specs.Inside.LatchRule.{database_after}
 use Rattle.dbtg_run.specs.Inside.Posed.{HoldsSo, turns_left}
 use Rattle.dbtg_run.specs.Inside.Tries.{Suffice}
@@ -19,7 +19,7 @@ invariant-needs l = record {
   known : l.self.about.units ≡ 1 → 0 < l.initial.tries.given → (0 < l.tries.given - l.tries.vain) ⊎ (is_stale l.self.about.schema.value l.self.about.capacity (database_after l.self.about l.self.journal.items) l.self.unit l.self.held.guesses l.statement ≡ false);
   given : l.tries.given ≡ l.initial.tries.given;
   tries : Suffice l.tries;
-  course : IsCourseKept l.db.schema l.db.about.capacity l.self.held l.self.unit l.statement l.course;
+  course : CourseMatches l.db.schema l.db.about.capacity l.self.held l.self.unit l.statement l.course;
 }
 
 abbrev pub decreases-needs : goal.decreases-needs

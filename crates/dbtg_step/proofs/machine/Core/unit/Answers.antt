@@ -2,7 +2,7 @@ use Rattle.std.proofs.Common.{◌≡◌, Some, None, Option, slice_get, length, 
 use Rattle.std.specs.Prelude.{option_map}
 use Rattle.std.proofs.lemmas.Option.{slice_get_read}
 use Rattle.dbtg_unit.specs.declared.unit.Unit.{Unit}
-use Rattle.dbtg_step.specs.declared.parts.Runner.{Runner}
+use Rattle.dbtg_step.specs.declared.parts.UnitState.{UnitState as CoreUnit}
 use Rattle.dbtg_step.specs.Machine.SequentialDatabase.{unit_at}
 use Rattle.dbtg_step.specs.Machine.Machine.{UnitState}
 use Rattle.dbtg_step.specs.Machine.Network.{network}
@@ -19,7 +19,7 @@ returns-then-number-eq0 c =
     let inside = c.self.inside in
     let items = inside.parts.runners.items in
     let none : unit_at items c.args.number ≡ None = no_unit items c.args.number (elim c.then-number-eq0.branch [ then-number-eq0-via-then-number-eq0 w ↦ inl (omega arith) | then-number-eq0-via-else-number-eq0+then-len-number w ↦ inr (omega (arith, w.if-len-number.true, w.len.ensures)) ]) in
-    let here : option_map (λ (x : Runner). x.unit) (unit_at items c.args.number) ≡ None = ap (option_map (λ (x : Runner). x.unit)) none in
+    let here : option_map (λ (x : CoreUnit). x.unit) (unit_at items c.args.number) ≡ None = ap (option_map (λ (x : CoreUnit). x.unit)) none in
     record {
       machine = subst (λ (v : CoreParts). ◌≡◌ {A = Option Unit} None (option_map (λ (x : UnitState (network v.schema v.capacity)). x.unit) (unit_at (machine v).state.units c.args.number))) c.self.view_is
           (sym here ∙ unit_shown inside.schema inside.capacity c.args.number inside.parts.table.items inside.parts.history.items items);
@@ -33,7 +33,7 @@ returns c =
     let items = inside.parts.runners.items in
     let at : slice_get items (c.args.number - 1) ≡ Some c.index.result.now = slice_get_read items (length items) (c.args.number - 1) c.index.result.now refl (omega arith) c.index.ensures in
     let some : unit_at items c.args.number ≡ Some c.index.result.now = unit_there items c.args.number c.index.result.now (omega arith) at in
-    let here : option_map (λ (x : Runner). x.unit) (unit_at items c.args.number) ≡ Some c.index.result.now.unit = ap (option_map (λ (x : Runner). x.unit)) some in
+    let here : option_map (λ (x : CoreUnit). x.unit) (unit_at items c.args.number) ≡ Some c.index.result.now.unit = ap (option_map (λ (x : CoreUnit). x.unit)) some in
     record {
       machine = subst (λ (v : CoreParts). ◌≡◌ {A = Option Unit} (Some c.index.result.now.unit) (option_map (λ (x : UnitState (network v.schema v.capacity)). x.unit) (unit_at (machine v).state.units c.args.number))) c.self.view_is
           (sym here ∙ unit_shown inside.schema inside.capacity c.args.number inside.parts.table.items inside.parts.history.items items);

@@ -1,9 +1,0 @@
-use Rattle.std.proofs.Common.{◌∙◌, sym, ap}
-use Rattle.dbtg_plan.specs.Inside.Finding.{found_in}
-use Rattle.dbtg_plan.proofs.finding.find_key.Goals as goal
-
-pub returns-in-InSet : goal.returns-in-InSet
-returns-in-InSet c = c.find_member.ensures ∙ ap (found_in c.args.schema.now c.args.unit.now c.args.held.now) (sym c.in-InSet.is)
-
-pub returns-in-Sorted : goal.returns-in-Sorted
-returns-in-Sorted c = c.find_by_sort_key.ensures ∙ ap (found_in c.args.schema.now c.args.unit.now c.args.held.now) (sym c.in-Sorted.is)

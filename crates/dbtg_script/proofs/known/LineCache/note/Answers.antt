@@ -1,5 +1,0 @@
-use Rattle.dbtg_script.proofs.Reading.KnownLines.{known_with}
-use Rattle.dbtg_script.proofs.known.LineCache.note.Goals as goal
-
-pub returns : goal.returns
-returns c = λ schema ss h g. known_with schema ss c.args.self.now.places c.place_of.result _ h g

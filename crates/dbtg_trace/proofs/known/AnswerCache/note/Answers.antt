@@ -1,5 +1,0 @@
-use Rattle.dbtg_trace.proofs.AnswersKept.{kept_with}
-use Rattle.dbtg_trace.proofs.known.AnswerCache.note.Goals as goal
-
-pub returns : goal.returns
-returns c = λ schema ts h g. kept_with schema ts c.args.self.now.places c.place_of.result _ h g
