@@ -17,12 +17,19 @@ fn read(rt: &HostRuntime, text: &[u8]) -> Option<Result<Vec<Traced>, TraceFault>
     Some(read_trace(rt.alloc(), &schema, 2, text))
 }
 
+/// The answer of a text that is read with this schema.
+fn answer_with(rt: &HostRuntime, schema: &Schema, text: &[u8]) -> (u8, u64) {
+    match read_trace(rt.alloc(), schema, 2, text) {
+        Ok(entries) => (0, entries.len() as u64),
+        Err(TraceFault::Refused { line, cause }) => (cause.number(), line),
+        Err(TraceFault::Memory) => (99, 99),
+    }
+}
+
 fn answer(rt: &HostRuntime, text: &[u8]) -> (u8, u64) {
-    match read(rt, text) {
-        None => (98, 98),
-        Some(Ok(entries)) => (0, entries.len() as u64),
-        Some(Err(TraceFault::Refused { line, cause })) => (cause.number(), line),
-        Some(Err(TraceFault::Memory)) => (99, 99),
+    match Schema::read(rt.alloc(), SHOP) {
+        Ok(schema) => answer_with(rt, &schema, text),
+        Err(_) => (98, 98),
     }
 }
 

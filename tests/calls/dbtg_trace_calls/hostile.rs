@@ -1,6 +1,7 @@
 //! Traces of any bytes: each byte in each place of a trace, and each beginning of one.
 
-use super::answer;
+use super::{SHOP, answer, answer_with};
+use dbtg_schema::Schema;
 use std::test::*;
 
 const LINE: &[u8] = b"1: STORE ITEM PART = \"A\" QTY = 5 => 0000 ITEM:1 PART=\"A   \" QTY=5";
@@ -26,12 +27,14 @@ fn can_come(at: usize, byte: u8, told: (u8, u64)) -> bool {
     }
 }
 
-/// The first byte whose answer cannot come in this place; none where there is no such.
+/// The first byte whose answer cannot come in this place; none where there is no such. The schema is read once for all bytes, since
+/// that takes far longer than reading a line.
 fn wrong_byte(rt: &HostRuntime, at: usize) -> Option<u8> {
+    let Ok(schema) = Schema::read(rt.alloc(), SHOP) else { return Some(0) };
     for byte in 0..=255u8 {
         let told = match changed(rt, at, byte) {
             None => (98, 98),
-            Some(text) => answer(rt, text.as_slice()),
+            Some(text) => answer_with(rt, &schema, text.as_slice()),
         };
         if !can_come(at, byte, told) {
             return Some(byte);
