@@ -1,6 +1,7 @@
 pub mod Turning
 pub mod Alike
 pub mod ComesOut
+pub mod ByTurns
 pub mod Keyed
 pub mod Placed
 pub mod Before

@@ -1,4 +1,5 @@
--- The law of the machine of events and the orders: every run in which programs come to their ends is one of the results.
+-- The laws of runs and orders: every run in which programs come to their ends is one of the results, a run of the machine of events and
+-- one by turns.
 -- m is a meeting, u a unit.
 use Rattle.std.specs.Prelude.{ℕ, ◌≡◌, true, false, List, [], ◌∷◌, ◌++◌, Some, map, length}
 use Rattle.std.specs.List.{range_with_len}
@@ -13,7 +14,10 @@ use Rattle.dbtg_step.specs.declared.results.Run.{Run}
 use Rattle.dbtg_step.specs.Laws.{scripts_fit}
 use Rattle.dbtg_step.specs.Machine.Headline.{RunIs}
 use Rattle.dbtg_step.specs.Machine.SequentialDatabase.{unit_at}
+use Rattle.dbtg_going.specs.declared.around.Around.{Around}
+use Rattle.dbtg_going.specs.declared.going.ProgramRun.{ProgramRun}
 use Rattle.dbtg_going.specs.Texts.{programs_text}
+use Rattle.dbtg_going.specs.Turns.{IsRunOf, after_turns, turns_before, turns_of}
 use Rattle.dbtg_outcomes.specs.Results.{by_unit}
 use Rattle.dbtg_explore.specs.Orders.{IsEnd, Meeting, beginning, can_go_on, history_of, waits}
 use Rattle.dbtg_explore.specs.Results.{reached_of, result_text}
@@ -44,3 +48,17 @@ pub record ComesOut (m : Meeting) (run : Run) : Type 0 where
 -- whatever the moves and the scripts, a script for each program: if the run makes all statements of the programs, and no others
 abbrev pub EveryRunComesOut : Meeting → Type 0
 EveryRunComesOut m = (scripts : List (List Statement)) (moves : List Move) (run : Run) → length scripts ≡ length m.programs → scripts_fit m.schema scripts ≡ true → RunIs m.schema m.capacity scripts moves run → MakesAll m run.history → ComesOut m run
+
+-- BY TURNS
+
+-- a run of the programs by turns, after which none of them can go on. It begins like the meeting, by the turns of the first program and by
+-- told ones; then come these turns, and those of the last program
+pub record RunsToItsEnd (m : Meeting) (around : Around) (told turns : List ℕ) (given : ProgramRun) : Type 0 where
+  pub is_run : IsRunOf m.schema m.capacity m.programs (turns_of m.schema m.capacity m.programs around (Some (told ++ turns))) given
+  pub begins : beginning m ≡ after_turns m.schema m.capacity m.programs [] (turns_before around (length m.programs) (Some told))
+  pub last_is : m.last_waits ≡ around.last
+  pub at_end : (u : ℕ) → can_go_on m given.run.history u ≡ false
+
+-- whatever the turns
+abbrev pub EveryRunByTurnsComesOut : Meeting → Type 0
+EveryRunByTurnsComesOut m = (around : Around) (told turns : List ℕ) (given : ProgramRun) → RunsToItsEnd m around told turns given → ComesOut m given.run

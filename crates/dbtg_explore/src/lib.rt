@@ -16,6 +16,6 @@ mod told;
 mod whereabouts;
 
 pub use explored::{Endless, Explored, Failure, explore};
-pub use laws::every_run_comes_out;
+pub use laws::{every_run_by_turns_comes_out, every_run_comes_out};
 pub use meeting::Meeting;
 pub use told::told_text;

@@ -1,4 +1,5 @@
 mod LeftOut
 mod MeetingsRead
+mod OnThreads
 mod Results
 mod Rows

@@ -1,3 +1,4 @@
 pub mod Texts
 pub mod Exploring
+pub mod Laws
 pub mod Inside
