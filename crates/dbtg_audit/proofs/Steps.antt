@@ -238,16 +238,6 @@ units_of_trace units (Some script) traced h = one_further traced h
     one_further [] h = refl
     one_further (t ∷ ts) h = let parts = and_parts (is_unit units t.unit) _ h in and_from (is_unit (units + 1) t.unit) _ (still t.unit parts.0) (one_further ts parts.1)
 
--- what holds of the schema and the capacity of a database holds of those with which it was loaded
-pub at_schema : (schema : Lists) (capacity units : ℕ) (load : Option (List Statement)) (m : Making) (P : Lists → ℕ → Type 0) → IsLoaded schema capacity units load m → (IsLoaded m.schema m.capacity units load m → P m.schema m.capacity) → P schema capacity
-at_schema schema capacity units load m P h f =
-    let s : m.schema ≡ schema = ap (λ (m : Making). m.schema) h.same in
-    let k : m.capacity ≡ capacity = ap (λ (m : Making). m.capacity) h.same in
-    subst (λ (x : Lists). P x capacity) s (subst (λ (n : ℕ). P m.schema n) k (f (record {
-      same = h.same ∙ (λ i. record { schema = sym s i; capacity = sym k i; units = units_with units load; history = m.history });
-      statements = h.statements;
-    })))
-
 -- two histories of the same first statements lead to the same
 module _ (schema : Lists) (capacity : ℕ) where
   record Together (xs ys : List (ℕ × Statement)) (made history : List Entry) : Type 0 where

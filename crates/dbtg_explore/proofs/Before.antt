@@ -12,11 +12,6 @@ lower_trans (x ∷ a) (y ∷ b) (z ∷ c) (inl l) (inr m) = let e = m.0 in inl (
 lower_trans (x ∷ a) (y ∷ b) (z ∷ c) (inr l) (inl m) = let e = l.0 in inl (omega arith)
 lower_trans (x ∷ a) (y ∷ b) (z ∷ c) (inr l) (inr m) = inr (l.0 ∙ m.0, lower_trans a b c l.1 m.1)
 
-lower_itself : (a : List ℕ) → IsLower a a → ⊥
-lower_itself [] h = h
-lower_itself (x ∷ a) (inl l) = omega arith
-lower_itself (x ∷ a) (inr l) = lower_itself a l.1
-
 pub lower_total : (a b : List ℕ) → length a ≡ length b → (a ≡ b) ⊎ (IsLower a b ⊎ IsLower b a)
 lower_total [] [] e = inl refl
 lower_total [] (y ∷ b) e = absurd (omega arith)
@@ -54,26 +49,6 @@ before_trans a b c (inl l) (inl m) = inl (omega arith)
 before_trans a b c (inl l) (inr m) = let e = m.0 in inl (omega arith)
 before_trans a b c (inr l) (inl m) = let e = l.0 in inl (omega arith)
 before_trans a b c (inr l) (inr m) = inr (l.0 ∙ m.0, lower_trans a b c l.1 m.1)
-
-pub before_itself : (a : List ℕ) → IsBefore a a → ⊥
-before_itself a (inl l) = omega arith
-before_itself a (inr l) = lower_itself a l.1
-
-pub before_total : (a b : List ℕ) → (a ≡ b) ⊎ (IsBefore a b ⊎ IsBefore b a)
-before_total a b =
-    elim (cases_lt (length a) (length b)) [
-      | inl short ↦ inr (inl (inl short))
-      | inr not_short ↦ elim (cases_lt (length b) (length a)) [
-        | inl long ↦ inr (inr (inl long))
-        | inr same ↦
-            let here : length a ≡ length b = omega arith in
-            elim (lower_total a b here) [
-              | inl e ↦ inl e
-              | inr (inl below) ↦ inr (inl (inr (here, below)))
-              | inr (inr above) ↦ inr (inr (inr (sym here, above)))
-            ]
-      ]
-    ]
 
 pub before_push : (a b : List ℕ) (u v : ℕ) → IsBefore a b → IsBefore (a ++ u ∷ []) (b ++ v ∷ [])
 before_push a b u v (inl l) = inl (omega (arith, length_push a u, length_push b v))

@@ -7,7 +7,7 @@ use Rattle.std.proofs.lemmas.List.{get_or_default, length-map, length-take-le, m
 use Rattle.dbtg_schema.specs.Lookups.{some_and}
 use Rattle.dbtg_schema.specs.Structure.{place_of}
 use Rattle.dbtg_schema.specs.declared.shape.Item.{Item}
-use Rattle.dbtg_schema.proofs.Public.{or_none, position_more}
+use Rattle.dbtg_schema.proofs.Public.{position_more}
 use Rattle.dbtg_program.specs.declared.cutting.Holding as code
 use Rattle.dbtg_program.specs.declared.places.Places.{Places}
 use Rattle.dbtg_program.specs.Sentences.{Holding, field_named, paragraph_at}
@@ -28,10 +28,6 @@ paragraph_entered old new xs i d lt before enters q =
     ∙ sym (position_more (λ (l : Holding). some_and (bytes_eq q) l.paragraph) 0 ls (view_holding x))
     ∙ ap (λ (z : code.Holding). paragraph_at (ls ++ view_holding z ∷ []) q) is
     ∙ ap (λ (zs : List Holding). paragraph_at zs q) (sym (map_more view_holding xs i x lt))
-
--- a sentence that begins no paragraph
-pub none_entered : (places : Places) (q : List ℕ) (o : Option (List ℕ)) (i : ℕ) → o ≡ None → leads_to places q ≡ option_or (leads_to places q) (cond (some_and (bytes_eq q) o) (Some i) None)
-none_entered places q o i h = sym (or_none (leads_to places q)) ∙ ap (λ (p : Option (List ℕ)). option_or (leads_to places q) (cond (some_and (bytes_eq q) p) (Some i) None)) (sym h)
 
 -- the field at i is entered
 pub field_entered : (old new : Places) (xs : List Item) (i : ℕ) (x : Item) → i < length xs → x ≡ get_or xs i x → ((q : List ℕ) → leads_to old q ≡ field_named (take i xs) q)

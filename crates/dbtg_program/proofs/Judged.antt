@@ -227,9 +227,6 @@ pub short_text : (schema : Lists) (text : List ℕ) → length text ≤ 1048576 
 unfolding lines_verdict
 short_text schema text h = let e : nat_lt 1048576 (length text) ≡ false = grind (arith, nat_tests) in rw e refl
 
-pub long_text : (schema : Lists) (text : List ℕ) → 1048576 < length text → refusal schema text ≡ Some (record { line = 1; cause = AsInScript TooMuch })
-long_text schema text h = let e : nat_lt 1048576 (length text) ≡ true = grind (arith, nat_tests) in rw e refl
-
 pub long_told : (text : List ℕ) (f : Fault) → 1048576 < length text → first (too_long text) ≡ Some f → program_fault.Refused 1 (AsInScript TooMuch) ≡ program_fault.Refused f.line f.cause
 long_told text f h wrong =
     let e : nat_lt 1048576 (length text) ≡ true = grind (arith, nat_tests) in

@@ -1,21 +1,11 @@
 -- The words of a statement with their marks, by how it begins.
-use Rattle.std.proofs.Common.{◌≡◌, Bool, true, false, cond, ◌&&◌, List, [], ◌∷◌, ◌++◌, drop, length, map, take, refl, ap, sym, ◌∙◌, arith}
+use Rattle.std.proofs.Common.{◌≡◌, Bool, true, false, cond, ◌&&◌, List, [], ◌∷◌, ◌++◌, length, map, refl, ap, sym, ◌∙◌, arith}
 use Rattle.std.specs.List.{list_any}
 use Rattle.std.specs.Prelude.{codes, nat_lt}
 use Rattle.std.proofs.lemmas.Bool.Decides.{nat_tests}
 use Rattle.dbtg_script.specs.declared.token.Token as code
 use Rattle.dbtg_script.specs.Tokens.{Token, view}
 use Rattle.dbtg_program.specs.Sentences.{is_spelled, marked, marked_from, word_at}
-
--- it begins with FIND SORTED
-pub sorted_marks : (ws : List code.Token) → (nat_lt 1 (length ws) && is_spelled (codes "FIND") (word_at 0 (map view ws)) && is_spelled (codes "SORTED") (word_at 1 (map view ws))) ≡ true
-    → marked (map view ws) ≡ map (λ w. (view w, false)) (take 2 ws) ++ marked_from true (map view (drop 2 ws))
-sorted_marks [] h = absurd cc
-sorted_marks (v ∷ []) h = absurd cc
-sorted_marks (v ∷ w ∷ ws) h =
-    let long : nat_lt 1 (length (v ∷ w ∷ ws)) ≡ true = grind (arith, nat_tests) in
-    ap (λ (b : Bool). cond b ((view v, false) ∷ (view w, false) ∷ marked_from true (map view ws)) (marked_from false (map view (v ∷ w ∷ ws))))
-    (ap (λ (t : Bool). t && is_spelled (codes "FIND") (view v) && is_spelled (codes "SORTED") (view w)) (sym long) ∙ h)
 
 -- it begins otherwise
 pub other_marks : (ws : List code.Token) → (nat_lt 1 (length ws) && is_spelled (codes "FIND") (word_at 0 (map view ws)) && is_spelled (codes "SORTED") (word_at 1 (map view ws))) ≡ false
@@ -26,13 +16,6 @@ other_marks (v ∷ w ∷ ws) h =
     let long : nat_lt 1 (length (v ∷ w ∷ ws)) ≡ true = grind (arith, nat_tests) in
     ap (λ (b : Bool). cond b ((view v, false) ∷ (view w, false) ∷ marked_from true (map view ws)) (marked_from false (map view (v ∷ w ∷ ws))))
     (ap (λ (t : Bool). t && is_spelled (codes "FIND") (view v) && is_spelled (codes "SORTED") (view w)) (sym long) ∙ h)
-
--- whether one is a field word
-pub sorted_has : (ws : List code.Token) → (nat_lt 1 (length ws) && is_spelled (codes "FIND") (word_at 0 (map view ws)) && is_spelled (codes "SORTED") (word_at 1 (map view ws))) ≡ true
-    → list_any (λ m. m.1) (marked (map view ws)) ≡ list_any (λ m. m.1) (marked_from true (map view (drop 2 ws)))
-sorted_has [] h = absurd cc
-sorted_has (v ∷ []) h = absurd cc
-sorted_has (v ∷ w ∷ ws) h = ap (list_any (λ m. m.1)) (sorted_marks (v ∷ w ∷ ws) h)
 
 pub other_has : (ws : List code.Token) → (nat_lt 1 (length ws) && is_spelled (codes "FIND") (word_at 0 (map view ws)) && is_spelled (codes "SORTED") (word_at 1 (map view ws))) ≡ false
     → list_any (λ m. m.1) (marked (map view ws)) ≡ list_any (λ m. m.1) (marked_from false (map view ws))

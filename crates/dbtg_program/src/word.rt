@@ -2,9 +2,9 @@
 
 ghost use Rattle.dbtg_schema.specs.Texts.Spelling.{among};
 ghost use Rattle.dbtg_script.specs.Tokens.{view};
-ghost use Rattle.dbtg_program.specs.Sentences.{begins, is_equals, is_field_word, is_own_name, is_spelled, is_two_parts, is_word, plain_text, spelling, text_in, verb_of, verbs, word_at};
+ghost use Rattle.dbtg_program.specs.Sentences.{begins, is_equals, is_field_word, is_own_name, is_spelled, is_two_parts, is_word, spelling, text_in, verb_of, verbs, word_at};
 ghost use Rattle.std.specs.List.{find};
-ghost use Rattle.std.specs.Prelude.{◌≡◌, map, option_map};
+ghost use Rattle.std.specs.Prelude.{◌≡◌, map};
 ghost use Rattle.std.specs.Str.{bytes_eq};
 
 use crate::grammar::Keyword;
@@ -25,18 +25,7 @@ const NO_NAMES: [Keyword; 10] = [
     Keyword::Stop,
 ];
 
-/// The text of a word without quotation marks.
-pub fn plain_text(token: Token<'_>) -> Option<&[u8]>
-    ensures { option_map (λ t. t.now) result ≡ plain_text (view token.entry) }
-{
-    match token {
-        Token::Plain(text) => Some(text),
-        Token::Equals => None,
-        Token::Literal(_) => None,
-    }
-}
-
-/// The same; nothing for other words.
+/// The text of a word without quotation marks; nothing for other words.
 pub fn text_in(token: Token<'_>) -> &[u8]
     ensures { result.now ≡ text_in (view token.entry) }
 {

@@ -1,5 +1,5 @@
 -- The words of a moves file, and of a turns file; the moves of a moves file.
-use Rattle.std.specs.Prelude.{◌≡◌, ℕ, ◌+◌, ◌-◌, Bool, false, not, ◌&&◌, ◌||◌, ◌==◌, nat_le, nat_lt, List, [], ◌∷◌, ◌++◌, map, Option, Some, None, if◌then◌else◌, replicate, slice_get, unwrap_or}
+use Rattle.std.specs.Prelude.{◌≡◌, ℕ, ◌+◌, ◌-◌, Bool, false, not, ◌&&◌, ◌||◌, ◌==◌, nat_le, nat_lt, List, [], ◌∷◌, ◌++◌, map, Option, Some, None, if◌then◌else◌, replicate}
 use Rattle.dbtg_schema.specs.Lookups.{first}
 use Rattle.dbtg_unit.specs.declared.moves.Move.{Move}
 use Rattle.dbtg_unit.specs.declared.moves.Move.TheVariants.{Step, Quit}
@@ -24,10 +24,6 @@ onto_word b (c ∷ cs) (w ∷ ws) = if is_gap c then (b ∷ []) ∷ w ∷ ws els
 unfoldable pub words : List ℕ → List (List ℕ)
 words [] = []
 words (b ∷ bs) = if is_gap b then words bs else onto_word b bs (words bs)
-
--- the word with this number, from 1; nothing if there are fewer
-abbrev pub nth_word : ℕ → List ℕ → List ℕ
-nth_word number text = unwrap_or (slice_get (words text) (number - 1)) []
 
 -- the first byte of the word is c
 abbrev pub begins_with : ℕ → List ℕ → Bool

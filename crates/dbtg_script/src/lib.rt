@@ -48,7 +48,7 @@ pub use line::{
     Lines, ends_in_text, is_allowed, is_printable, is_statement, trimmed, without_last,
 };
 pub use line_cache::{LineCache, Seen};
-pub use moves::{MovesCause, MovesFault, nth_word, read_moves};
+pub use moves::{MovesCause, MovesFault, read_moves};
 pub use print::{push_items, push_key, push_mode, push_number, push_owner, push_status};
 pub use reader::{read_script, read_script_line};
 pub use said_words::read_statement_words;

@@ -1,6 +1,6 @@
 //! Reading moves: words that say which unit steps or quits.
 
-ghost use Rattle.dbtg_script.specs.Moves.{RefusedAtOnce, Refuses, begins_with, cause_number, counted, is_gap, moves_of, nth_word, plain_number, quit_of, refusal, refused_word, repeated, spelled_move, spelled_turn, steps_of, times, words};
+ghost use Rattle.dbtg_script.specs.Moves.{RefusedAtOnce, Refuses, begins_with, cause_number, counted, is_gap, moves_of, plain_number, quit_of, refusal, refused_word, repeated, spelled_move, spelled_turn, steps_of, times, words};
 ghost use Rattle.dbtg_script.specs.declared.moves.MovesFault.TheVariants.{Memory};
 ghost use Rattle.std.specs.Prelude.{◌≡◌, ◌+◌, ◌-◌, ◌++◌, ◌<◌, ◌≤◌, ◌∷◌, ℕ, List, [], IfErr, IfOk, IfSome, MatchOption, MatchResult, None, OnOk, OnSome, Option, Some, false, length, replicate, slice_index, true};
 
@@ -101,21 +101,6 @@ impl<'a> Words<'a> {
         }
         None
     }
-}
-
-/// The word with this number, from 1; nothing if there are fewer.
-pub fn nth_word(text: &[u8], number: u64) -> &[u8]
-    ensures { result.now ≡ nth_word number text.now }
-{
-    let mut before = number.saturating_sub(1);
-    let mut left = Words { rest: text };
-    while let Some(word) = left.next() {
-        if before == 0 {
-            return word;
-        }
-        before -= 1;
-    }
-    &text[..0]
 }
 
 fn begins_with(text: &[u8], c: u8) -> bool

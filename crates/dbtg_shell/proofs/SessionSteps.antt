@@ -1,5 +1,5 @@
 -- A session by one line more.
-use Rattle.std.proofs.Common.{◌≡◌, ℕ, zero, suc, ◌+◌, ◌-◌, ◌<◌, ◌≤◌, Bool, true, false, List, [], ◌∷◌, ◌++◌, length, map, reverse, take, None, Some, slice_get, slice_set, inl, inr, refl, sym, ap, ◌∙◌, subst, arith, length-append, Option}
+use Rattle.std.proofs.Common.{◌≡◌, ℕ, zero, suc, ◌+◌, ◌-◌, ◌<◌, ◌≤◌, Bool, true, false, List, [], ◌∷◌, ◌++◌, length, map, reverse, None, Some, slice_get, slice_set, inl, inr, refl, sym, ap, ◌∙◌, subst, arith, length-append, Option}
 use Rattle.std.specs.Prelude.{Err, IfOk, Ok, OnErr, Result, nat_le, option_map, replicate, unwrap_or}
 use Rattle.std.proofs.lemmas.Bool.{and_parts, leb-true}
 use Rattle.std.proofs.lemmas.List.{length-map, length-reverse, length-set, map_push, reverse-append, reverse-reverse}
@@ -26,11 +26,6 @@ use Rattle.dbtg_shell.specs.declared.session.Script.{Script}
 -- at most 8 units
 pub few_units : (n : ℕ) → is_count n ≡ true → n ≤ 8
 few_units n h = leb-true n 8 (and_parts (nat_le 1 n) (nat_le n 8) h).1
-
--- what stands before a line is left when the line is dropped
-pub front_again : (text line : List ℕ) → take (length text) (text ++ line ++ 10 ∷ []) ≡ text
-front_again [] line = refl
-front_again (b ∷ bs) line = ap (λ (text : List ℕ). b ∷ text) (front_again bs line)
 
 -- SCRIPTS
 

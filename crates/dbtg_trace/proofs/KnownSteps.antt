@@ -1,7 +1,7 @@
 -- Parts of lines that were read before, as lines of scripts.
-use Rattle.std.proofs.Common.{◌≡◌, ℕ, zero, suc, ◌<◌, true, List, [], ◌∷◌, ◌++◌, length, map, Option, Some, None, slice_get, refl, sym, ap, subst, ◌∙◌, arith}
+use Rattle.std.proofs.Common.{◌≡◌, ℕ, zero, suc, ◌<◌, true, List, [], ◌∷◌, ◌++◌, length, map, Option, Some, None, slice_get, sym, ap, subst, ◌∙◌, arith}
 use Rattle.std.specs.Prelude.{option_map, OnErr, Result, Ok, Err}
-use Rattle.std.proofs.lemmas.List.{length-map, map_push}
+use Rattle.std.proofs.lemmas.List.{length-map}
 use Rattle.dbtg_schema.specs.Lists.{Lists}
 use Rattle.dbtg_schema.specs.Lookups.{first}
 use Rattle.dbtg_schema.specs.Sound.{IsSound}
@@ -9,8 +9,7 @@ use Rattle.dbtg_cells.proofs.Public.{get_behind}
 use Rattle.dbtg_unit.specs.declared.limits.TheConstants.{MOST_STATEMENTS}
 use Rattle.dbtg_unit.specs.declared.statement.Statement.{Statement}
 use Rattle.dbtg_unit.specs.Database.Statements.Fits.{fits}
-use Rattle.dbtg_script.specs.declared.line_cache.Seen.{Seen}
-use Rattle.dbtg_script.specs.LineCache.{IsKnown, IsRead}
+use Rattle.dbtg_script.specs.LineCache.{IsRead}
 use Rattle.dbtg_script.specs.Lines.{trimmed}
 use Rattle.dbtg_script.specs.StatementFaults.{line_faults}
 use Rattle.dbtg_script.specs.Statements.{line_statement}
@@ -50,9 +49,6 @@ pub read_next : (schema : Lists) (ts : List Traced) (line : List ℕ) (s : State
 read_next schema ts line s h =
     subst (IsRead schema (statements_in ts ++ s ∷ []) line) (length-map ts (λ (t : Traced). t.statement))
     (record { holds_one = h.holds_one; faultless = h.faultless; said = get_behind (statements_in ts) s [] ∙ h.said })
-
-pub known_behind : (schema : Lists) (ts : List Traced) (t : Traced) (places : List (Option Seen)) → IsKnown schema (statements_in ts ++ t.statement ∷ []) places → IsKnown schema (statements_in (ts ++ t ∷ [])) places
-known_behind schema ts t places h = subst (λ ss. IsKnown schema ss places) (sym (map_push (λ (x : Traced). x.statement) ts t)) h
 
 -- A PART THAT IS SUCH A LINE
 
