@@ -1,10 +1,9 @@
 -- A run of programs by turns, after which none can go on, has the history of one of the orders.
 -- m is a meeting, es are entries, u and k are units.
-use Rattle.std.proofs.Common.{◌≡◌, ◌≢◌, refl, sym, ◌∙◌, ap, subst, ℕ, zero, suc, ◌+◌, ◌-◌, ◌<◌, ◌≤◌, Bool, true, false, ◌&&◌, List, [], ◌∷◌, ◌++◌, length, map, Option, Some, None, arith, append_assoc}
+use Rattle.std.proofs.Common.{◌≡◌, ◌≢◌, refl, sym, ◌∙◌, ap, subst, ℕ, zero, suc, ◌+◌, ◌-◌, ◌<◌, ◌≤◌, Bool, true, false, ◌&&◌, List, [], ◌∷◌, ◌++◌, length, Option, Some, None, arith, append_assoc}
 use Rattle.std.specs.Prelude.{◌==◌, if◌then◌else◌, filter, is_some, nat_lt, not, option_and_then, replicate}
 use Rattle.std.specs.List.{list_any, range_with_len}
 use Rattle.std.proofs.lemmas.List.Elements.{filter-append}
-use Rattle.dbtg_script.specs.Printing.Texts.{run_text}
 use Rattle.dbtg_unit.specs.declared.statement.Statement.{Statement}
 use Rattle.dbtg_unit.specs.declared.limits.TheConstants.{MOST_STATEMENTS}
 use Rattle.dbtg_unit.specs.declared.unit.Entry.{Entry}
@@ -18,16 +17,13 @@ use Rattle.dbtg_program.specs.Going.{next, state_after as program_state_after}
 use Rattle.dbtg_step.specs.Machine.SequentialDatabase.{unit_at}
 use Rattle.dbtg_going.specs.declared.around.Around.{Around}
 use Rattle.dbtg_going.specs.declared.going.ProgramRun.{ProgramRun}
-use Rattle.dbtg_going.specs.Texts.{programs_text}
 use Rattle.dbtg_going.specs.Turns as turns
-use Rattle.dbtg_going.specs.Turns.{after_turns, comes, first_turns, have_ended, is_heard, last_turns, made, statement_due, to_the_end, turns_before, turns_of}
+use Rattle.dbtg_going.specs.Turns.{after_turns, comes, first_turns, have_ended, is_heard, last_turns, made, statement_due, to_the_end, turns_before}
 use Rattle.dbtg_going.proofs.Turning.{turns_behind}
-use Rattle.dbtg_outcomes.specs.Results.{by_unit}
 use Rattle.dbtg_explore.specs.Laws.{ComesOut, EveryRunByTurnsComesOut, RunsToItsEnd}
-use Rattle.dbtg_explore.specs.Orders.{IsOrder, Meeting, after_turn, beginning, can_go_on, can_turn, due_of, history_of, waits}
-use Rattle.dbtg_explore.specs.Results.{reached_of, state_text}
-use Rattle.dbtg_explore.specs.States.{sequential_after, state_after}
-use Rattle.dbtg_explore.proofs.ComesOut.{HasOrder}
+use Rattle.dbtg_explore.specs.Orders.{Meeting, after_turn, beginning, can_go_on, can_turn, due_of, history_of, waits}
+use Rattle.dbtg_explore.specs.States.{sequential_after}
+use Rattle.dbtg_explore.proofs.ComesOut.{HasOrder, from_order}
 use Rattle.dbtg_explore.proofs.Turning.{history_on, no_turn, none_follow, order_on}
 
 -- TESTS
@@ -199,14 +195,7 @@ module _ (m : Meeting) (around : Around) (last_is : m.last_waits ≡ around.last
         let image : run.image ≡ image_of m.schema m.capacity (sequential_after m run.history).database
         = made_run.image_is ∙ ap (λ es. image_of m.schema m.capacity (sequential_after m es).database) (sym made_run.history_is) in
         let units_are : run.units ≡ (sequential_after m run.history).units = made_run.units_are ∙ ap (λ es. (sequential_after m es).units) (sym made_run.history_is) in
-        record {
-          order = has.order;
-          is_end = record { is_order = has.is_order; at_end = λ u. ap (λ es. can_go_on m es u) (sym history) ∙ is.at_end u };
-          history_is = history;
-          text_is =
-              (λ i. run_text m.schema [] (image i).records (image i).lists (image i).next (map (by_unit (range_with_len 1 (length m.programs))) (image i).usage) (units_are i) ++ programs_text 1 m.programs (map reached_of (state_after m run.history).programs))
-              ∙ ap (λ es. state_text m (state_after m es)) history;
-        }
+        from_order m run (record { order = has.order; is_order = has.is_order; history_is = history }) image units_are is.at_end
 
 pub every_run_by_turns : (m : Meeting) → EveryRunByTurnsComesOut m
 every_run_by_turns m around told ts given is = comes_out m around is.last_is told ts given is

@@ -159,6 +159,19 @@ module _ (m : Meeting) where
       let there : before ++ e ∷ [] ≡ history_of m (o ++ e.unit ∷ []) = sym (turn_made before e rest l) ∙ ap (λ es. after_turn m es e.unit) at ∙ sym (history_on m o e.unit) in
       subst HasOrder (append_assoc before (e ∷ []) rest) (along (o ++ e.unit ∷ []) (before ++ e ∷ []) rest (order_on m o e.unit is can) there (left_then before e rest l))
 
+  -- what comes of it: a run whose history has an order, and after which no program can go on
+  pub from_order : (run : Run) → HasOrder run.history → run.image ≡ image_of m.schema m.capacity (sequential_after m run.history).database → run.units ≡ (sequential_after m run.history).units
+      → ((u : ℕ) → can_go_on m run.history u ≡ false) → ComesOut m run
+  from_order run has image units at_end =
+      record {
+        order = has.order;
+        is_end = record { is_order = has.is_order; at_end = λ u. ap (λ es. can_go_on m es u) (sym has.history_is) ∙ at_end u };
+        history_is = has.history_is;
+        text_is =
+            (λ i. run_text m.schema [] (image i).records (image i).lists (image i).next (map (by_unit (range_with_len 1 (length m.programs))) (image i).usage) (units i) ++ programs_text 1 m.programs (map reached_of (state_after m run.history).programs))
+            ∙ ap (λ es. state_text m (state_after m es)) has.history_is;
+      }
+
   -- A RUN
 
   module _ (scripts : List (List Statement)) (moves : List Move) (run : Run) (count : length scripts ≡ length m.programs) (fit : scripts_fit m.schema scripts ≡ true) (is : RunIs m.schema m.capacity scripts moves run) (all : MakesAll m run.history) where
@@ -212,14 +225,7 @@ module _ (m : Meeting) where
         let image : run.image ≡ image_of m.schema m.capacity (sequential_after m run.history).database
         = is.sequential.image_is ∙ ap (λ n. image_of m.schema m.capacity (replay m.schema m.capacity (opening_state m.schema n) run.history).database) count in
         let units : run.units ≡ (sequential_after m run.history).units = is.sequential.units_are ∙ ap (λ n. (replay m.schema m.capacity (opening_state m.schema n) run.history).units) count in
-        record {
-          order = has.order;
-          is_end = record { is_order = has.is_order; at_end = λ u. ap (λ es. can_go_on m es u) (sym history) ∙ all.at_end u };
-          history_is = history;
-          text_is =
-              (λ i. run_text m.schema [] (image i).records (image i).lists (image i).next (map (by_unit (range_with_len 1 (length m.programs))) (image i).usage) (units i) ++ programs_text 1 m.programs (map reached_of (state_after m run.history).programs))
-              ∙ ap (λ es. state_text m (state_after m es)) history;
-        }
+        from_order run (record { order = has.order; is_order = has.is_order; history_is = history }) image units all.at_end
 
 pub every_run : (m : Meeting) → EveryRunComesOut m
 every_run m scripts moves run count fit is all = comes_out m scripts moves run count fit is all

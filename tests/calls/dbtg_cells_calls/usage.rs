@@ -67,8 +67,8 @@ fn every_unit_in_the_list_is_compared(rt: HostRuntime) -> Result<(), Fail> {
     assert!(rt; !usage.conflicts_with(Mode::Retrieval));
     assert!(rt; usage.users() == [(1, Mode::Retrieval), (2, Mode::Update)].as_slice());
     usage.leave(2);
-    assert!(rt; usage.mode_of(2) == None);
-    assert!(rt; usage.mode_of(1) == Some(Mode::Retrieval));
+    assert!(rt; usage.mode_in(2) == None);
+    assert!(rt; usage.mode_in(1) == Some(Mode::Retrieval));
     assert!(rt; !usage.conflicts_with(Mode::ProtectedUpdate));
     Ok(())
 }
