@@ -7,6 +7,7 @@ use std::test::*;
 mod faults;
 mod limits;
 mod sentences;
+mod states;
 
 /// Two areas, customers with their orders, and the items of an order, sorted by QTY; ORDR and ITEM both have an item QTY.
 const SHOP: &[u8] =
