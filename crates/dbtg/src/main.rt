@@ -494,7 +494,7 @@ fn wish_of(wished: Wished) -> Wish
     ensures { result.status < 10000 }
 {
     Wish {
-        unit: wished.unit.min(LAST_UNIT.into()) as u8,
+        unit: wished.unit.min(LAST_UNIT as u64) as u8,
         place: wished.place as usize,
         status: wished.status.min(GREATEST_STATUS),
         never: wished.never,

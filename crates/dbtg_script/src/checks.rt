@@ -69,7 +69,7 @@ pub fn key_fault(schema: &Schema, text: &[u8]) -> Option<Cause>
         Some(Cause::UnknownRecordType)
     } else if up_to(999_999, number(key_number(text))) == 0 {
         Some(Cause::OutOfRange)
-    } else if up_to(LAST_GENERATION.into(), generation(text)) == 0 {
+    } else if up_to(LAST_GENERATION as u64, generation(text)) == 0 {
         Some(Cause::OutOfRange)
     } else {
         None

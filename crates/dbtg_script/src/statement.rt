@@ -147,7 +147,7 @@ pub fn key_of(schema: &Schema, text: &[u8]) -> DbKey
     DbKey {
         rtype: type_no(schema, key_name(text)),
         number: up_to(999_999, number(key_number(text))) as u32,
-        generation: up_to(LAST_GENERATION.into(), generation(text)) as u8,
+        generation: up_to(LAST_GENERATION as u64, generation(text)) as u8,
     }
 }
 

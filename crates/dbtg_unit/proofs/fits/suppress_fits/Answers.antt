@@ -3,8 +3,8 @@ use Rattle.std.proofs.lemmas.Bool.Decides.{nat_tests}
 use Rattle.std.proofs.Math.Pow.{pow_mono}
 use Rattle.dbtg_unit.proofs.fits.suppress_fits.Goals as goal
 
-pub returns-then-count-ge16 : goal.returns-then-count-ge16
-returns-then-count-ge16 c =
+pub returns-then-count-ge-MOST_SETS : goal.returns-then-count-ge-MOST_SETS
+returns-then-count-ge-MOST_SETS c =
     let counted : length c.sets-count.result.now ≡ length c.args.schema.now.sets = ap length c.sets-count.ensures.sets in
     let many : 16 ≤ length c.args.schema.now.sets = omega arith in
     let power : 65536 ≤ 2 ^ length c.args.schema.now.sets = pow_mono {i = 16} {j = length c.args.schema.now.sets} many in
