@@ -1,4 +1,5 @@
--- What the orders are, and the law of the machine of events and the outcomes: every run comes out as one of the results.
+-- What the orders are, and the laws of runs and outcomes: every run of the machine of events comes out as one of the results, and so does
+-- every history of the sequential database in which all scripts are made.
 -- m is a meeting of scripts, u a unit.
 use Rattle.std.specs.Prelude.{ℕ, ◌≡◌, ◌<◌, ◌≤◌, ◌==◌, Bool, List, [], ◌∷◌, ◌++◌, ⊤, Some, None, map, filter, length, flat_map, Contains, if◌then◌else◌}
 use Rattle.dbtg_schema.specs.Lists.{Lists}
@@ -10,6 +11,7 @@ use Rattle.dbtg_unit.specs.Database.Statements.Codes.{status_code}
 use Rattle.dbtg_unit.specs.Database.Laws.Replay.{entries_of}
 use Rattle.dbtg_unit.specs.Database.Laws.Replaying.{statements_of}
 use Rattle.dbtg_step.specs.declared.results.Run.{Run}
+use Rattle.dbtg_step.specs.Core.Audit.{LeadsTo}
 use Rattle.dbtg_step.specs.Machine.SequentialDatabase.{unit_at}
 use Rattle.dbtg_step.specs.Machine.Machine.{State, UnitState}
 use Rattle.dbtg_step.specs.Machine.Network.{network}
@@ -86,3 +88,16 @@ pub record ComesOut (m : Meeting) (run : Run) : Type 0 where
 -- has drawn its tickets before all others
 abbrev pub EveryRunComesOut : Meeting → Type 0
 EveryRunComesOut m = (moves : List Move) (run : Run) → IsAtEnd m.schema m.capacity (machine_after m.schema m.capacity m.scripts moves) → RunIs m.schema m.capacity m.scripts moves run → BeginsWith (made_first m.first m.scripts) (statements_of run.history) → ComesOut m run
+
+-- HISTORIES
+
+-- a history of the sequential database that leads to the image and the units of the run; the entries of each unit have just the statements
+-- of its script; and those of the script that is made first come before all others
+pub record MakesAll (m : Meeting) (run : Run) : Type 0 where
+  pub leads : LeadsTo m.schema m.capacity (length m.scripts) run.history run.image run.units
+  pub of_scripts : (u : ℕ) (script : List Statement) → unit_at m.scripts u ≡ Some script → map (λ e. e.statement) (entries_of u run.history) ≡ script
+  pub begins : BeginsWith (made_first m.first m.scripts) (statements_of run.history)
+
+-- such a history comes out, wherever it comes from
+abbrev pub EveryHistoryComesOut : Meeting → Type 0
+EveryHistoryComesOut m = (run : Run) → MakesAll m run → ComesOut m run

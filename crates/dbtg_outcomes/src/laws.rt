@@ -2,7 +2,7 @@
 ghost use Rattle.std.specs.Prelude.{Bool, List};
 ghost use Rattle.dbtg_unit.specs.declared.statement.Statement as statement;
 ghost use Rattle.dbtg_outcomes.specs.Alike.{OrderOfOpeningIsNoState};
-ghost use Rattle.dbtg_outcomes.specs.Laws.{AreAllMerges, EveryRunComesOut};
+ghost use Rattle.dbtg_outcomes.specs.Laws.{AreAllMerges, EveryHistoryComesOut, EveryRunComesOut};
 ghost use Rattle.dbtg_outcomes.specs.Named.{key_name};
 ghost use Rattle.dbtg_outcomes.specs.Outcomes.{IsMeeting};
 ghost use Rattle.dbtg_outcomes.specs.Results.{Meeting};
@@ -20,6 +20,12 @@ pub fn orders_are_all_merges()
 /// and the status of each of its statements is one of those that the statement can have.
 pub fn every_run_comes_out()
     ensures { (m : Meeting) → IsMeeting m → EveryRunComesOut m }
+{}
+
+/// Whatever threads do: a history of the sequential database in which each unit makes its script, the one that is made first before all
+/// others, comes out as one of the results, and the status of each of its statements is one of those that the statement can have.
+pub fn every_history_comes_out()
+    ensures { (m : Meeting) → EveryHistoryComesOut m }
 {}
 
 /// Different records have different names, whatever records were stored: so results that are alike but for numbers are made one by

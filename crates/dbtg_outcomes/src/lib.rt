@@ -23,8 +23,8 @@ pub use answered::Answered;
 pub use brief::{Told, none_before, push_shown};
 pub use facts::named;
 pub use laws::{
-    every_run_comes_out, names_tell_records_apart, order_of_opening_is_no_state,
-    orders_are_all_merges,
+    every_history_comes_out, every_run_comes_out, names_tell_records_apart,
+    order_of_opening_is_no_state, orders_are_all_merges,
 };
 pub use meeting::{Meeting, as_numbers};
 pub use outcomes::{OneResult, Outcomes, all_outcomes};

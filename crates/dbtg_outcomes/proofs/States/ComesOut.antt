@@ -1,4 +1,4 @@
--- A run of moves at whose end all scripts are at their end comes out as one of the results.
+-- A run of moves at whose end all scripts are at their end comes out as one of the results, and so does a history in which all are made.
 -- m is a meeting, es are entries, o is an order, u is a unit.
 use Rattle.std.proofs.Common.{◌≡◌, refl, sym, ◌∙◌, ap, subst, ℕ, suc, ◌+◌, true, false, List, [], ◌∷◌, ◌++◌, length, map, Option, Some, None, inl, inr, arith, append-nil, slice_get}
 use Rattle.std.specs.Prelude.{◌==◌, filter, flat_map, option_map, if◌then◌else◌}
@@ -24,7 +24,7 @@ use Rattle.dbtg_step.specs.Machine.Headline.{IsSequential, RunIs, entry_of, mach
 use Rattle.dbtg_step.specs.Laws.{scripts_fit}
 use Rattle.dbtg_step.proofs.Public.{came_from, machine_stays_lawful, network_is_sequential, run_keeps_scripts, scripts_opening, statements_same}
 use Rattle.dbtg_outcomes.specs.Groups.{groups}
-use Rattle.dbtg_outcomes.specs.Laws.{BeginsWith, ComesOut, IsAtEnd, answers_of_run, text_of_run}
+use Rattle.dbtg_outcomes.specs.Laws.{BeginsWith, ComesOut, EveryHistoryComesOut, IsAtEnd, answers_of_run, text_of_run}
 use Rattle.dbtg_outcomes.specs.Orders.{made_first, orders}
 use Rattle.dbtg_outcomes.specs.Outcomes.{Comes, IsMeeting}
 use Rattle.dbtg_outcomes.specs.Results.{Meeting, answers_told, by_unit, result_text, state_of, units_of}
@@ -142,3 +142,14 @@ pub every_run : (m : Meeting) → IsMeeting m → (moves : List Move) (run : Run
 every_run m meets moves run end is front =
     comes_out m run is.sequential (λ u script e.
     ap (λ (es : List Entry). map (λ (f : Entry). f.statement) (entries_of u es)) is.history_is ∙ all_made m.schema m.capacity m.scripts meets.sound meets.fit moves end u script e) front
+
+pub every_history : (m : Meeting) → EveryHistoryComesOut m
+every_history m run all =
+    let sequential : IsSequential m.schema m.capacity m.scripts run.history run.image run.units = record {
+      tickets = all.leads.history_of.tickets;
+      answers = all.leads.history_of.answers_hold;
+      image_is = all.leads.image_is;
+      units_are = all.leads.units_are;
+      scripts_begin = λ u script at. ([], append-nil (map (λ (e : Entry). e.statement) (entries_of u run.history)) ∙ all.of_scripts u script at);
+    } in
+    comes_out m run sequential all.of_scripts all.begins
