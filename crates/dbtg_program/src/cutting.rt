@@ -103,25 +103,26 @@ fn all_apart<'a>(alloc: Global, words: &[Token<'a>]) -> Result<Vec<Token<'a>>, A
 }
 
 /// In IF and ASSERT signs are words of their own.
-fn with_signs<'a>(alloc: Global, words: Vec<Token<'a>>) -> Result<Vec<Token<'a>>, AllocError>
-    ensures { IfOk result (λ v. map view v.items ≡ with_signs (map view words.entry.items)) }
+fn set_signs_apart<'a>(alloc: Global, words: &mut Vec<Token<'a>>) -> Result<(), AllocError>
+    ensures { OnOk result (map view words.new.items ≡ with_signs (map view words.old.items)) }
 {
     let list = words.as_slice();
     if begins(list, Keyword::If) || begins(list, Keyword::Assert) {
-        return all_apart(alloc, list);
+        *words = all_apart(alloc, list)?;
     }
-    Ok(words)
+    Ok(())
 }
 
-fn tokens_of<'a>(alloc: Global, line: &'a [u8]) -> Result<Vec<Token<'a>>, AllocError>
-    ensures { IfOk result (λ v. map view v.items ≡ tokens false line.now) }
+/// Puts the words of a line into the place of those that are there.
+fn take_tokens<'a>(words: &mut Vec<Token<'a>>, line: &'a [u8]) -> Result<(), AllocError>
+    ensures { OnOk result (map view words.new.items ≡ tokens false line.now) }
 {
-    let mut words = Vec::with_capacity(alloc, 8)?;
+    words.clear();
     let mut left = Tokens { rest: line };
     while let Some(token) = left.next() {
         words.push(token)?;
     }
-    Ok(words)
+    Ok(())
 }
 
 fn ends_with(line: &[u8], c: u8) -> bool
@@ -169,12 +170,12 @@ impl<'a> Holding<'a> {
         paragraph_in(has_period, trimmed(self.line))
     }
 
-    /// The words of the line.
-    pub fn words(&self, alloc: Global) -> Result<Vec<Token<'a>>, AllocError>
-        ensures { IfOk result (λ v. map view v.items ≡ (view_holding self.now).words) }
+    /// Puts the words of the line into the place of those that are there.
+    pub fn take_words(&self, alloc: Global, words: &mut Vec<Token<'a>>) -> Result<(), AllocError>
+        ensures { OnOk result (map view words.new.items ≡ (view_holding self.now).words) }
     {
-        let words = tokens_of(alloc, trimmed(self.line))?;
-        with_signs(alloc, words)
+        take_tokens(words, trimmed(self.line))?;
+        set_signs_apart(alloc, words)
     }
 }
 

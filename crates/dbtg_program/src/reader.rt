@@ -14,7 +14,7 @@ use crate::program::{Line, Program};
 use crate::statement::read_sentence;
 use crate::text::Text;
 use dbtg_schema::Schema;
-use dbtg_script::{Cause, Lines, ends_in_text, is_allowed, is_statement, trimmed};
+use dbtg_script::{Cause, Lines, Token, ends_in_text, is_allowed, is_statement, trimmed};
 use dbtg_unit::MOST_STATEMENTS;
 use std::alloc::Global;
 
@@ -22,14 +22,14 @@ use std::alloc::Global;
 fn is_too_much(at: usize, line: &[u8]) -> bool
     ensures { result ≡ (is_statement line.now && nat_le MOST_STATEMENTS at) }
 {
-    is_statement(line) && MOST_STATEMENTS <= at
+    MOST_STATEMENTS <= at && is_statement(line)
 }
 
 /// Is this a sentence with a text that is not closed?
 fn is_open(line: &[u8]) -> bool
     ensures { result ≡ (is_statement line.now && ends_in_text false line.now) }
 {
-    is_statement(line) && ends_in_text(line)
+    ends_in_text(line) && is_statement(line)
 }
 
 /// The first fault of a line as a whole, after this many sentences.
@@ -57,14 +57,19 @@ fn count(lines: &Vec<Line>) -> usize
 }
 
 /// Takes the next sentence.
-fn take_sentence(alloc: Global, text: &Text, lines: &mut Vec<Line>) -> Result<(), LineFault>
+fn take_sentence<'a>(
+    alloc: Global,
+    text: &Text<'a>,
+    lines: &mut Vec<Line>,
+    words: &mut Vec<Token<'a>>,
+) -> Result<(), LineFault>
     ensures accepted { (l : SeenHolding) → Stands text.now (length lines.old.items) l → OnOk result (sentence_verdict text.now (length lines.old.items) l ≡ None) }
     ensures taken { (l : SeenHolding) → Stands text.now (length lines.old.items) l → OnOk result (lines.new.items ≡ lines.old.items ++ sentence_line text.now l ∷ []) }
     ensures refused { (l : SeenHolding) → Stands text.now (length lines.old.items) l → IfErr result (λ e. Refuses e (sentence_verdict text.now (length lines.old.items) l)) }
 {
     let at = count(lines);
     if let Some(holding) = text.sentence(at) {
-        let sentence = read_sentence(alloc, text, at, holding)?;
+        let sentence = read_sentence(alloc, text, at, holding, words)?;
         lines.push(Line {
             number: holding.number,
             sentence,
@@ -74,10 +79,11 @@ fn take_sentence(alloc: Global, text: &Text, lines: &mut Vec<Line>) -> Result<()
 }
 
 /// Takes a line: its sentence, if it holds one, is appended to those before it.
-fn take_line(
+fn take_line<'a>(
     alloc: Global,
-    text: &Text,
+    text: &Text<'a>,
     lines: &mut Vec<Line>,
+    words: &mut Vec<Token<'a>>,
     line: &[u8],
 ) -> Result<(), LineFault>
     ensures accepted { (l : SeenHolding) → (is_statement line.now ≡ true → Stands text.now (length lines.old.items) l) → OnOk result (line_verdict text.now (length lines.old.items) line.now l ≡ None) }
@@ -88,7 +94,7 @@ fn take_line(
         return Err(LineFault::Refused(cause));
     }
     if is_statement(line) {
-        return take_sentence(alloc, text, lines);
+        return take_sentence(alloc, text, lines, words);
     }
     Ok(())
 }
@@ -114,10 +120,11 @@ fn read_lines(alloc: Global, text: &Text, bytes: &[u8]) -> Result<Vec<Line>, Pro
     ensures refused { IfErr result (λ e. RefusesProgram e (lines_verdict text.now 0 1 (lines bytes.now))) }
 {
     let mut lines = Vec::new(alloc);
+    let mut words = Vec::new(alloc);
     let mut number: u64 = 1;
     let mut left = Lines { rest: bytes };
     while let Some(line) = left.next() {
-        if let Err(fault) = take_line(alloc, text, &mut lines, trimmed(line)) {
+        if let Err(fault) = take_line(alloc, text, &mut lines, &mut words, trimmed(line)) {
             return Err(at_line(number, fault));
         }
         number += 1;

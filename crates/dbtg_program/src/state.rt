@@ -15,12 +15,14 @@ use dbtg_unit::{Answer, Statement, Status};
 use std::alloc::{AllocError, Global};
 use std::marker::Model;
 
-/// Where a program is: its next sentence, the value of each field, the status of its last statement.
+/// Where a program is: its next sentence, the value of each field, the status of its last statement; and room for the items of an answer,
+/// so that no GET has to find it.
 #[derive(Drop)]
 pub struct State {
     at: usize,
     values: Vec<Value>,
     status: u16,
+    room: Vec<Value>,
 }
 
 impl Model for State {
@@ -67,14 +69,15 @@ fn as_field(alloc: Global, value: &Value) -> Result<Value, AllocError>
     }
 }
 
-fn as_fields(alloc: Global, items: &[Value]) -> Result<Vec<Value>, AllocError>
-    ensures { IfOk result (λ v. v.items ≡ map as_field items.now) }
+/// Puts values of the database, as fields hold them, into the place of those that are there.
+fn take_fields(alloc: Global, values: &mut Vec<Value>, items: &[Value]) -> Result<(), AllocError>
+    ensures { OnOk result (values.new.items ≡ map as_field items.now) }
 {
-    let mut values = Vec::new(alloc);
+    values.clear();
     for item in items {
         values.push(as_field(alloc, item)?)?;
     }
-    Ok(values)
+    Ok(())
 }
 
 /// The field gets a value, if there is such a field.
@@ -111,11 +114,11 @@ fn put_behind(fields: &mut [Value], first: usize, behind: usize, value: Value)
 }
 
 /// Puts these values into the fields from number `first` on; the last of them is taken out first.
-fn place(fields: &mut [Value], first: usize, mut values: Vec<Value>)
-    ensures { fields.new ≡ placed fields.old first values.items }
+fn place(fields: &mut [Value], first: usize, values: &mut Vec<Value>)
+    ensures { fields.new ≡ placed fields.old first values.old.items }
 {
     while let Some(value) = values.pop() {
-        put_behind(fields, first, count(&values), value);
+        put_behind(fields, first, count(values), value);
     }
 }
 
@@ -132,6 +135,7 @@ impl State {
             at: 0,
             values,
             status: 0,
+            room: Vec::new(alloc),
         })
     }
 
@@ -240,8 +244,8 @@ impl State {
         if let Some(items) = &answer.items {
             if let Some(key) = answer.key {
                 if let Some(first) = program.records.get(key.rtype.index() as usize) {
-                    let values = as_fields(alloc, items.as_slice())?;
-                    place(self.values.as_mut_slice(), *first, values);
+                    take_fields(alloc, &mut self.room, items.as_slice())?;
+                    place(self.values.as_mut_slice(), *first, &mut self.room);
                 }
             }
         }

@@ -132,13 +132,14 @@ fn read_verb(
     Ok(said_by(alloc, text, words, verb)?)
 }
 
-/// The sentence with this number.
+/// The sentence with this number; its words are put into the place of those that are there.
 #[tactic(auto, unfolding(crate::specs::Inside::Reading::sentence_verdict, crate::specs::Inside::Reading::statement_verdict))]
-pub fn read_sentence(
+pub fn read_sentence<'a>(
     alloc: Global,
-    text: &Text,
+    text: &Text<'a>,
     at: usize,
-    holding: &Holding,
+    holding: &Holding<'a>,
+    words: &mut Vec<Token<'a>>,
 ) -> Result<Sentence, LineFault>
     ensures accepted { OnOk result (sentence_verdict text.now at (view_holding holding.now) ≡ None) }
     ensures sentence { IfOk result (λ s. s ≡ sentence_of text.now (view_holding holding.now)) }
@@ -147,7 +148,7 @@ pub fn read_sentence(
     if let Some(name) = holding.paragraph() {
         return read_heading(text, at, name);
     }
-    let words = holding.words(alloc)?;
+    holding.take_words(alloc, words)?;
     match verb_of(words.as_slice()) {
         Some(verb) => read_verb(alloc, text, at, words.as_slice(), verb),
         None => read_statement(alloc, text, words.as_slice()),

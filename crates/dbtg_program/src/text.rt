@@ -105,8 +105,9 @@ fn counters_of(alloc: Global, sentences: &[Holding]) -> Result<Vec<Item>, AllocE
     ensures { IfOk result (λ v. v.items ≡ counters_of (map view_holding sentences.now)) }
 {
     let mut counters = Vec::new(alloc);
+    let mut words = Vec::new(alloc);
     for sentence in sentences {
-        let words = sentence.words(alloc)?;
+        sentence.take_words(alloc, &mut words)?;
         if !begins(words.as_slice(), Keyword::Level) {
             return Ok(counters);
         }

@@ -1,6 +1,6 @@
 use Rattle.std.proofs.Common.{◌≡◌, ◌++◌, false, length, map}
 use Rattle.dbtg_script.specs.Tokens.{tokens, view}
-use Rattle.dbtg_program.proofs.cutting.tokens_of.Given as goal
+use Rattle.dbtg_program.proofs.cutting.take_tokens.Given as goal
 
 abbrev pub invariant-loop-token : goal.invariant-loop-token
 invariant-loop-token l = map view l.words.items ++ tokens false l.left.rest.now ≡ tokens false l.line
