@@ -2,7 +2,6 @@
 use Rattle.std.proofs.Common.{◌≡◌, ◌∙◌, ◌+◌, ◌++◌, ◌==◌, ◌||◌, ◌<◌, Bool, true, false, List, ℕ, [], ◌∷◌, refl, ap, sym, length, map, take, slice_index_or, arith}
 use Rattle.std.specs.Borrow.{Bor}
 use Rattle.std.proofs.lemmas.List.{length-append, map_more}
-use Rattle.clap.proofs.OnLiterals.{clap_on_literals}
 use Rattle.clap.specs.Adds.{AddsConflicts}
 use Rattle.clap.specs.Simple.{App, is_simple, with_rule}
 use Rattle.clap.specs.Walk.{Rule, is_empty, is_free_arg, rule_of}

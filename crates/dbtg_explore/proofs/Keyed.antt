@@ -12,7 +12,7 @@ use Rattle.dbtg_unit.specs.Database.Statements.Effect.{StatementEffect}
 use Rattle.dbtg_unit.specs.Database.Statements.Fits.{fits}
 use Rattle.dbtg_unit.specs.Database.Laws.Replay.{State, after_entry, entries_of, opening_state, effect_of_unit, replay}
 use Rattle.dbtg_unit.specs.Database.Laws.StaysLegal.{IsLegalState}
-use Rattle.dbtg_unit.proofs.Public.{opening_is_legal, opening_length, replay_keeps_legal}
+use Rattle.dbtg_unit.proofs.Public.{effect_keeps_count, opening_is_legal, opening_length, replay_keeps_legal}
 use Rattle.dbtg_program.specs.declared.program.End.TheVariants.{Stop, Assert, Size, Astray}
 use Rattle.dbtg_program.specs.declared.program.Program.{Program}
 use Rattle.dbtg_program.specs.States.{ProgramState}
@@ -26,7 +26,6 @@ use Rattle.dbtg_going.specs.Turns.{after_turns, comes, made, statement_due, stat
 use Rattle.dbtg_outcomes.specs.Inside.Spelling.{behind, image_apart, list_apart, unit_apart, value_apart}
 use Rattle.dbtg_outcomes.specs.Spelling.{Apart, image_numbers, list_numbers, unit_numbers, value_numbers}
 use Rattle.dbtg_outcomes.specs.Results.{in_unit_order}
-use Rattle.dbtg_outcomes.proofs.States.Histories.{as_many}
 use Rattle.dbtg_outcomes.proofs.States.SameImages.{image_alike, same_unordered}
 use Rattle.dbtg_explore.specs.Orders.{IsMeeting, Meeting, after_order, after_turn, beginning, due_of, history_of}
 use Rattle.dbtg_explore.specs.Results.{reached_of, state_text}
@@ -173,7 +172,7 @@ module _ (m : Meeting) where
   units_after : (state : State) (es : List Entry) → length (replay m.schema m.capacity state es).units ≡ length state.units
   unfolding replay
   units_after state [] = refl
-  units_after state (e ∷ es) = units_after (after_entry m.schema m.capacity state e) es ∙ as_many m.schema m.capacity state e.unit (effect_of_unit m.schema m.capacity state e.unit e.statement)
+  units_after state (e ∷ es) = units_after (after_entry m.schema m.capacity state e) es ∙ effect_keeps_count state e.unit (effect_of_unit m.schema m.capacity state e.unit e.statement)
 
   count : (o : List ℕ) → length (state_of m o).sequential.units ≡ length m.programs
   count o = units_after (opening_state m.schema (length m.programs)) (history_of m o) ∙ opening_length m.schema (length m.programs)

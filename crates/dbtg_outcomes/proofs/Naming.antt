@@ -1,6 +1,6 @@
 -- The names of records tell them apart; the lists of sets, with those of one set more.
 -- s is the number of a set.
-use Rattle.std.proofs.Common.{◌≡◌, ℕ, ◌+◌, ◌<◌, Bool, true, false, List, [], ◌∷◌, ◌++◌, Option, Some, None, ◌∙◌, length, get_or, take, map, if◌then◌else◌, refl, sym, ap, subst, arith, append-nil, append_assoc}
+use Rattle.std.proofs.Common.{◌≡◌, ℕ, ◌+◌, ◌<◌, Bool, List, [], ◌∷◌, ◌++◌, Option, Some, None, ◌∙◌, length, get_or, take, map, if◌then◌else◌, refl, sym, ap, arith, append-nil, append_assoc}
 use Rattle.std.specs.Prelude.{position}
 use Rattle.std.specs.List.{flat_map}
 use Rattle.std.proofs.lemmas.List.{length-take-le, take_more}

@@ -1,7 +1,7 @@
 -- What a run leaves behind, with each record named by its STORE in place of its number and generation.
 -- stored are the keys of all records that units stored, a fact is something that a run leaves behind, spelled as numbers: what kind it
 -- is, of which unit or set, and then the thing; u is a unit.
-use Rattle.std.specs.Prelude.{ℕ, ◌+◌, Bool, true, false, List, [], ◌∷◌, ◌++◌, Option, Some, None, flat_map, if◌then◌else◌, map, option_to_list, position}
+use Rattle.std.specs.Prelude.{ℕ, ◌+◌, Bool, List, [], ◌∷◌, ◌++◌, Option, Some, None, flat_map, if◌then◌else◌, map, option_to_list, position}
 use Rattle.dbtg_cells.specs.declared.key.DbKey.{DbKey}
 use Rattle.dbtg_cells.specs.declared.key.Owner.{Owner}
 use Rattle.dbtg_cells.specs.declared.key.Owner.TheVariants.{System, Rec}

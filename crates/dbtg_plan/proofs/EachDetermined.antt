@@ -4,7 +4,6 @@ use Rattle.std.specs.Prelude.{◌==◌}
 use Rattle.std.specs.List.{find, list_any}
 use Rattle.std.proofs.lemmas.Bool.{and_parts, false≢true}
 use Rattle.dbtg_schema.specs.Lists.{Lists}
-use Rattle.dbtg_schema.specs.Lookups.{first_cause}
 use Rattle.dbtg_schema.specs.Sound.{IsSound}
 use Rattle.dbtg_cells.specs.declared.name.CellName.{CellName}
 use Rattle.dbtg_unit.specs.declared.held.Need.{Need}
@@ -15,7 +14,7 @@ use Rattle.dbtg_unit.specs.declared.unit.Cause.{Cause}
 use Rattle.dbtg_unit.specs.declared.unit.Unit.{Unit}
 use Rattle.dbtg_unit.specs.Database.State.Base.{Database}
 use Rattle.dbtg_unit.specs.Database.State.Belongs.{IsUnitOf, IsWithin}
-use Rattle.dbtg_unit.specs.Database.Statements.Checks.{open_checks, refused_at_once}
+use Rattle.dbtg_unit.specs.Database.Statements.Checks.{refused_at_once}
 use Rattle.dbtg_unit.specs.Hands.EditsOf.{is_delete}
 use Rattle.dbtg_unit.specs.Database.Statements.Effect.{effect}
 use Rattle.dbtg_unit.specs.Database.Statements.Fits.{fits, form_fits, suppress_fits}
@@ -26,7 +25,6 @@ use Rattle.dbtg_unit.specs.Hands.Locality.{DoTheSame}
 use Rattle.dbtg_unit.specs.Hands.Needs.{areas_in_order, cells_of, first_missing, need}
 use Rattle.dbtg_unit.proofs.Public.{HasPlan, MayPlan, one_plan_does_the_same}
 use Rattle.dbtg_unit.specs.Hands.Prepared.{refusal}
-use Rattle.dbtg_unit.specs.Inside.Prepared.{unless_refusal}
 use Rattle.dbtg_plan.specs.Inside.Finding.{found_in, plan_of_found}
 use Rattle.dbtg_plan.specs.Locality.{EachIsDetermined}
 use Rattle.dbtg_unit.specs.Inside.PlanOf.{plan_of}

@@ -10,8 +10,8 @@ use Rattle.dbtg_unit.specs.declared.unit.Entry.{Entry}
 use Rattle.dbtg_unit.specs.declared.unit.Unit.{Unit}
 use Rattle.dbtg_unit.specs.Database.State.Image.{Image}
 use Rattle.dbtg_unit.specs.Database.Statements.Fits.{fits}
-use Rattle.dbtg_unit.specs.Database.Laws.Replay.{State, after_entry, opening_state, effect_of_unit, replay}
-use Rattle.dbtg_unit.proofs.Public.{opening_length}
+use Rattle.dbtg_unit.specs.Database.Laws.Replay.{State, opening_state}
+use Rattle.dbtg_unit.proofs.Public.{opening_length, replay_keeps_count}
 use Rattle.dbtg_step.specs.declared.results.Run.{Run}
 use Rattle.dbtg_step.specs.Core.Audit.{MayBeHistory}
 use Rattle.dbtg_step.specs.Laws.{scripts_fit}
@@ -21,7 +21,7 @@ use Rattle.dbtg_step.proofs.Public.{length_with, set_found}
 use Rattle.dbtg_replay.specs.declared.replay.AnswerForm.{AnswerForm}
 use Rattle.dbtg_replay.specs.declared.replay.AnswerForm.TheVariants.{Plain, Echo, Explained, Trace}
 use Rattle.dbtg_replay.specs.Replaying.{CanShow}
-use Rattle.dbtg_replay.proofs.UnitEntries.{AllWithin, Begins, all_within, as_many, goes_on, there}
+use Rattle.dbtg_replay.proofs.UnitEntries.{AllWithin, Begins, all_within, goes_on, there}
 
 -- what all elements pass, the one at a place passes
 at_place : {X : Type 0} (p : X → Bool) (xs : List X) (n : ℕ) (x : X) → list_all p xs ≡ true → slice_get xs n ≡ Some x → p x ≡ true
@@ -54,16 +54,9 @@ all_numbered : (n : ℕ) (es : List Entry) → AllWithin n es → list_all (λ (
 all_numbered n [] within = refl
 all_numbered n (e ∷ es) within = and_from _ _ (and_from _ _ (lt-ltb 0 e.unit within.0) (le-leb e.unit n within.1)) (all_numbered n es within.2)
 
--- entries make no unit
-as_many_behind : (lists : Lists) (capacity : ℕ) (state : State) (es : List Entry) → length (replay lists capacity state es).units ≡ length state.units
-unfolding replay
-as_many_behind lists capacity state [] = refl
-as_many_behind lists capacity state (e ∷ es) =
-    as_many_behind lists capacity (after_entry lists capacity state e) es ∙ as_many state e.unit (effect_of_unit lists capacity state e.unit e.statement)
-
 module _ (lists : Lists) (capacity : ℕ) (scripts : List (List Statement)) (history : List Entry) (image : Image) (units : List Unit) (law : IsSequential lists capacity scripts history image units) where
   pub as_many_units : length units ≡ length scripts
-  as_many_units = ap length law.units_are ∙ as_many_behind lists capacity (opening_state lists (length scripts)) history ∙ opening_length lists (length scripts)
+  as_many_units = ap length law.units_are ∙ replay_keeps_count lists capacity (opening_state lists (length scripts)) history ∙ opening_length lists (length scripts)
 
   pub can_be_made : scripts_fit lists scripts ≡ true → MayBeHistory lists (length scripts) history
   can_be_made fit =

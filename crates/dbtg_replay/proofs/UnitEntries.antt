@@ -1,19 +1,18 @@
 -- Histories in which each unit makes the beginning of its script: whose the entries are determines which statements they have.
 use Rattle.std.proofs.Common.{◌≡◌, ℕ, zero, suc, ◌+◌, ◌-◌, ◌*◌, ◌<◌, ◌≤◌, List, [], ◌∷◌, ◌++◌, length, map, Option, Some, None, slice_get, slice_set, inl, inr, refl, sym, ap, ◌∙◌, subst, arith}
-use Rattle.std.specs.Prelude.{nat_lt, option_map, ⊤}
+use Rattle.std.specs.Prelude.{nat_lt, ⊤}
 use Rattle.std.specs.Option.{unwrap_or}
 use Rattle.std.specs.List.{range_with_len}
 use Rattle.std.proofs.lemmas.Bool.{cond-true, cond-false, eq-eqb, ne_eqb, lt-ltb}
-use Rattle.std.proofs.lemmas.List.{length-map, length-set}
+use Rattle.std.proofs.lemmas.List.{length-map}
 use Rattle.dbtg_schema.specs.Lists.{Lists}
 use Rattle.dbtg_cells.proofs.Public.{there_is}
 use Rattle.dbtg_unit.specs.declared.statement.Statement.{Statement}
 use Rattle.dbtg_unit.specs.declared.unit.Entry.{Entry}
 use Rattle.dbtg_unit.specs.declared.unit.Unit.{Unit}
-use Rattle.dbtg_unit.specs.Database.Statements.Effect.{StatementEffect, effect}
-use Rattle.dbtg_unit.specs.Database.Laws.Replay.{State, AnswersHold, TicketsInOrder, after_entry, after_effect, answers, entries_of, effect_of_unit}
+use Rattle.dbtg_unit.specs.Database.Laws.Replay.{State, AnswersHold, TicketsInOrder, after_entry, answers, entries_of, effect_of_unit}
 use Rattle.dbtg_unit.specs.Database.Laws.Replaying.{statements_of}
-use Rattle.dbtg_unit.proofs.Public.{statements_determine}
+use Rattle.dbtg_unit.proofs.Public.{effect_keeps_count, statements_determine, unit_is_there}
 use Rattle.dbtg_step.specs.Machine.SequentialDatabase.{unit_at, with_unit_at}
 use Rattle.dbtg_step.specs.Core.Turns.{made_turns}
 use Rattle.dbtg_step.proofs.Public.{entries_same, length_with, set_found}
@@ -32,26 +31,12 @@ abbrev pub AllWithin : ℕ → List Entry → Type 0
 AllWithin n [] = ⊤
 AllWithin n (e ∷ es) = (0 < e.unit) × (e.unit ≤ n) × AllWithin n es
 
-answered_below : (units : List Unit) (n : ℕ) (f : Unit → StatementEffect) (entry : Entry) → option_map (λ (o : StatementEffect). o.answer) (option_map f (slice_get units n)) ≡ Some entry.answer → n < length units
-answered_below [] n f entry e = absurd (cc (e))
-answered_below (u ∷ us) zero f entry e = omega arith
-answered_below (u ∷ us) (suc n) f entry e = let l = answered_below us n f entry e in omega (arith, l)
-
-answered_by : (schema : Lists) (capacity : ℕ) (state : State) (entry : Entry) (number : ℕ) → option_map (λ (o : StatementEffect). o.answer) (effect_of_unit schema capacity state number entry.statement) ≡ Some entry.answer → (0 < number) × (number ≤ length state.units)
-answered_by schema capacity state entry zero e = absurd (cc (e))
-answered_by schema capacity state entry (suc n) e =
-    let l = answered_below state.units n (λ unit. effect schema capacity state.database unit entry.statement) entry e in (omega arith, omega (arith, l))
-
-pub as_many : (state : State) (number : ℕ) (o : Option StatementEffect) → length (after_effect state number o).units ≡ length state.units
-as_many state number None = refl
-as_many state number (Some o) = length-set state.units (number - 1) o.unit
-
 pub all_within : (schema : Lists) (capacity n : ℕ) (state : State) (es : List Entry) → length state.units ≡ n → AnswersHold schema capacity state es → AllWithin n es
 unfolding AnswersHold
 all_within schema capacity n state [] count holds = tt
 all_within schema capacity n state (e ∷ es) count holds =
-    let by = answered_by schema capacity state e e.unit holds.0 in
-    (by.0, subst (λ k. e.unit ≤ k) count by.1, all_within schema capacity n (after_entry schema capacity state e) es (as_many state e.unit (effect_of_unit schema capacity state e.unit e.statement) ∙ count) holds.1)
+    let by = unit_is_there schema capacity state e holds.0 in
+    (by.0, subst (λ k. e.unit ≤ k) count by.1, all_within schema capacity n (after_entry schema capacity state e) es (effect_keeps_count state e.unit (effect_of_unit schema capacity state e.unit e.statement) ∙ count) holds.1)
 
 -- THE ENTRIES OF EACH UNIT
 

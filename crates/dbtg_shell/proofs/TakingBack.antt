@@ -8,15 +8,15 @@ use Rattle.std.proofs.lemmas.List.{append_assoc, length-reverse, length-set, rev
 use Rattle.std.proofs.lemmas.Option.{slice_get-map}
 use Rattle.dbtg_schema.specs.Lists.{Lists}
 use Rattle.dbtg_cells.proofs.Public.{get_behind}
-use Rattle.dbtg_unit.specs.Database.Laws.Replay.{AnswersHold, IsHistoryOf, State, after_entry, after_effect, answer_to, entries_of, opening_state, effect_of_unit, replay}
-use Rattle.dbtg_unit.specs.Database.Statements.Effect.{StatementEffect, effect}
+use Rattle.dbtg_unit.specs.Database.Laws.Replay.{AnswersHold, IsHistoryOf, State, after_effect, answer_to, entries_of, opening_state, effect_of_unit, replay}
+use Rattle.dbtg_unit.specs.Database.Statements.Effect.{StatementEffect}
 use Rattle.dbtg_unit.specs.Database.Statements.Fits.{fits}
 use Rattle.dbtg_unit.specs.declared.unit.Answer.{Answer}
 use Rattle.dbtg_unit.specs.declared.unit.Entry.{Entry}
 use Rattle.dbtg_unit.specs.declared.unit.Unit.{Unit}
-use Rattle.dbtg_unit.proofs.Public.{answers_behind, entries_mine, entries_other, opening_length, replays_one_more, slice_get_range}
+use Rattle.dbtg_unit.proofs.Public.{answers_behind, entries_mine, entries_other, opening_length, replay_keeps_count, replays_one_more, slice_get_range, unit_is_there}
 use Rattle.dbtg_step.specs.Core.Whole.{HasMade, Making, state_now}
-use Rattle.dbtg_step.proofs.Public.{found_of, unit_is_there}
+use Rattle.dbtg_step.proofs.Public.{found_of}
 use Rattle.dbtg_script.specs.Lines.{trimmed}
 use Rattle.dbtg_script.specs.Statements.{line_statement}
 use Rattle.dbtg_shell.specs.Inside.Sessions.{BeginsHistory, HasGrown, IsOwnScript, IsScriptOf, IsSession}
@@ -25,19 +25,6 @@ use Rattle.dbtg_shell.specs.declared.session.Script.{Script}
 use Rattle.dbtg_shell.proofs.SessionSteps.{texts_in, texts_set, typed}
 
 -- ONE ENTRY OF A HISTORY
-
--- a statement makes no unit
-as_many : (schema : Lists) (capacity : ℕ) (state : State) (entry : Entry) → length (after_entry schema capacity state entry).units ≡ length state.units
-as_many schema capacity state entry = by (effect_of_unit schema capacity state entry.unit entry.statement)
-  where
-    by : (o : Option StatementEffect) → length (after_effect state entry.unit o).units ≡ length state.units
-    by None = refl
-    by (Some o) = length-set state.units (entry.unit - 1) o.unit
-
-as_many_units : (schema : Lists) (capacity : ℕ) (state : State) (history : List Entry) → length (replay schema capacity state history).units ≡ length state.units
-unfolding replay
-as_many_units schema capacity state [] = refl
-as_many_units schema capacity state (e ∷ es) = as_many_units schema capacity (after_entry schema capacity state e) es ∙ as_many schema capacity state e
 
 same_number : (a b : ℕ) → Some a ≡ Some b → a ≡ b
 same_number a b e = cc (e)
@@ -57,7 +44,7 @@ module _ (schema : Lists) (capacity units : ℕ) (past rest : List Entry) (entry
       let state = replay schema capacity (opening_state schema units) past in
       let answer : answer_to schema capacity state entry ≡ Some entry.answer = (answers_behind schema capacity (opening_state schema units) past (entry ∷ rest) h.answers_hold).0 in
       let there = unit_is_there schema capacity state entry answer in
-      let many : length state.units ≡ units = as_many_units schema capacity (opening_state schema units) past ∙ opening_length schema units in
+      let many : length state.units ≡ units = replay_keeps_count schema capacity (opening_state schema units) past ∙ opening_length schema units in
       let long : length past < length (past ++ entry ∷ rest) = let l = length-append past (entry ∷ rest) in omega (arith, l) in
       let ticket = sym (slice_get-map (λ (x : Entry). x.ticket) (past ++ entry ∷ rest) (length past) ∙ ap (option_map (λ (x : Entry). x.ticket)) (get_behind past entry rest)) ∙ ap (λ ts. slice_get ts (length past)) h.tickets ∙ slice_get_range (length (past ++ entry ∷ rest)) 0 (length past) long in
       let fit : (list_all (λ (x : Entry). fits schema x.statement) past ≡ true) × (list_all (λ (x : Entry). fits schema x.statement) (entry ∷ rest) ≡ true) = and_parts _ _ (sym (list_all-append (λ (x : Entry). fits schema x.statement) past (entry ∷ rest)) ∙ h.fitting) in

@@ -136,7 +136,5 @@ pub use Rattle.dbtg_step.proofs.TheCore.PlacesOfCells.{number_within}
 pub use Rattle.dbtg_step.proofs.MadeWhole.Audits.{fits_more}
 -- what a test decides, where it passes
 pub use Rattle.dbtg_step.proofs.MadeWhole.Audits.{match_true}
--- an answer is to a unit that is there
-pub use Rattle.dbtg_step.proofs.MadeWhole.Audits.{unit_is_there}
 -- entries with the same tickets, statements and answers are the same
 pub use Rattle.dbtg_step.proofs.MadeWhole.SerialLaw.{entries_same}

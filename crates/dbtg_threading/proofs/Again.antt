@@ -1,6 +1,6 @@
 -- A history in which units have gone by programs is that of its turns.
 -- es are entries, u is a unit.
-use Rattle.std.proofs.Common.{◌≡◌, refl, sym, ◌∙◌, ap, subst, ℕ, zero, suc, ◌+◌, ◌-◌, ◌<◌, ◌≤◌, true, List, [], ◌∷◌, ◌++◌, length, map, Option, Some, None, arith, append-nil, append_assoc, slice_get, slice_set}
+use Rattle.std.proofs.Common.{◌≡◌, refl, sym, ◌∙◌, ap, subst, ℕ, ◌+◌, ◌-◌, ◌<◌, ◌≤◌, true, List, [], ◌∷◌, ◌++◌, length, map, Option, Some, None, arith, append-nil, append_assoc}
 use Rattle.std.specs.Prelude.{◌==◌, if◌then◌else◌, option_and_then, option_map}
 use Rattle.std.specs.List.{range_with_len}
 use Rattle.std.proofs.lemmas.List.{length-append}
@@ -10,24 +10,12 @@ use Rattle.dbtg_unit.specs.declared.statement.Statement.{Statement}
 use Rattle.dbtg_unit.specs.declared.unit.Answer.{Answer}
 use Rattle.dbtg_unit.specs.declared.unit.Entry.{Entry}
 use Rattle.dbtg_unit.specs.Database.Statements.Effect.{StatementEffect}
-use Rattle.dbtg_unit.specs.Database.Laws.Replay.{AnswersHold, IsHistoryOf, State, after_entry, after_effect, entries_of, opening_state, effect_of_unit, replay}
-use Rattle.dbtg_unit.proofs.Public.{opening_length, replays_one_more}
-use Rattle.dbtg_step.proofs.Public.{unit_is_there}
+use Rattle.dbtg_unit.specs.Database.Laws.Replay.{AnswersHold, IsHistoryOf, State, entries_of, opening_state, effect_of_unit, replay}
+use Rattle.dbtg_unit.proofs.Public.{opening_length, replay_keeps_count, replays_one_more, unit_is_there}
 use Rattle.dbtg_program.specs.declared.program.Program.{Program}
 use Rattle.dbtg_going.specs.Turns.{after_turn, after_turns, made, statement_of, with_effect_of}
 use Rattle.dbtg_going.proofs.Turning.{numbered_one}
 use Rattle.dbtg_threading.specs.Inside.Gone.{HaveMade, statement_after}
-
--- UNITS BY NUMBER
-
-set_length : {X : Type 0} (xs : List X) (n : ℕ) (x : X) → length (slice_set xs n x) ≡ length xs
-set_length [] n x = refl
-set_length (y ∷ ys) zero x = refl
-set_length (y ∷ ys) (suc n) x = ap suc (set_length ys n x)
-
-as_many : (state : State) (number : ℕ) (o : Option StatementEffect) → length (after_effect state number o).units ≡ length state.units
-as_many state number None = refl
-as_many state number (Some o) = set_length state.units (number - 1) o.unit
 
 mine : (e : Entry) (rest : List Entry) → entries_of e.unit (e ∷ rest) ≡ e ∷ entries_of e.unit rest
 mine e rest =
@@ -39,13 +27,8 @@ module _ (schema : Lists) (capacity : ℕ) (programs : List Program) where
   abbrev now : List Entry → State
   now es = replay schema capacity (opening_state schema (length programs)) es
 
-  still_as_many : (state : State) (es : List Entry) → length (replay schema capacity state es).units ≡ length state.units
-  unfolding replay
-  still_as_many state [] = refl
-  still_as_many state (e ∷ es) = still_as_many (after_entry schema capacity state e) es ∙ as_many state e.unit (effect_of_unit schema capacity state e.unit e.statement)
-
   units_are : (es : List Entry) → length (now es).units ≡ length programs
-  units_are es = still_as_many (opening_state schema (length programs)) es ∙ opening_length schema (length programs)
+  units_are es = replay_keeps_count schema capacity (opening_state schema (length programs)) es ∙ opening_length schema (length programs)
 
   -- ONE ENTRY
 

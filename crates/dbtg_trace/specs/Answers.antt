@@ -11,7 +11,7 @@ use Rattle.dbtg_script.specs.Lines.{ends_in_text}
 use Rattle.dbtg_script.specs.Printing.Spelling.{is_key, is_number, number}
 use Rattle.dbtg_script.specs.StatementFaults.{key_faults}
 use Rattle.dbtg_script.specs.Statements.{key_of}
-use Rattle.dbtg_script.specs.Tokens.{Token, plain, equals, literal, tokens}
+use Rattle.dbtg_script.specs.Tokens.{Token, plain, equals, tokens}
 use Rattle.dbtg_script.specs.Values.{spelled}
 use Rattle.dbtg_trace.specs.declared.traced.Said.{Said}
 

@@ -1,7 +1,6 @@
 -- The refusal, as the reader reaches it from left to right.
 use Rattle.std.specs.Prelude.{◌≡◌, ℕ, ◌+◌, not, List, [], ◌∷◌, ◌++◌, map, Option, Some, None, is_none, if◌then◌else◌}
 use Rattle.dbtg_schema.specs.Lists.{Lists}
-use Rattle.dbtg_schema.specs.Lookups.{first}
 use Rattle.dbtg_script.specs.declared.fault.Cause.TheVariants as cause
 use Rattle.dbtg_script.specs.Lines.{is_statement, lines, trimmed}
 use Rattle.dbtg_script.specs.Reading as script

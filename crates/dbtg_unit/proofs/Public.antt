@@ -236,6 +236,14 @@ pub use Rattle.dbtg_unit.proofs.Database.Laws.OneMoreEntry.{versions_are_bounded
 pub use Rattle.dbtg_unit.proofs.Database.Laws.PlacingOrder.{divided_by_new_member}
 -- what follows of each two elements that pass holds of each pair in the list
 pub use Rattle.dbtg_unit.proofs.Database.Laws.PlacingOrder.{pairwise_weaker}
+-- the effect of a statement makes no unit and removes none
+pub use Rattle.dbtg_unit.proofs.Database.Laws.UnitCount.{effect_keeps_count}
+-- after a history there are as many units as before it
+pub use Rattle.dbtg_unit.proofs.Database.Laws.UnitCount.{replay_keeps_count}
+-- an answer is to a unit that is there
+pub use Rattle.dbtg_unit.proofs.Database.Laws.UnitCount.{unit_is_there}
+-- each entry of a history is of a unit that is there
+pub use Rattle.dbtg_unit.proofs.Database.Laws.UnitCount.{units_are_there}
 -- WHAT IS READ OFF THE CELLS IN HAND
 
 -- the members of an owner with their sort keys are read off the ring in hand

@@ -22,7 +22,7 @@ use Rattle.dbtg_unit.specs.Database.Statements.Checks.{checks_on_cells, refused_
 use Rattle.dbtg_unit.specs.Database.Statements.Effect.{StatementEffect, deleted, done, done_on_cells, done_on_current, effect, effect_on_cells, finding, inserted, modified, refused, removed, unless_refused, version_of}
 use Rattle.dbtg_unit.specs.Database.Statements.Found.{found}
 use Rattle.dbtg_unit.specs.Database.Statements.StoredFacts.{whole}
-use Rattle.dbtg_unit.specs.Database.Laws.Replay.{State, after, after_effect, answers, effect_of_unit, unit_of}
+use Rattle.dbtg_unit.specs.Database.Laws.Replay.{State, after, after_effect, effect_of_unit, unit_of}
 use Rattle.dbtg_outcomes.specs.Alike.{GoOnAlike, unordered, uses_of}
 use Rattle.dbtg_unit.proofs.Public.{In, any_element, any_in, in_filter, of_filter}
 

@@ -1,6 +1,6 @@
 -- Orders that break a wish: from the groups of a layer to all its orders, and from these to what comes.
 -- m is a meeting, w a wish, o an order, x is a statement, n how many statements are made.
-use Rattle.std.proofs.Common.{◌≡◌, get_or, take, ⊎_elim, refl, sym, ◌∙◌, ap, subst, ℕ, suc, ◌+◌, ◌-◌, ◌<◌, ◌≤◌, Bool, true, false, List, [], ◌∷◌, ◌++◌, length, map, Option, Some, None, arith, inl, inr, append_assoc, slice_get}
+use Rattle.std.proofs.Common.{◌≡◌, get_or, take, ⊎_elim, refl, sym, ◌∙◌, ap, subst, ℕ, ◌+◌, ◌-◌, ◌<◌, ◌≤◌, Bool, true, false, List, [], ◌∷◌, ◌++◌, length, map, Option, Some, None, arith, inl, inr, append_assoc, slice_get}
 use Rattle.std.specs.Prelude.{Contains, is_some, nat_le, nat_lt, option_and_then, unwrap_or}
 use Rattle.std.proofs.lemmas.Bool.{and_parts, cases_Bool, cases_lt, leb-true, ltb-true}
 use Rattle.std.proofs.lemmas.Option.{slice_get_within}
@@ -25,7 +25,7 @@ use Rattle.dbtg_outcomes.specs.Inside.Search.{AreHeld, IsAt, layer}
 use Rattle.dbtg_outcomes.specs.Inside.Steps.{Advances, IsOver}
 use Rattle.dbtg_outcomes.specs.Inside.Wishes.{Breaks, Hunts, HuntsOn, IsBroken, IsBrokenIn, IsHunt, IsHuntOver, IsHunting, IsUnbroken}
 use Rattle.dbtg_outcomes.proofs.Lists.Members.{contains_in, in_contains}
-use Rattle.dbtg_outcomes.proofs.Orders.Begun.{amid, begun_left, begun_long, completed_begins, front_or_amid, left, next_left}
+use Rattle.dbtg_outcomes.proofs.Orders.Begun.{amid, begun_left, begun_long, completed_begins, front_or_amid, next_left}
 use Rattle.dbtg_outcomes.proofs.Orders.Mixed.{first_left}
 use Rattle.dbtg_outcomes.proofs.States.Results.{units_alone}
 use Rattle.dbtg_outcomes.proofs.States.SameStates.{SameState, back, status_same}

@@ -1,6 +1,6 @@
 -- The script that is made first, statement by statement.
 -- m is a meeting, o is an order, u is a unit, x is a statement.
-use Rattle.std.proofs.Common.{◌≡◌, refl, sym, ◌∙◌, ap, subst, ℕ, suc, ◌+◌, ◌-◌, ◌<◌, ◌≤◌, Bool, true, false, List, [], ◌∷◌, ◌++◌, length, map, take, get_or, Some, arith, slice_get}
+use Rattle.std.proofs.Common.{◌≡◌, refl, sym, ◌∙◌, ap, subst, ℕ, ◌+◌, ◌-◌, ◌<◌, ◌≤◌, Bool, true, false, List, [], ◌∷◌, ◌++◌, length, take, get_or, Some, arith}
 use Rattle.std.specs.Prelude.{unwrap_or}
 use Rattle.std.specs.List.{list_all}
 use Rattle.std.proofs.lemmas.List.{map-append, take_more}
@@ -9,7 +9,6 @@ use Rattle.dbtg_cells.proofs.Public.{there_is}
 use Rattle.dbtg_unit.specs.declared.statement.Statement.{Statement}
 use Rattle.dbtg_unit.specs.declared.unit.Entry.{Entry}
 use Rattle.dbtg_unit.specs.Database.Statements.Codes.{status_code}
-use Rattle.dbtg_unit.specs.Database.Statements.Fits.{fits}
 use Rattle.dbtg_unit.specs.Database.Laws.Replay.{entries_of}
 use Rattle.dbtg_unit.specs.Database.Laws.Replaying.{statements_of}
 use Rattle.dbtg_unit.proofs.Public.{all_at, element_at}
@@ -18,7 +17,7 @@ use Rattle.dbtg_outcomes.specs.declared.notes.Note.{Note}
 use Rattle.dbtg_outcomes.specs.Inside.Outcomes.{IsMaking, MakesNoted}
 use Rattle.dbtg_outcomes.specs.Inside.Search.{AreNotedOf}
 use Rattle.dbtg_outcomes.specs.Inside.Statuses.{HasNoted}
-use Rattle.dbtg_outcomes.specs.Orders.{first_script, last_of, made, made_first}
+use Rattle.dbtg_outcomes.specs.Orders.{first_script, last_of, made}
 use Rattle.dbtg_outcomes.specs.Results.{Meeting}
 use Rattle.dbtg_outcomes.proofs.Orders.Mixed.{by_one}
 use Rattle.dbtg_outcomes.proofs.States.Histories.{made_is}

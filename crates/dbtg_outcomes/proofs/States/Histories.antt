@@ -1,8 +1,7 @@
 -- Histories of the sequential database, beside the orders of their statements.
 -- es are entries, u is a unit, n is how many units there are.
-use Rattle.std.proofs.Common.{◌≡◌, refl, sym, ◌∙◌, ap, subst, ℕ, zero, suc, ◌+◌, ◌-◌, ◌<◌, ◌≤◌, true, false, List, [], ◌∷◌, ◌++◌, length, map, Option, Some, None, arith, slice_get, slice_set}
+use Rattle.std.proofs.Common.{◌≡◌, refl, sym, ◌∙◌, ap, subst, ℕ, zero, suc, ◌+◌, ◌-◌, ◌<◌, ◌≤◌, true, false, List, [], ◌∷◌, ◌++◌, length, map, Option, Some, None, arith, slice_get}
 use Rattle.std.specs.Prelude.{◌==◌, filter, option_map, option_to_list, if◌then◌else◌}
-use Rattle.std.proofs.lemmas.List.FromFn.{length-range_with_len}
 use Rattle.dbtg_schema.specs.Lists.{Lists}
 use Rattle.dbtg_script.specs.Printing.Texts.{answers_text}
 use Rattle.dbtg_unit.specs.declared.statement.Statement.{Statement}
@@ -10,10 +9,9 @@ use Rattle.dbtg_unit.specs.declared.unit.Answer.{Answer}
 use Rattle.dbtg_unit.specs.declared.unit.Entry.{Entry}
 use Rattle.dbtg_unit.specs.Database.Statements.Effect.{StatementEffect}
 use Rattle.dbtg_unit.specs.Database.Statements.Fits.{fits}
-use Rattle.dbtg_unit.specs.Database.Laws.Replay.{AnswersHold, IsHistoryOf, State, after_entry, after_effect, entries_of, opening_state, effect_of_unit}
+use Rattle.dbtg_unit.specs.Database.Laws.Replay.{AnswersHold, IsHistoryOf, State, after_entry, entries_of, opening_state, effect_of_unit}
 use Rattle.dbtg_unit.specs.Database.Laws.Replaying.{statements_of}
-use Rattle.dbtg_unit.proofs.Public.{all_at, element_at, opening_length}
-use Rattle.dbtg_step.proofs.Public.{unit_is_there}
+use Rattle.dbtg_unit.proofs.Public.{all_at, effect_keeps_count, element_at, opening_length, unit_is_there}
 use Rattle.dbtg_outcomes.specs.Orders.{made}
 use Rattle.dbtg_outcomes.specs.Results.{Meeting, answers_told, entries_in, unit_answers, units_of, untimed}
 
@@ -53,15 +51,6 @@ module _ (schema : Lists) (capacity : ℕ) where
 
   -- UNITS
 
-  set_length : {X : Type 0} (xs : List X) (n : ℕ) (x : X) → length (slice_set xs n x) ≡ length xs
-  set_length [] n x = refl
-  set_length (y ∷ ys) zero x = refl
-  set_length (y ∷ ys) (suc n) x = ap suc (set_length ys n x)
-
-  pub as_many : (state : State) (number : ℕ) (o : Option StatementEffect) → length (after_effect state number o).units ≡ length state.units
-  as_many state number None = refl
-  as_many state number (Some o) = set_length state.units (number - 1) o.unit
-
   pub units_within : (state : State) (es : List Entry) (i : ℕ) (e : Entry) → AnswersHold schema capacity state es → slice_get es i ≡ Some e → (0 < e.unit) × (e.unit ≤ length state.units)
   unfolding AnswersHold
   units_within state [] i e h g = absurd (cc)
@@ -70,7 +59,7 @@ module _ (schema : Lists) (capacity : ℕ) where
       subst (λ (d : Entry). (0 < d.unit) × (d.unit ≤ length state.units)) same (unit_is_there schema capacity state f h.0)
   units_within state (f ∷ es) (suc i) e h g =
       let rest = units_within (after_entry schema capacity state f) es i e h.1 g in
-      let many = as_many state f.unit (effect_of_unit schema capacity state f.unit f.statement) in
+      let many = effect_keeps_count state f.unit (effect_of_unit schema capacity state f.unit f.statement) in
       let high = rest.1 in
       (rest.0, omega arith)
 

@@ -9,13 +9,12 @@ use Rattle.dbtg_unit.specs.Database.Statements.Codes.{status_code}
 use Rattle.dbtg_unit.specs.Database.State.Image.{image_of}
 use Rattle.dbtg_unit.specs.Database.Laws.Replay.{IsHistoryOf, State, after_effect, opening_state, effect_of_unit, replay, state_after}
 use Rattle.dbtg_unit.specs.Database.Laws.Replaying.{statements_of}
-use Rattle.dbtg_unit.proofs.Public.{opening_length, statements_determine}
+use Rattle.dbtg_unit.proofs.Public.{effect_keeps_count, opening_length, statements_determine}
 use Rattle.dbtg_step.specs.declared.results.Run.{Run}
 use Rattle.dbtg_step.specs.Core.Whole.{HasMade, IsMadeRun, Making, state_now}
 use Rattle.dbtg_outcomes.specs.Outcomes.{HasStatus}
 use Rattle.dbtg_outcomes.specs.Inside.Outcomes.{IsMaking, IsRunOf}
 use Rattle.dbtg_outcomes.specs.Results.{Meeting, state_of}
-use Rattle.dbtg_outcomes.proofs.States.Histories.{as_many}
 
 -- four lists behind one another
 pub four_behind : {X : Type 0} (k a b c d l1 l2 l3 l4 : List X) → k ≡ [] → l1 ≡ k ++ a → l2 ≡ l1 ++ b → l3 ≡ l2 ++ c → l4 ≡ l3 ++ d → l4 ≡ a ++ (b ++ (c ++ d))
@@ -60,7 +59,7 @@ module _ (m : Meeting) where
 
   units_after : (state : State) (o : List (ℕ × Statement)) → length (state_after m.schema m.capacity state o).units ≡ length state.units
   units_after state [] = refl
-  units_after state (s ∷ o) = units_after (after_effect state s.0 (effect_of_unit m.schema m.capacity state s.0 s.1)) o ∙ as_many m.schema m.capacity state s.0 (effect_of_unit m.schema m.capacity state s.0 s.1)
+  units_after state (s ∷ o) = units_after (after_effect state s.0 (effect_of_unit m.schema m.capacity state s.0 s.1)) o ∙ effect_keeps_count state s.0 (effect_of_unit m.schema m.capacity state s.0 s.1)
 
   pub units_after_order : (o : List (ℕ × Statement)) → length (state_of m o).units ≡ length m.scripts
   units_after_order o = units_after (opening_state m.schema (length m.scripts)) o ∙ opening_length m.schema (length m.scripts)

@@ -1,12 +1,12 @@
 -- What is prepared of an INSERT is its effect.
 -- k is a key, s a set, o an owner, db a database.
-use Rattle.std.proofs.Common.{◌≡◌, refl, sym, ◌∙◌, ap, subst, ℕ, ◌+◌, Bool, true, false, cond, not, List, [], ◌∷◌, ◌++◌, length, Option, Some, None, inl, arith}
+use Rattle.std.proofs.Common.{◌≡◌, refl, sym, ◌∙◌, ap, subst, ℕ, ◌+◌, Bool, true, false, cond, not, List, [], ◌∷◌, ◌++◌, length, Option, Some, None}
 use Rattle.std.specs.Prelude.{is_none, is_some, option_map, unwrap_or, slice_set}
 use Rattle.std.specs.List.{list_all}
 use Rattle.std.proofs.lemmas.Bool.{and_from, eq-eqb, false≢true, not-false, ltb-true, or_left}
 use Rattle.dbtg_schema.specs.Lists.{Lists}
 use Rattle.dbtg_schema.specs.Lookups.{first_cause, some_and}
-use Rattle.dbtg_schema.specs.Structure.{member_clause, order_of, pictures, set_numbers}
+use Rattle.dbtg_schema.specs.Structure.{member_clause, order_of, pictures}
 use Rattle.dbtg_schema.proofs.Public.{none_is, some_from_none}
 use Rattle.dbtg_cells.specs.declared.key.DbKey.{DbKey}
 use Rattle.dbtg_cells.specs.declared.key.Owner.TheVariants.{System}
@@ -35,16 +35,15 @@ use Rattle.dbtg_unit.specs.Database.Statements.Effect.{StatementEffect, connecte
 use Rattle.dbtg_unit.specs.Database.Statements.Fits.{values_fit}
 use Rattle.dbtg_unit.specs.Hands.Guesses.{guesses_after, noted_guesses}
 use Rattle.dbtg_unit.specs.Hands.Hands.{Hands}
-use Rattle.dbtg_unit.specs.Hands.InHand.{items_in, occurrence_in, owner_in, stored_in, version_in, in_hand}
+use Rattle.dbtg_unit.specs.Hands.InHand.{items_in, occurrence_in, owner_in, stored_in, in_hand}
 use Rattle.dbtg_unit.specs.Database.State.Legal.{Legal}
 use Rattle.dbtg_unit.specs.Hands.Local.{Agrees, holds}
 use Rattle.dbtg_unit.specs.Hands.Making.{CanEditHeld, CanFinish, CanMake, MayPrepare, ShowsTheSame}
-use Rattle.dbtg_unit.specs.Hands.Needs.{current_owner, ring_names, slot_names}
 use Rattle.dbtg_unit.specs.Hands.Prepared.{IsEffect, IsPrepared, Plan, unit_after, refusal}
 use Rattle.dbtg_unit.specs.Inside.Prepared.{unless_refusal}
 use Rattle.dbtg_unit.specs.Hands.Reserving.{CanTakeMember, OfHeld}
 use Rattle.dbtg_unit.specs.Database.State.Units.{place_in}
-use Rattle.dbtg_unit.proofs.Public.{In, MayPlan, agrees_same, can_make_raised, holds_same, in_left, in_range, in_right, insert_checks_agree, items_in_hand, legal_after, live_in_hand, may_plan, member_connected, member_nowhere, member_owner_found, members_in_hand, occurrence_in_same, owner_in_hand, owner_leaves_version, passes_check, passes_without_cells, prepared_has_all, same_occurrence, same_record, same_sym, some_from_not_none, version_in_hand, versions_same}
+use Rattle.dbtg_unit.proofs.Public.{In, MayPlan, agrees_same, can_make_raised, holds_same, items_in_hand, legal_after, live_in_hand, may_plan, member_connected, member_nowhere, member_owner_found, members_in_hand, occurrence_in_same, owner_in_hand, owner_leaves_version, passes_check, passes_without_cells, same_sym, versions_same}
 use Rattle.dbtg_unit.specs.Database.Statements.StoredFacts.{StoredFacts, whole}
 use Rattle.dbtg_unit.specs.Hands.PlanOf.{inserting, planned_on_current, joining_edit}
 use Rattle.dbtg_unit.specs.Inside.PlanOf.{plan_of}
@@ -52,8 +51,8 @@ use Rattle.dbtg_plan.proofs.Plans.EffectIsPlan.{current_plan_is_effect, effect_i
 use Rattle.dbtg_plan.proofs.Plans.SamePlan.{in_sets, insert_ring, insert_slot, insert_stands}
 use Rattle.dbtg_unit.specs.Database.Statements.Conditions.{joined_place}
 use Rattle.dbtg_plan.specs.Inside.Joining.{joined_occurrence}
-use Rattle.dbtg_plan.proofs.Connect.PlacesDecide.{can_join_in_hand, place_checks_in_hand}
-use Rattle.dbtg_plan.proofs.Plans.IsEffect.{done_is_effect, noted_renoted}
+use Rattle.dbtg_plan.proofs.Connect.PlacesDecide.{can_join_in_hand}
+use Rattle.dbtg_plan.proofs.Plans.IsEffect.{noted_renoted}
 use Rattle.dbtg_plan.proofs.Plans.RingEdits.{can_edit_ring, free_owner}
 
 -- what the record's own checks, a test and further checks have passed

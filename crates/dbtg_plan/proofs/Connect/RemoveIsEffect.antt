@@ -1,13 +1,12 @@
 -- What is prepared of a REMOVE is its effect.
 -- k is a key, s a set, o an owner, db a database.
-use Rattle.std.proofs.Common.{◌≡◌, refl, sym, ◌∙◌, ap, subst, ℕ, ◌+◌, Bool, true, false, cond, ◌&&◌, ◌||◌, List, [], ◌∷◌, ◌++◌, length, Option, Some, None, eqb, inl, arith}
-use Rattle.std.specs.Prelude.{is_none, option_map, slice_set}
+use Rattle.std.proofs.Common.{◌≡◌, refl, sym, ◌∙◌, ap, subst, ℕ, ◌+◌, Bool, true, false, cond, ◌&&◌, ◌||◌, List, [], ◌∷◌, ◌++◌, length, Option, Some, None, eqb, inl}
+use Rattle.std.specs.Prelude.{is_none, option_map}
 use Rattle.std.specs.List.{list_all, list_any}
 use Rattle.std.proofs.lemmas.Bool.{and_from, true≢false, not-false, ltb-true, or_parts}
 use Rattle.std.proofs.lemmas.List.Folds.{list_all-append}
 use Rattle.dbtg_schema.specs.Lists.{Lists}
 use Rattle.dbtg_schema.specs.Lookups.{at, first_cause, some_and}
-use Rattle.dbtg_schema.specs.Structure.{set_numbers}
 use Rattle.dbtg_cells.specs.declared.key.DbKey.{DbKey}
 use Rattle.dbtg_cells.specs.declared.key.Owner.{Owner}
 use Rattle.dbtg_cells.specs.declared.name.CellName.TheVariants.{Ring}
@@ -15,8 +14,8 @@ use Rattle.dbtg_cells.specs.declared.ring.Occurrence.{Occurrence}
 use Rattle.dbtg_cells.specs.Keys.{is_member, owner_eq}
 use Rattle.dbtg_cells.specs.Members.{keys_in}
 use Rattle.dbtg_cells.proofs.Public.{same_owner}
-use Rattle.dbtg_unit.proofs.Public.{In, MayPlan, may_plan, can_make_raised, in_left, in_range, in_right, listed_in_hand, live_in_hand, member_has_list, members_in_hand, owner_has_member, owner_in_hand, owner_leaves_version, prepared_has_all, remove_checks_agree, same_record, some_and_value, version_in_hand}
-use Rattle.dbtg_unit.specs.Database.Statements.Checks.{about, remove_checks, refused_at_once}
+use Rattle.dbtg_unit.proofs.Public.{In, MayPlan, may_plan, can_make_raised, in_left, listed_in_hand, member_has_list, members_in_hand, owner_has_member, owner_in_hand, owner_leaves_version, prepared_has_all, some_and_value}
+use Rattle.dbtg_unit.specs.Database.Statements.Checks.{remove_checks, refused_at_once}
 use Rattle.dbtg_unit.specs.declared.edit.CellEdit.{CellEdit}
 use Rattle.dbtg_unit.specs.declared.edit.Edit.TheVariants.{ChangeOwner, RaiseVersion, TakeOut}
 use Rattle.dbtg_unit.specs.declared.statement.Statement.TheVariants.{Remove}
@@ -26,22 +25,21 @@ use Rattle.dbtg_unit.specs.declared.unit.Unit.{Unit}
 use Rattle.dbtg_unit.specs.Database.State.Base.{Database, is_live, members_of, owner_of}
 use Rattle.dbtg_unit.specs.Database.State.CellNames.{place_of, slot_name}
 use Rattle.dbtg_unit.specs.Hands.EditsOf.{ring_edits, slot_edit}
-use Rattle.dbtg_unit.specs.Database.Statements.Effect.{StatementEffect, effect, remove_checks, removed, version_of, without}
-use Rattle.dbtg_unit.specs.Hands.Guesses.{guesses_after, noted_guesses}
+use Rattle.dbtg_unit.specs.Database.Statements.Effect.{StatementEffect, remove_checks, removed, version_of, without}
+use Rattle.dbtg_unit.specs.Hands.Guesses.{noted_guesses}
 use Rattle.dbtg_unit.specs.Hands.Hands.{Hands}
-use Rattle.dbtg_unit.specs.Hands.InHand.{owner_in, version_in, in_hand}
+use Rattle.dbtg_unit.specs.Hands.InHand.{owner_in, in_hand}
 use Rattle.dbtg_unit.specs.Hands.Local.{Agrees, holds}
 use Rattle.dbtg_unit.specs.Hands.Making.{CanFinish, CanMake, HaveNextVersions, MayPrepare}
 use Rattle.dbtg_unit.specs.Hands.Needs.{is_wrong_guess, ring_names, slot_names}
-use Rattle.dbtg_unit.specs.Hands.Prepared.{IsEffect, IsPrepared, unit_after, refusal}
-use Rattle.dbtg_unit.specs.Inside.Prepared.{unless_refusal}
+use Rattle.dbtg_unit.specs.Hands.Prepared.{IsEffect, IsPrepared, unit_after}
 use Rattle.dbtg_unit.specs.Database.Statements.StoredFacts.{StoredFacts, whole}
 use Rattle.dbtg_unit.specs.Inside.PlanOf.{plan_of}
-use Rattle.dbtg_unit.specs.Hands.PlanOf.{planned_on_current, removing}
+use Rattle.dbtg_unit.specs.Hands.PlanOf.{removing}
 use Rattle.dbtg_plan.proofs.Plans.EffectIsPlan.{current_plan_is_effect, effect_in_hand, planned_cells}
 use Rattle.dbtg_plan.proofs.Plans.SamePlan.{in_sets, remove_slot}
 use Rattle.dbtg_plan.proofs.Connect.InsertIsEffect.{own_passed, version_raised}
-use Rattle.dbtg_plan.proofs.Plans.IsEffect.{done_is_effect, noted_renoted}
+use Rattle.dbtg_plan.proofs.Plans.IsEffect.{noted_renoted}
 use Rattle.dbtg_plan.proofs.Plans.RingEdits.{can_edit_ring, free_owner}
 
 module _ (schema : Lists) (capacity : ℕ) (unit : Unit) (hands : Hands) (s : ℕ) (may : MayPlan schema capacity unit hands (Remove s)) (passes : refused_at_once schema capacity unit (Remove s) ≡ None) where

@@ -1,8 +1,8 @@
 -- What a FIND takes next and what it prepares, off the cells in hand, is what it needs and does on each database that agrees with them.
 -- k is a key, s a set, r a record type, a an area, c the name of a cell, db a database.
 use Rattle.std.proofs.Common.{◌≡◌, refl, sym, ◌∙◌, ap, subst, ℕ, ◌+◌, ◌<◌, true, false, cond, ◌&&◌, ◌⊎◌, List, [], ◌∷◌, ◌++◌, length, take, Option, Some, None, map, arith, inl, inr}
-use Rattle.std.specs.Prelude.{◌==◌, nat_lt, option_and_then, option_map, unwrap_or, filter, if◌then◌else◌, Result, Ok, Err}
-use Rattle.std.specs.List.{list_all, range_with_len}
+use Rattle.std.specs.Prelude.{◌==◌, option_and_then, option_map, unwrap_or, if◌then◌else◌, Result, Ok, Err}
+use Rattle.std.specs.List.{list_all}
 use Rattle.std.specs.Option.{option_or}
 use Rattle.std.proofs.lemmas.Bool.{and_parts}
 use Rattle.std.proofs.lemmas.List.{take_all}
@@ -31,7 +31,7 @@ use Rattle.dbtg_unit.specs.Database.State.CellNames.{slot_name}
 use Rattle.dbtg_unit.specs.Database.State.Cells.{cell}
 use Rattle.dbtg_unit.specs.Database.Statements.Checks.{refused_at_once}
 use Rattle.dbtg_unit.specs.Database.Statements.Effect.{StatementEffect, done, effect, finding}
-use Rattle.dbtg_unit.specs.Database.Statements.Fits.{form_fits, if_named, is_type}
+use Rattle.dbtg_unit.specs.Database.Statements.Fits.{form_fits}
 use Rattle.dbtg_unit.specs.Database.Statements.Found.{found, with_current}
 use Rattle.dbtg_unit.specs.Hands.Guesses.{guesses_after}
 use Rattle.dbtg_unit.specs.Hands.Hands.{Hands}

@@ -1,9 +1,7 @@
 -- What is planned over a view is a statement's effect: on each database that agrees with the cells in hand, by those cells.
 -- k is a key, s a set, db a database.
-use Rattle.std.proofs.Common.{◌≡◌, refl, sym, ◌∙◌, ap, subst, ℕ, ◌+◌, Bool, true, false, cond, not, List, [], ◌∷◌, ◌++◌, Option, Some, None, eqb}
-use Rattle.std.specs.Prelude.{◌==◌, filter, is_none, is_some, slice_set}
-use Rattle.std.specs.List.{list_all}
-use Rattle.std.proofs.lemmas.Bool.{false≢true}
+use Rattle.std.proofs.Common.{◌≡◌, refl, sym, ◌∙◌, ap, subst, ℕ, ◌+◌, Bool, true, false, List, [], ◌∷◌, ◌++◌, Option, Some, None}
+use Rattle.std.specs.Prelude.{◌==◌}
 use Rattle.dbtg_schema.specs.Lists.{Lists}
 use Rattle.dbtg_schema.specs.Lookups.{first_cause}
 use Rattle.dbtg_cells.specs.declared.key.DbKey.{DbKey}
@@ -17,22 +15,21 @@ use Rattle.dbtg_unit.specs.declared.unit.Cause.{Cause}
 use Rattle.dbtg_unit.specs.declared.unit.Cause.TheVariants.{NoCurrentOfRunUnit, NotMember}
 use Rattle.dbtg_unit.specs.declared.unit.Status.TheVariants.{Done}
 use Rattle.dbtg_unit.specs.declared.unit.Unit.{Unit}
-use Rattle.dbtg_unit.specs.Database.State.Base.{Database, items_of, owner_of}
-use Rattle.dbtg_unit.specs.Database.State.Units.{forgotten, noted}
-use Rattle.dbtg_unit.specs.Database.Statements.Checks.{about, checks_on_cells, live_checks, refused_at_once, remove_checks}
-use Rattle.dbtg_unit.specs.Database.Statements.Effect.{StatementEffect, done, done_on_cells, done_on_current, effect, effect_on_cells, removed, unless_refused, version_of, without}
+use Rattle.dbtg_unit.specs.Database.State.Base.{Database}
+use Rattle.dbtg_unit.specs.Database.Statements.Checks.{about, refused_at_once}
+use Rattle.dbtg_unit.specs.Database.Statements.Effect.{StatementEffect, done, done_on_current, effect, effect_on_cells, unless_refused}
 use Rattle.dbtg_unit.specs.Database.Statements.StoredFacts.{whole}
 use Rattle.dbtg_unit.specs.Hands.EditsOf.{edits_of, is_delete}
-use Rattle.dbtg_unit.specs.Hands.Guesses.{guesses_after, noted_guesses}
+use Rattle.dbtg_unit.specs.Hands.Guesses.{guesses_after}
 use Rattle.dbtg_unit.specs.Hands.Hands.{Hands}
 use Rattle.dbtg_unit.specs.Hands.InHand.{in_hand}
-use Rattle.dbtg_unit.specs.Hands.Local.{Agrees, holds}
-use Rattle.dbtg_unit.specs.Hands.PlanOf.{done_plan, done_plan_of, inserting, mode_plan, planned_on_current, removing}
+use Rattle.dbtg_unit.specs.Hands.Local.{Agrees}
+use Rattle.dbtg_unit.specs.Hands.PlanOf.{planned_on_current}
 use Rattle.dbtg_unit.specs.Inside.PlanOf.{plan_of}
 use Rattle.dbtg_unit.specs.Hands.Prepared.{IsEffect, IsPrepared, Plan, guesses_edited, unit_after}
 use Rattle.dbtg_unit.specs.Inside.Prepared.{unless_refusal}
 use Rattle.dbtg_unit.proofs.Public.{MayPlan}
-use Rattle.dbtg_plan.proofs.Plans.IsEffect.{done_is_effect, effect_is_on_cells, noted_renoted, refusal_is_effect}
+use Rattle.dbtg_plan.proofs.Plans.IsEffect.{done_is_effect, effect_is_on_cells, refusal_is_effect}
 use Rattle.dbtg_plan.proofs.Plans.SamePlan.{alike_in_hand, is_planned, plan_agrees}
 
 module _ (schema : Lists) (capacity : ℕ) (unit : Unit) (hands : Hands) (statement : Statement) (may : MayPlan schema capacity unit hands statement) (passes : refused_at_once schema capacity unit statement ≡ None) where

@@ -1,6 +1,6 @@
 -- GET, KEEP and FREE by the cells in hand are those of each database that agrees.
 -- k is a key.
-use Rattle.std.proofs.Common.{◌≡◌, refl, ap, ℕ, Bool, true, false, List, [], Option, Some, None}
+use Rattle.std.proofs.Common.{◌≡◌, refl, ℕ, Bool, true, false, List, [], Option, Some, None}
 use Rattle.dbtg_schema.specs.Lists.{Lists}
 use Rattle.dbtg_cells.specs.declared.key.DbKey.{DbKey}
 use Rattle.dbtg_unit.specs.declared.edit.UnitEdit.TheVariants.{Same, Keep as KeepEdit, Forget, ForgetAll}

@@ -1,7 +1,7 @@
 -- OPEN and CLOSE by the cells in hand are those of each database that agrees.
 -- a is an area, c the name of a cell, x and y cells.
-use Rattle.std.proofs.Common.{◌≡◌, refl, sym, ◌∙◌, ap, subst, ℕ, Bool, true, false, cond, not, List, [], ◌∷◌, ◌++◌, Some, None, eqb, inl}
-use Rattle.std.specs.Prelude.{◌==◌, filter, slice_set, if◌then◌else◌}
+use Rattle.std.proofs.Common.{◌≡◌, refl, ◌∙◌, ap, subst, ℕ, Bool, true, false, List, [], ◌∷◌, ◌++◌, Some, None, inl}
+use Rattle.std.specs.Prelude.{◌==◌, if◌then◌else◌}
 use Rattle.std.specs.List.{list_any}
 use Rattle.std.proofs.lemmas.Bool.{and_from}
 use Rattle.dbtg_schema.specs.Lists.{Lists}
@@ -12,7 +12,6 @@ use Rattle.dbtg_cells.specs.declared.name.CellName.{CellName}
 use Rattle.dbtg_cells.specs.declared.name.CellName.TheVariants.{Usage, Extent, Ring, Slot}
 use Rattle.dbtg_cells.specs.declared.usage.Mode.{Mode}
 use Rattle.dbtg_cells.specs.Shown.{UsageValue}
-use Rattle.dbtg_cells.specs.Users.{left_by}
 use Rattle.dbtg_unit.specs.declared.edit.Edit.{Edit}
 use Rattle.dbtg_unit.specs.declared.edit.Edit.TheVariants.{EnterUser, LeaveUser}
 use Rattle.dbtg_unit.specs.declared.statement.Statement.TheVariants.{OpenArea, CloseArea}
@@ -20,9 +19,7 @@ use Rattle.dbtg_unit.specs.declared.unit.Cause.TheVariants.{UsageConflict}
 use Rattle.dbtg_unit.specs.declared.unit.Unit.{Unit}
 use Rattle.dbtg_unit.specs.Database.State.Base.{Database}
 use Rattle.dbtg_unit.specs.Hands.CanEdit.{CanEdit}
-use Rattle.dbtg_unit.specs.Database.State.Cells.{cell}
 use Rattle.dbtg_unit.specs.Database.Statements.Checks.{open_checks, refused_at_once}
-use Rattle.dbtg_unit.specs.Hands.Edits.{edited, edited_at}
 use Rattle.dbtg_unit.specs.Database.Statements.Effect.{conflict, done_on_cells}
 use Rattle.dbtg_unit.specs.Hands.Hands.{Hands}
 use Rattle.dbtg_unit.specs.Hands.InHand.{in_hand, users_in}
@@ -31,7 +28,7 @@ use Rattle.dbtg_unit.specs.Hands.Making.{CanFinish, MayPrepare, ShowsTheSame}
 use Rattle.dbtg_unit.specs.Hands.Prepared.{IsEffect, refusal}
 use Rattle.dbtg_unit.specs.Inside.Prepared.{unless_refusal}
 use Rattle.dbtg_unit.specs.Hands.Reserving.{CanTakeUser, OfHeld}
-use Rattle.dbtg_unit.proofs.Public.{MayPlan, may_plan, may_prepare_same, prepared_has_all, users_in_hand, users_in_same}
+use Rattle.dbtg_unit.proofs.Public.{MayPlan, may_plan, may_prepare_same, prepared_has_all, users_in_same}
 use Rattle.dbtg_unit.specs.Database.Statements.StoredFacts.{whole}
 use Rattle.dbtg_unit.specs.Hands.PlanOf.{mode_plan}
 use Rattle.dbtg_unit.specs.Inside.PlanOf.{plan_of}

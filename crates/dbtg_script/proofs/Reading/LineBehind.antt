@@ -1,7 +1,7 @@
 -- A line after a script.
-use Rattle.std.proofs.Common.{◌≡◌, ℕ, ◌+◌, ◌-◌, ◌<◌, ◌≤◌, Bool, true, false, not, cond, eqb, leb, ltb, ◌&&◌, ◌||◌, List, [], ◌∷◌, ◌++◌, length, get_or, take, map, Option, Some, None, refl, sym, ap, subst, ◌∙◌, arith, append_assoc, length-append}
+use Rattle.std.proofs.Common.{◌≡◌, ℕ, ◌+◌, ◌-◌, ◌<◌, ◌≤◌, Bool, true, false, not, cond, eqb, ◌&&◌, ◌||◌, List, [], ◌∷◌, ◌++◌, length, get_or, take, Option, Some, None, refl, sym, ap, ◌∙◌, arith, append_assoc, length-append}
 use Rattle.std.specs.Prelude.{nat_le, nat_lt}
-use Rattle.std.specs.List.{list_all, list_any}
+use Rattle.std.specs.List.{list_all}
 use Rattle.std.proofs.lemmas.List.{append-nil, take_more, take_all}
 use Rattle.std.proofs.lemmas.List.Folds.{list_any-append}
 use Rattle.std.proofs.lemmas.Bool.{eqb-true, ne_eqb, and_parts, leb-true, ltb-true, not-false}
@@ -14,7 +14,7 @@ use Rattle.dbtg_script.specs.declared.fault.Cause.{Cause}
 use Rattle.dbtg_script.specs.declared.fault.Cause.TheVariants.{LineNotAllowed, TooMuch}
 use Rattle.dbtg_script.specs.declared.fault.Fault.{Fault}
 use Rattle.dbtg_script.specs.Laws.{LineBehindScriptIsRead}
-use Rattle.dbtg_script.specs.Lines.{closes, ends_with, is_allowed, is_statement, lines, trimmed, without_last}
+use Rattle.dbtg_script.specs.Lines.{ends_with, is_allowed, is_statement, lines, trimmed, without_last}
 use Rattle.dbtg_script.specs.Inside.Reading.{lines_verdict}
 use Rattle.dbtg_script.specs.Printing.Spelling.{has_byte}
 use Rattle.dbtg_script.specs.StatementFaults.{count_after, line_faults, lines_faults, refusal, statement_faults, when}

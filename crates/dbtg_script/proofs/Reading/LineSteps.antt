@@ -1,6 +1,5 @@
 -- What stands before a line feed is one line.
 use Rattle.std.proofs.Common.{◌≡◌, ℕ, zero, suc, ◌<◌, ◌≤◌, Bool, true, false, eqb, List, [], ◌∷◌, ◌++◌, length, get_or, take, drop, refl, sym, ap, ◌∙◌, ◌||◌, arith}
-use Rattle.std.specs.List.{list_any}
 use Rattle.std.proofs.lemmas.Bool.{eqb-false, eqb-true, ne_eqb}
 use Rattle.dbtg_script.specs.Lines.{closes, lines, onto_line}
 use Rattle.dbtg_script.specs.Printing.Spelling.{has_byte}

@@ -4,18 +4,16 @@ use Rattle.std.specs.Prelude.{nat_lt, nat_le, option_map, ◌==◌, OnErr, Resul
 use Rattle.std.specs.Bool.{Decides, MatchBool}
 use Rattle.std.specs.List.{list_all}
 use Rattle.std.proofs.lemmas.Bool.{and_parts, and_from, false≢true, eq-eqb, eqb-true, lt-ltb, le-leb, ltb-true, leb-true}
-use Rattle.std.proofs.lemmas.List.{length-set}
 use Rattle.std.proofs.lemmas.List.Folds.{list_all-append}
 use Rattle.std.proofs.lemmas.Option.{same_Some, slice_get-map}
 use Rattle.dbtg_schema.specs.Lists.{Lists}
 use Rattle.dbtg_cells.proofs.Public.{get_behind}
 use Rattle.dbtg_unit.specs.declared.unit.Entry.{Entry}
-use Rattle.dbtg_unit.specs.declared.unit.Unit.{Unit}
-use Rattle.dbtg_unit.specs.Database.Statements.Effect.{StatementEffect, effect}
+use Rattle.dbtg_unit.specs.Database.Statements.Effect.{StatementEffect}
 use Rattle.dbtg_unit.specs.Database.Statements.Fits.{fits}
 use Rattle.dbtg_unit.specs.Database.State.Image.{image_of}
-use Rattle.dbtg_unit.specs.Database.Laws.Replay.{State, AnswersHold, IsHistoryOf, TicketsInOrder, after_entry, after_effect, answer_to, opening_state, effect_of_unit, replay}
-use Rattle.dbtg_unit.proofs.Public.{answers_behind, opening_length, replays_one_more, slice_get_range}
+use Rattle.dbtg_unit.specs.Database.Laws.Replay.{State, AnswersHold, IsHistoryOf, TicketsInOrder, opening_state, replay}
+use Rattle.dbtg_unit.proofs.Public.{answers_behind, opening_length, replays_one_more, slice_get_range, units_are_there}
 use Rattle.dbtg_step.specs.declared.results.Run.{Run}
 use Rattle.dbtg_step.specs.Inside.Audit.{GoesOn, HasJoined, MayStand}
 use Rattle.dbtg_step.specs.Core.Audit.{LeadsTo, MayBeHistory}
@@ -44,19 +42,6 @@ on_err (Ok x) P p = tt
 on_err (Err e) P p = p
 
 -- AN ENTRY
-
--- an answer is to a unit that is there
-pub unit_is_there : (schema : Lists) (capacity : ℕ) (state : State) (entry : Entry) → answer_to schema capacity state entry ≡ Some entry.answer → (0 < entry.unit) × (entry.unit ≤ length state.units)
-unit_is_there schema capacity state entry e = by entry.unit e
-  where
-    within : (units : List Unit) (n : ℕ) (f : Unit → StatementEffect) → option_map (λ (o : StatementEffect). o.answer) (option_map f (slice_get units n)) ≡ Some entry.answer → n < length units
-    within [] n f e = absurd (cc (e))
-    within (y ∷ ys) zero f e = omega arith
-    within (y ∷ ys) (suc n) f e = let l = within ys n f e in omega (arith, l)
-
-    by : (number : ℕ) → option_map (λ (o : StatementEffect). o.answer) (effect_of_unit schema capacity state number entry.statement) ≡ Some entry.answer → (0 < number) × (number ≤ length state.units)
-    by zero e = absurd (cc (e))
-    by (suc n) e = let l = within state.units n (λ unit. effect schema capacity state.database unit entry.statement) e in (omega arith, omega (arith, l))
 
 module _ (entry : Entry) (old new : Making) (has : HasMade old entry.unit entry.statement new) where
   abbrev pub made_entry : Entry
@@ -122,22 +107,6 @@ module _ (schema : Lists) (units : ℕ) where
       let number = and_parts _ _ (and_parts _ _ numbers.1).0 in
       let fit : (list_all (λ (x : Entry). fits schema x.statement) past ≡ true) × (list_all (λ (x : Entry). fits schema x.statement) (entry ∷ rest) ≡ true) = and_parts _ _ (sym (list_all-append (λ (x : Entry). fits schema x.statement) past (entry ∷ rest)) ∙ all.fitting) in
       record { ticket = ticket_at past rest entry all.tickets; numbered = ltb-true _ _ number.0; within = leb-true _ _ number.1; fitting = (and_parts _ _ fit.1).0 }
-
--- a statement makes no unit
-as_many : (schema : Lists) (capacity : ℕ) (state : State) (entry : Entry) → length (after_entry schema capacity state entry).units ≡ length state.units
-as_many schema capacity state entry = by (effect_of_unit schema capacity state entry.unit entry.statement)
-  where
-    by : (o : Option StatementEffect) → length (after_effect state entry.unit o).units ≡ length state.units
-    by None = refl
-    by (Some o) = length-set state.units (entry.unit - 1) o.unit
-
-units_are_there : (schema : Lists) (capacity : ℕ) (state : State) (history : List Entry) → AnswersHold schema capacity state history → list_all (λ e. nat_lt 0 e.unit && nat_le e.unit (length state.units)) history ≡ true
-unfolding AnswersHold
-units_are_there schema capacity state [] h = refl
-units_are_there schema capacity state (e ∷ es) h =
-    let there = unit_is_there schema capacity state e h.0 in
-    and_from _ _ (and_from _ _ (lt-ltb 0 e.unit there.0) (le-leb e.unit (length state.units) there.1))
-    (subst (λ (n : ℕ). list_all (λ (x : Entry). nat_lt 0 x.unit && nat_le x.unit n) es ≡ true) (as_many schema capacity state e) (units_are_there schema capacity (after_entry schema capacity state e) es h.1))
 
 -- a history shows so by itself
 pub shows_so : (schema : Lists) (capacity units : ℕ) (history : List Entry) → IsHistoryOf schema capacity units history → MayBeHistory schema units history

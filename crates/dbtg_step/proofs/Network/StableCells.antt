@@ -23,14 +23,14 @@ use Rattle.dbtg_unit.specs.declared.unit.Place.{Place}
 use Rattle.dbtg_unit.specs.declared.unit.Unit.{Unit}
 use Rattle.dbtg_unit.specs.Database.State.Base.{Database, is_live, items_of, calc_items, members_of, sort_key}
 use Rattle.dbtg_unit.specs.Database.State.Belongs.{IsUnitOf}
-use Rattle.dbtg_unit.specs.Database.State.CellNames.{slot_name, place_of}
+use Rattle.dbtg_unit.specs.Database.State.CellNames.{place_of}
 use Rattle.dbtg_unit.specs.Database.State.Cells.{cell}
 use Rattle.dbtg_unit.specs.Database.Statements.Effect.{free_number, calc_taken, new_key}
 use Rattle.dbtg_unit.specs.Database.Statements.StoredFacts.{whole}
 use Rattle.dbtg_unit.specs.Database.Statements.Fits.{if_named}
 use Rattle.dbtg_unit.specs.Database.Statements.Found.{chosen, chosen_by_key, found_unless, has_type, is_lost, needs_position, with_calc}
 use Rattle.dbtg_unit.specs.Database.State.Legal.{Legal}
-use Rattle.dbtg_unit.specs.Hands.Needs.{cells_of, find_cells, found_slot, store_cells, store_rings}
+use Rattle.dbtg_unit.specs.Hands.Needs.{cells_of, find_cells, found_slot, store_cells}
 use Rattle.dbtg_unit.specs.Database.State.Units.{place_in}
 use Rattle.dbtg_unit.proofs.Public.{In, in_map}
 use Rattle.dbtg_unit.proofs.Public.{find_none_of}

@@ -1,7 +1,7 @@
 -- What a statement needs is above all that it holds, where that was taken in turn: its areas, then its cells.
-use Rattle.std.proofs.Common.{◌≡◌, refl, sym, ◌∙◌, ap, ℕ, ◌<◌, Bool, true, false, eqb, List, [], ◌∷◌, length, Option, Some, inl, inr}
+use Rattle.std.proofs.Common.{◌≡◌, refl, sym, ◌∙◌, ap, ℕ, ◌<◌, Bool, true, false, eqb, List, [], ◌∷◌, Option, Some, inl, inr}
 use Rattle.std.specs.Prelude.{is_some, nat_lt, ◌==◌, if◌then◌else◌}
-use Rattle.std.specs.List.{list_any, range_with_len, find}
+use Rattle.std.specs.List.{list_any, find}
 use Rattle.std.proofs.lemmas.Bool.{or_cases, or_left, or_right, false≢true, eqb-true, eq-eqb, ltb-true, not-false}
 use Rattle.dbtg_schema.specs.Lists.{Lists}
 use Rattle.dbtg_schema.specs.Sound.{IsSound}
@@ -13,8 +13,7 @@ use Rattle.dbtg_unit.specs.declared.statement.Statement.{Statement}
 use Rattle.dbtg_unit.specs.declared.unit.Unit.{Unit}
 use Rattle.dbtg_unit.specs.declared.held.Need.TheVariants.{Ready}
 use Rattle.dbtg_unit.specs.Database.State.Base.{Database}
-use Rattle.dbtg_unit.specs.Database.Statements.Checks.{areas_of, refused_at_once}
-use Rattle.dbtg_unit.specs.Database.State.Legal.{pairwise}
+use Rattle.dbtg_unit.specs.Database.Statements.Checks.{refused_at_once}
 use Rattle.dbtg_unit.specs.Hands.Needs.{need, next_of, areas_in_order, cells_of, is_stale}
 use Rattle.dbtg_step.specs.Machine.SequentialDatabase.{HeldCell, NeedsArea, NeedsCell, In, Agrees}
 use Rattle.dbtg_step.specs.Machine.NeverStuck.{MayGoOn, NeedsInOrder, TakenInTurn, NoneYet, AreaNext, CellNext}

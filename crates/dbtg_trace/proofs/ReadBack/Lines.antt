@@ -1,5 +1,5 @@
 -- The line of an entry is read back: its unit, its statement, its answer; and so are lines, one behind another.
-use Rattle.std.proofs.Common.{◌≡◌, ℕ, suc, ◌+◌, ◌-◌, ◌^◌, ◌<◌, ◌≤◌, Bool, true, false, not, ◌&&◌, List, [], ◌∷◌, ◌++◌, drop, length, map, take, Option, Some, None, inl, inr, refl, sym, ap, subst, ◌∙◌, arith, append_assoc, true≢false}
+use Rattle.std.proofs.Common.{◌≡◌, ℕ, ◌+◌, ◌-◌, ◌^◌, ◌<◌, ◌≤◌, Bool, true, false, not, ◌&&◌, List, [], ◌∷◌, ◌++◌, drop, length, take, Option, Some, None, inl, inr, refl, sym, ap, subst, ◌∙◌, arith, append_assoc, true≢false}
 use Rattle.std.specs.Prelude.{◌==◌, codes, decimal, if◌then◌else◌, nat_le, nat_lt, option_and_then, option_map}
 use Rattle.std.specs.List.{list_all}
 use Rattle.std.proofs.lemmas.Bool.{and_from, and_parts, eqb-true}
@@ -27,20 +27,20 @@ use Rattle.dbtg_trace.specs.declared.fault.TraceCause.TheVariants.{AsInScript}
 use Rattle.dbtg_trace.specs.declared.traced.Said.{Said}
 use Rattle.dbtg_trace.specs.declared.traced.Traced.{Traced}
 use Rattle.dbtg_trace.specs.Answers.{answer_in}
-use Rattle.dbtg_trace.specs.Faults.{refusal, when, whole_faults}
+use Rattle.dbtg_trace.specs.Faults.{when, whole_faults}
 use Rattle.dbtg_trace.specs.Inside.Reading.{entry_verdict, line_verdict, lines_verdict, part_verdict}
 use Rattle.dbtg_trace.specs.Laws.{AreLinesOf, IsLineOf, PrintedTraceIsReadBack, all_said, as_said}
 use Rattle.dbtg_trace.specs.Parts.{arrow_at, halves, is_unit, sides, unit_named, without_space}
 use Rattle.dbtg_trace.specs.Printing.{trace_line, trace_lines}
-use Rattle.dbtg_trace.specs.Traces.{entries_of, entry_by, entry_of, line_entry, trace}
+use Rattle.dbtg_trace.specs.Traces.{entries_of, entry_by, entry_of, line_entry}
 use Rattle.dbtg_trace.proofs.EntrySteps.{all_said as entry_passes, of_line}
 use Rattle.dbtg_trace.proofs.TraceSteps.{entry_decides, line_passes, no_lines, one_said, short_trace}
 use Rattle.dbtg_trace.proofs.ReadBack.Spelled.{short_status}
 use Rattle.dbtg_trace.proofs.ReadBack.Bytes.{arrow_behind, last_word}
-use Rattle.dbtg_trace.proofs.ReadBack.Grammar.{clear, none_behind, none_front, off, words_clear}
+use Rattle.dbtg_trace.proofs.ReadBack.Grammar.{clear, none_behind, none_front, words_clear}
 use Rattle.dbtg_trace.proofs.ReadBack.Periods.{ends_at, last_of, no_period}
 use Rattle.dbtg_trace.proofs.ReadBack.Said.{EndsWell, answer_back, answer_ends_well, answer_shows, digit_shows, last_passes, shows, well_behind}
-use Rattle.dbtg_trace.proofs.ReadBack.Words.{all_append, all_digits, all_imply, behind_space, digits}
+use Rattle.dbtg_trace.proofs.ReadBack.Words.{all_append, all_digits, all_imply, behind_space}
 
 -- LISTS OF BYTES
 

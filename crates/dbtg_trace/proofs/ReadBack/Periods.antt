@@ -1,5 +1,5 @@
 -- No word that may be the last of an accepted line ends in a period.
-use Rattle.std.proofs.Common.{◌≡◌, ℕ, zero, suc, ◌+◌, ◌-◌, ◌<◌, Bool, true, false, cond, not, ◌&&◌, List, [], ◌∷◌, ◌++◌, length, map, get_or, Option, Some, None, inl, inr, refl, sym, ap, subst, ◌∙◌, arith, true≢false}
+use Rattle.std.proofs.Common.{◌≡◌, ℕ, ◌+◌, ◌-◌, ◌<◌, Bool, true, false, cond, ◌&&◌, List, [], ◌∷◌, ◌++◌, length, map, get_or, Option, Some, None, inl, inr, refl, sym, ap, ◌∙◌, arith, true≢false}
 use Rattle.std.specs.Prelude.{◌==◌, ◌⊎◌, is_none, if◌then◌else◌, nat_lt}
 use Rattle.std.specs.List.{All, list_all, position_from}
 use Rattle.std.specs.Str.{bytes_eq}
@@ -21,7 +21,7 @@ use Rattle.dbtg_script.specs.Lines.{ends_with}
 use Rattle.dbtg_script.specs.Printing.Spelling.{behind, has_byte, in_front, is_number, is_signed}
 use Rattle.dbtg_script.specs.StatementFaults.{at_other, end_faults, faults_from, said, when}
 use Rattle.dbtg_script.specs.StatementGrammar.{Form, Kind, Labelled, key, other_than, name, equals_sign, signed, keyed, value, fits}
-use Rattle.dbtg_script.specs.Tokens.{Token, plain, equals, literal}
+use Rattle.dbtg_script.specs.Tokens.{Token, plain}
 use Rattle.dbtg_trace.proofs.ReadBack.Grammar.{Each, Ends, end, ended, found, found_fits, may_be_last, none_behind, none_front, off, second_or, some_bytes}
 
 -- THE LAST BYTE

@@ -2,7 +2,7 @@
 use Rattle.std.proofs.Common.{◌≡◌, ℕ, ◌+◌, ◌%◌, ◌^◌, ◌<◌, ◌≤◌, Bool, true, false, not, ◌&&◌, List, [], ◌∷◌, ◌++◌, length, map, Option, Some, None, inl, inr, refl, sym, ap, subst, ◌∙◌, arith, append_assoc, true≢false}
 use Rattle.std.specs.Prelude.{◌==◌, decimal, if◌then◌else◌, nat_le, nat_lt, option_and_then, option_map}
 use Rattle.std.specs.List.{All, list_all}
-use Rattle.std.proofs.lemmas.Bool.{and_from, and_parts}
+use Rattle.std.proofs.lemmas.Bool.{and_parts}
 use Rattle.std.proofs.lemmas.Bool.Decides.{nat_tests}
 use Rattle.std.proofs.lemmas.List.{append-nil}
 use Rattle.std.proofs.lemmas.List.Elements.{All-head, All-tail}
@@ -19,7 +19,7 @@ use Rattle.dbtg_cells.specs.declared.key.DbKey.{DbKey}
 use Rattle.dbtg_cells.specs.declared.key.Value.{Value}
 use Rattle.dbtg_cells.specs.declared.key.Value.TheVariants.{Num, Text}
 use Rattle.dbtg_unit.specs.Database.Statements.Fits.{is_text_byte, value_fits, values_fit}
-use Rattle.dbtg_script.specs.Lines.{ends_in_text, is_printable}
+use Rattle.dbtg_script.specs.Lines.{ends_in_text}
 use Rattle.dbtg_script.specs.Printing.Texts.{answered_text, found_text, four_digits, generation_text, items_text, key_text, type_name, value_text}
 use Rattle.dbtg_script.specs.Tokens.{Token, plain, is_letter, tokens}
 use Rattle.dbtg_trace.specs.Answers.{answer_in, said_of, said_of_key, said_of_status, values_in}

@@ -1,11 +1,11 @@
 -- Each answer of a history of the sequential database can be said, and its units are there.
-use Rattle.std.proofs.Common.{◌≡◌, ℕ, zero, suc, ◌+◌, ◌-◌, ◌<◌, ◌≤◌, Bool, true, false, cond, not, ◌&&◌, List, [], ◌∷◌, ◌++◌, length, map, Option, Some, None, slice_get, refl, sym, ap, subst, ◌∙◌, arith, length-set}
+use Rattle.std.proofs.Common.{◌≡◌, ℕ, zero, suc, ◌+◌, ◌-◌, ◌<◌, ◌≤◌, Bool, true, false, cond, not, ◌&&◌, List, [], ◌∷◌, ◌++◌, length, map, Option, Some, None, slice_get, refl, sym, ap, subst, ◌∙◌, arith}
 use Rattle.std.specs.Prelude.{◌==◌, ◌||◌, Ok, Err, Result, is_some, nat_le, option_map, unwrap_or}
 use Rattle.std.specs.List.{AllByRecursion, list_all, position_from}
 use Rattle.std.specs.Str.{bytes_eq}
 use Rattle.std.proofs.lemmas.Bool.{and_from, and_parts, le-leb, not-false}
 use Rattle.std.proofs.lemmas.Bool.Decides.{nat_tests}
-use Rattle.std.proofs.lemmas.Option.{same_Some, slice_get_within}
+use Rattle.std.proofs.lemmas.Option.{same_Some}
 use Rattle.std.proofs.lemmas.Slice.Eq.{bytes_eq-Decides}
 use Rattle.dbtg_schema.specs.Lists.{Lists}
 use Rattle.dbtg_schema.specs.Lookups.{first_cause}
@@ -33,9 +33,9 @@ use Rattle.dbtg_unit.specs.Database.Statements.Effect.{StatementEffect, deleted,
 use Rattle.dbtg_unit.specs.Database.Statements.Fits.{fits}
 use Rattle.dbtg_unit.specs.Database.Statements.Found.{found}
 use Rattle.dbtg_unit.specs.Database.Statements.StoredFacts.{whole}
-use Rattle.dbtg_unit.specs.Database.Laws.Replay.{AnswersHold, State, after_entry, after_effect, answer_to, opening_state, effect_of_unit, replay}
+use Rattle.dbtg_unit.specs.Database.Laws.Replay.{AnswersHold, State, after_entry, answer_to, opening_state, effect_of_unit, replay}
 use Rattle.dbtg_unit.specs.Database.Laws.StaysLegal.{IsLegalState}
-use Rattle.dbtg_unit.proofs.Public.{effect_step, first_check_passes, found_live, opening_is_legal, opening_length, replay_keeps_legal}
+use Rattle.dbtg_unit.proofs.Public.{effect_keeps_count, effect_step, first_check_passes, found_live, opening_is_legal, opening_length, replay_keeps_legal, unit_is_there}
 use Rattle.dbtg_script.specs.Lookups.{type_named}
 use Rattle.dbtg_script.specs.Printing.Spelling.{has_byte}
 use Rattle.dbtg_script.specs.Printing.Texts.{type_name}
@@ -220,28 +220,17 @@ answers_can_be_said schema sound named capacity small units history is = sayable
 
 -- ITS UNITS
 
-as_many : (state : State) (u : ℕ) (outcome : Option StatementEffect) → length (after_effect state u outcome).units ≡ length state.units
-as_many state u None = refl
-as_many state u (Some outcome) = length-set state.units (u - 1) outcome.unit
-
 there : (schema : Lists) (capacity : ℕ) (state : State) (e : Entry) → answer_to schema capacity state e ≡ Some e.answer → (nat_le 1 e.unit && nat_le e.unit (length state.units)) ≡ true
-there schema capacity state e answered = by e.unit answered
-  where
-    of_unit : (i : ℕ) (found : Option RunUnit) → slice_get state.units i ≡ found → option_map (λ (o : StatementEffect). o.answer) (option_map (λ unit. effect schema capacity state.database unit e.statement) found) ≡ Some e.answer
-        → (nat_le 1 (suc i) && nat_le (suc i) (length state.units)) ≡ true
-    of_unit i None is h = absurd cc
-    of_unit i (Some unit) is h = let low = slice_get_within state.units i unit is in and_from _ _ (le-leb 1 (suc i) (omega arith)) (le-leb (suc i) (length state.units) (omega (arith, low)))
-
-    by : (u : ℕ) → option_map (λ (o : StatementEffect). o.answer) (effect_of_unit schema capacity state u e.statement) ≡ Some e.answer → (nat_le 1 u && nat_le u (length state.units)) ≡ true
-    by zero h = absurd cc
-    by (suc i) h = of_unit i (slice_get state.units i) refl h
+there schema capacity state e answered =
+    let is = unit_is_there schema capacity state e answered in
+    let low = is.0 in and_from _ _ (le-leb 1 e.unit (omega (arith, low))) (le-leb e.unit (length state.units) is.1)
 
 all_there : (schema : Lists) (capacity units : ℕ) (state : State) (es : List Entry) → length state.units ≡ units → AnswersHold schema capacity state es → list_all (λ e. nat_le 1 e.unit && nat_le e.unit units) es ≡ true
 unfolding AnswersHold
 all_there schema capacity units state [] many hold = refl
 all_there schema capacity units state (e ∷ es) many hold =
     and_from _ _ (ap (λ n. nat_le 1 e.unit && nat_le e.unit n) (sym many) ∙ there schema capacity state e hold.0)
-    (all_there schema capacity units (after_entry schema capacity state e) es (as_many state e.unit (effect_of_unit schema capacity state e.unit e.statement) ∙ many) hold.1)
+    (all_there schema capacity units (after_entry schema capacity state e) es (effect_keeps_count state e.unit (effect_of_unit schema capacity state e.unit e.statement) ∙ many) hold.1)
 
 -- each entry is of one of the units
 pub units_there : (schema : Lists) (capacity units : ℕ) (history : List Entry) → AnswersHold schema capacity (opening_state schema units) history → list_all (λ e. nat_le 1 e.unit && nat_le e.unit units) history ≡ true

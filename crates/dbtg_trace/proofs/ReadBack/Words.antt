@@ -1,6 +1,6 @@
 -- The words of printed bytes: letters up to a byte that is none are a word, and so are bytes between quotes.
-use Rattle.std.proofs.Common.{◌≡◌, ℕ, suc, ◌+◌, ◌*◌, ◌-◌, ◌/◌, ◌%◌, ◌^◌, ◌<◌, ◌≤◌, Bool, true, false, not, ◌&&◌, ◌||◌, List, [], ◌∷◌, ◌++◌, length, refl, sym, ap, subst, ◌∙◌, arith}
-use Rattle.std.specs.Prelude.{◌==◌, decimal, if◌then◌else◌, nat_le, nat_lt}
+use Rattle.std.proofs.Common.{◌≡◌, ℕ, ◌+◌, ◌*◌, ◌-◌, ◌/◌, ◌%◌, ◌^◌, ◌<◌, ◌≤◌, Bool, true, false, not, ◌&&◌, ◌||◌, List, [], ◌∷◌, ◌++◌, length, refl, ap, ◌∙◌, arith}
+use Rattle.std.specs.Prelude.{◌==◌, decimal, if◌then◌else◌, nat_lt}
 use Rattle.std.specs.List.{list_all}
 use Rattle.std.proofs.lemmas.Bool.{and_from, and_parts}
 use Rattle.std.proofs.lemmas.Bool.Decides.{nat_tests}
@@ -8,7 +8,7 @@ use Rattle.std.proofs.lemmas.Fmt.{decimal_by_steps}
 use Rattle.std.proofs.lemmas.List.Folds.{list_all-append}
 use Rattle.dbtg_schema.specs.Texts.Spelling.{is_digit}
 use Rattle.dbtg_script.specs.Lines.{ends_in_text}
-use Rattle.dbtg_script.specs.Printing.Spelling.{has_byte, is_number}
+use Rattle.dbtg_script.specs.Printing.Spelling.{is_number}
 use Rattle.dbtg_script.specs.Tokens.{Token, plain, equals, literal, into, is_letter, onto, tokens}
 use Rattle.dbtg_trace.proofs.ReadBack.Bytes.{at_letter, in_quote, in_text}
 use Rattle.dbtg_trace.proofs.ReadBack.Grammar.{off, some_bytes}

@@ -6,3 +6,4 @@ pub mod GoForward
 pub mod LeastSets
 pub mod OneMoreEntry
 pub mod PlacingOrder
+pub mod UnitCount

@@ -1,4 +1,3 @@
-use Rattle.std.proofs.Common.{inl}
 use Rattle.std.proofs.lemmas.Result.{err_from_is_err_and}
 use Rattle.dbtg_command.specs.declared.order.OrderKind.TheVariants.{Serial}
 use Rattle.dbtg.proofs.threads.run_on_threads.Goals as goal

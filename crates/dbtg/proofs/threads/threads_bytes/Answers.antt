@@ -1,4 +1,4 @@
-use Rattle.std.proofs.Common.{false, length}
+use Rattle.std.proofs.Common.{false}
 use Rattle.dbtg_command.specs.declared.order.Order.TheVariants as by
 use Rattle.dbtg_command.specs.declared.order.OrderKind.TheVariants as kind
 use Rattle.dbtg_command.proofs.Public.{run_told}

@@ -1,4 +1,4 @@
-use Rattle.std.proofs.Common.{◌++◌, ◌∙◌, ap, drop, map, length, arith}
+use Rattle.std.proofs.Common.{◌++◌, ◌∙◌, ap, drop, map, arith}
 use Rattle.dbtg_script.specs.Printing.Echo.{rows_text}
 use Rattle.dbtg_script.proofs.Printing.Beside.{rows_done}
 use Rattle.dbtg_script.proofs.echo.push_rows.Goals as goal

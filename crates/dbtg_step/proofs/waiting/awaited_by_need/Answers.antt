@@ -1,4 +1,4 @@
-use Rattle.std.proofs.Common.{length, ◌-◌, arith}
+use Rattle.std.proofs.Common.{◌-◌, arith}
 use Rattle.dbtg_cells.proofs.Public.{there_is}
 use Rattle.dbtg_step.proofs.TheCore.WaitingShown.{ready_goes_on, stale_goes_on}
 use Rattle.dbtg_step.proofs.waiting.awaited_by_need.Goals as goal

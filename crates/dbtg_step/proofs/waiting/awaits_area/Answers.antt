@@ -1,4 +1,4 @@
-use Rattle.std.proofs.Common.{◌≡◌, ◌||◌, length, take, drop, sym, subst, ◌-◌, arith}
+use Rattle.std.proofs.Common.{◌≡◌, ◌||◌, take, drop, sym, subst, ◌-◌, arith}
 use Rattle.std.specs.List.{list_any}
 use Rattle.dbtg_cells.proofs.Public.{there_is}
 use Rattle.dbtg_step.specs.Inside.Parts.{core_of}

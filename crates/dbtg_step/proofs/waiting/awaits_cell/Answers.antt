@@ -1,4 +1,4 @@
-use Rattle.std.proofs.Common.{◌≡◌, ◌∙◌, Some, None, length, sym, ap, subst, ◌-◌, arith}
+use Rattle.std.proofs.Common.{◌≡◌, ◌∙◌, Some, None, sym, ap, subst, ◌-◌, arith}
 use Rattle.std.specs.Prelude.{if◌then◌else◌}
 use Rattle.dbtg_cells.proofs.Public.{there_is}
 use Rattle.dbtg_step.specs.declared.waiting.Awaited.{Awaited}

@@ -14,7 +14,7 @@ use Rattle.dbtg_cells.specs.declared.key.Owner.TheVariants.{Rec}
 use Rattle.dbtg_unit.specs.declared.statement.Suppress.{Suppress}
 use Rattle.dbtg_unit.specs.declared.unit.Place.{Place}
 use Rattle.dbtg_unit.specs.Database.State.Units.{suppresses, seen_place}
-use Rattle.dbtg_unit.specs.Inside.Seen.{seen_as_owner, seen_in_list, seen_in_set, seen_in_sets}
+use Rattle.dbtg_unit.specs.Inside.Seen.{seen_as_owner, seen_in_list, seen_in_sets}
 use Rattle.dbtg_unit.proofs.Database.Records.OwnersFound.{set_within}
 use Rattle.dbtg_unit.proofs.Lists.Membership.{In, any_in, in_filter, in_range}
 use Rattle.dbtg_unit.proofs.Lists.Numbered.{made_twice, written, written_first, written_nowhere}

@@ -21,7 +21,6 @@ use Rattle.dbtg_unit.specs.declared.unit.Cause.{Cause}
 use Rattle.dbtg_unit.specs.declared.unit.Unit.{Unit}
 use Rattle.dbtg_unit.specs.Database.State.Base.{Database}
 use Rattle.dbtg_unit.specs.Database.State.CellNames.{slot_name}
-use Rattle.dbtg_unit.specs.Database.Statements.Effect.{new_key}
 use Rattle.dbtg_unit.specs.Database.Statements.Found.{found}
 use Rattle.dbtg_unit.specs.Database.State.Legal.{pairwise}
 use Rattle.dbtg_unit.specs.Hands.Needs.{cells_of, current_owner, find_cells, found_slot, ring_names, slot_names, store_cells, store_rings}

@@ -1,7 +1,7 @@
 -- What a statement needs next is above what it has in hand, where that was taken in turn; a cell lies in an area in hand.
-use Rattle.std.proofs.Common.{◌≡◌, refl, sym, ◌∙◌, ap, subst, ℕ, zero, suc, ◌<◌, Bool, true, false, not, eqb, List, [], ◌∷◌, length, map, Option, Some, None, inl, inr, arith}
+use Rattle.std.proofs.Common.{◌≡◌, refl, sym, ◌∙◌, ap, subst, ℕ, zero, suc, ◌<◌, Bool, true, false, not, eqb, List, [], ◌∷◌, length, Option, Some, None, inl, inr, arith}
 use Rattle.std.specs.Prelude.{is_some, nat_lt, take, if◌then◌else◌, ◌==◌}
-use Rattle.std.specs.List.{list_any, list_all, find, range_with_len}
+use Rattle.std.specs.List.{list_any, find, range_with_len}
 use Rattle.std.proofs.lemmas.Bool.{and_parts, eqb-true, eq-eqb, false≢true, ltb-true, not-false, not-true}
 use Rattle.dbtg_schema.specs.Lists.{Lists}
 use Rattle.dbtg_schema.specs.Sound.{IsSound}
@@ -20,7 +20,6 @@ use Rattle.dbtg_unit.specs.Database.State.CellNames.{area_of_cell}
 use Rattle.dbtg_unit.specs.Database.State.Legal.{Legal, pairwise}
 use Rattle.dbtg_unit.specs.Database.Statements.Checks.{areas_of, refused_at_once}
 use Rattle.dbtg_unit.specs.Database.Statements.Fits.{fits}
-use Rattle.dbtg_unit.specs.Hands.EditsOf.{is_delete}
 use Rattle.dbtg_unit.specs.Hands.Hands.{Hands}
 use Rattle.dbtg_unit.specs.Hands.Local.{names_of}
 use Rattle.dbtg_unit.specs.Hands.NeedOrder.{IsAbove, IsInHeldArea, IsInTurn}

@@ -2,7 +2,7 @@
 -- then STORE, the versions that statements raise, INSERT and REMOVE, MODIFY, DELETE; and at the end `done_on_cells`, a line for
 -- each statement, and `effect`, which puts the checks before it.
 -- k is a key, m a new member, o an owner, s a set, t a record type, n a number, a and b areas, db a database.
-use Rattle.std.specs.Prelude.{ℕ, ◌+◌, Bool, true, false, not, ◌&&◌, ◌==◌, List, [], ◌∷◌, ◌++◌, Option, Some, None, Result, Ok, Err, is_some, map, filter, slice_set, option_map, option_and_then, unwrap_or, if◌then◌else◌}
+use Rattle.std.specs.Prelude.{ℕ, ◌+◌, Bool, true, false, not, ◌&&◌, ◌==◌, List, [], ◌∷◌, ◌++◌, Option, Some, None, Result, Ok, Err, map, filter, slice_set, option_map, option_and_then, unwrap_or, if◌then◌else◌}
 use Rattle.std.specs.List.{list_any}
 use Rattle.dbtg_schema.specs.Lists.{Lists}
 use Rattle.dbtg_schema.specs.declared.shape.Order.{Order}
@@ -29,7 +29,7 @@ use Rattle.dbtg_unit.specs.declared.unit.Cause.{Cause}
 use Rattle.dbtg_unit.specs.declared.unit.Cause.TheVariants.{NoCurrentOfRunUnit}
 use Rattle.dbtg_schema.specs.Lookups.{some_and, first_cause}
 pub use Rattle.dbtg_unit.specs.Database.State.Base.{free_number, new_key, version_of}
-use Rattle.dbtg_unit.specs.Database.State.Base.{Database, Record, items_of, members_of, is_member, owner_of, sort_key}
+use Rattle.dbtg_unit.specs.Database.State.Base.{Database, Record, items_of, members_of, is_member, sort_key}
 pub use Rattle.dbtg_unit.specs.Database.Statements.StoredFacts.{whole}
 pub use Rattle.dbtg_unit.specs.Database.Statements.Conditions.{calc_taken, changed_items, has_members, is_plain, names_calc, refuses_equal, uses_position}
 use Rattle.dbtg_unit.specs.Database.State.Units.{place_in, seen, forgotten, noted}

@@ -4,7 +4,6 @@ use Rattle.std.proofs.lemmas.Option.{slice_get_read}
 use Rattle.dbtg_step.specs.declared.parts.UnitState.{UnitState}
 use Rattle.dbtg_step.specs.declared.watching.Newest.{Newest}
 use Rattle.dbtg_step.specs.Machine.SequentialDatabase.{unit_at}
-use Rattle.dbtg_step.specs.Machine.Network.{network}
 use Rattle.dbtg_step.specs.Core.Parts.{CoreParts, machine, unit_state_of}
 use Rattle.dbtg_step.specs.Core.Newest.{newest_at, newest_of}
 use Rattle.dbtg_step.proofs.TheCore.EventsShown.{no_unit, unit_there}
