@@ -72,5 +72,5 @@ pub use Rattle.dbtg_cells.proofs.PlainLists.{reverse_more}
 pub use Rattle.dbtg_cells.proofs.PlainLists.{same_truth}
 -- a list has something at each index below its length
 pub use Rattle.dbtg_cells.proofs.PlainLists.{there_is}
--- anything follows where no is yes
+-- anything follows if false is true
 pub use Rattle.dbtg_cells.proofs.Rising.{nothing}

@@ -42,7 +42,7 @@ none_past [] n at = refl
 none_past (e ∷ es) zero at = absurd (cc)
 none_past (e ∷ es) (suc n) at = none_past es n at
 
--- a node that none of them is does not stand anywhere
+-- a node that is none of them stands nowhere
 avoided_place : (i : ℕ) (es : List Link) (n : ℕ) → Avoids i es → slice_get (places es) n ≡ Some i → ⊥
 avoided_place i [] n away at = cc
 avoided_place i (e ∷ es) zero away at = away.0 (same_Some _ _ at)
@@ -67,12 +67,12 @@ place_of_link [] e b (suc n) apart at = absurd (avoided_place e.at b n apart.0 a
 place_of_link (f ∷ a) e b zero apart at = absurd ((Avoids_right f.at a (e ∷ b) apart.0).0 (sym (same_Some _ _ at)))
 place_of_link (f ∷ a) e b (suc n) apart at = ap suc (place_of_link a e b n apart.1 at)
 
--- a node less
+-- one node less
 pub places_without : (a : List Link) (e : Link) (b : List Link) → remove (places (a ++ e ∷ b)) (length a) ≡ places (a ++ b)
 places_without [] e b = refl
 places_without (f ∷ a) e b = ap (λ ns. f.at ∷ ns) (places_without a e b)
 
--- a node more
+-- one node more
 pub places_with : (a : List Link) (e : Link) (b : List Link) (n : ℕ) → n ≡ length a → insert (places (a ++ b)) n e.at ≡ places (a ++ e ∷ b)
 places_with a e b n is =
     let count : n ≡ length (places a) = is ∙ sym (length-map a (λ e. e.at)) in
@@ -310,7 +310,7 @@ empty find s order is_s none is_nodes = by_order find s None None 0 [] order not
 pub listing : (find : DbKey → Option ℕ) (s : Slots) (first last : Option ℕ) (len : ℕ) (R : IsRing find s first last len) (order : OrderView) (known : SortFacts) → IsOrderOf find R.chain order known → Stands find s first last len (follow len s first) order known
 listing find s first last len R order known O = record { ring = R; list_is = refl; ordered = O }
 
--- a ring whose parts are written anew as they were, but for room in its order
+-- a ring whose parts are written again as they were, except for room in its order
 pub as_it_was : (find find' : DbKey → Option ℕ) (s s' : Slots) (first last : Option ℕ) (len : ℕ) (R : IsRing find s first last len) (order order' : OrderView) (known : SortFacts) (O : IsOrderOf find R.chain order known)
     → ((k : DbKey) → find' k ≡ find k) → s' ≡ s → order'.nodes ≡ order.nodes → order.room ≤ order'.room
     → Stands find' s' (slice_get order'.nodes 0) (last_node order'.nodes) (length order'.nodes) (follow len s first) order' known

@@ -113,7 +113,7 @@ out_mark s x p q = off (put_if q (with_prior p) (put_if p (with_next q) s))
 pub Seg_key : (s : Slots) (p : Option ℕ) (a : List Link) (e : Link) (b : List Link) (q : Option ℕ) → Seg s p (a ++ e ∷ b) q → slot s e.at ≡ Some (node_of e (last_at p a) (head_at b q))
 Seg_key s p a e b q h = (Seg_right q s p a (e ∷ b) h).0
 
--- a node that is not linked is none of the chain
+-- a node that is not linked is not in the chain
 pub Seg_avoids : (s : Slots) (x : ℕ) (n : Node) → slot s x ≡ Some n → n.linked ≡ false → (p : Option ℕ) (es : List Link) (q : Option ℕ) → Seg s p es q → Avoids x es
 Seg_avoids s x n there off p [] q h = tt
 Seg_avoids s x n there off p (e ∷ es) q h = (
@@ -307,7 +307,7 @@ reserved_key (Some n ∷ s) k (suc at) r = by n.linked refl (reserved_key s k at
     by true p h = rw p h
     by false p h = rw p (Contains-cons _ _ _ h)
 
--- a node that comes to lie where none lay takes no place away that was kept
+-- a node written where there was none takes away no place that was kept
 pub reserving_earlier : (s s' : Slots) (x : ℕ) → slot s x ≡ None → ((j : ℕ) → j ≢ x → slot s' j ≡ slot s j)
     → (k : DbKey) → Contains (unlinked_keys s) k → Contains (unlinked_keys s') k
 reserving_earlier s s' x vacant others k kept =
@@ -448,7 +448,7 @@ still_reserved s s' k i r keys off =
     let key : key_at s' i ≡ Some k = keys ∙ ap (option_map (λ n. n.member.0)) r.there ∙ ap Some r.key in
     reserved_key s' k i (reserved_from s' i k key (off (ap (λ o. option_map_or (λ n. n.linked) o false) r.there ∙ r.off)))
 
--- a node that comes into the list takes no place away that was kept for another key, and one that goes from it takes none away
+-- a node that enters the list takes away no place that was kept for another key, and one that leaves it takes away none
 pub in_earlier : (s : Slots) (x : ℕ) (m : Entry) (p q : Option ℕ) → Reserved s m.0 x → (s' : Slots) → s' ≡ linked_in x m p q s → (k : DbKey) → k ≢ m.0 → Contains (unlinked_keys s) k → Contains (unlinked_keys s') k
 in_earlier s x m p q new s' is k differs kept =
     let r = reserved_node s k kept in

@@ -221,7 +221,7 @@ pub(crate) fn next_picked(
     }
 }
 
-// Whether the last listed number, and so each, stands before the place of these values and this number.
+// Whether the last listed number, and so every one, stands before the place of these values and this number.
 fn is_past_all(listed: &[u32], numbers: &[Number], values: &[Value], number: u32) -> bool
     requires { is_rising (stands_before numbers.now) listed.now ≡ true }
     ensures { IsTrue result → position_or_len (is_behind numbers.now (values.now, number)) listed.now ≡ length listed.now }
@@ -232,7 +232,7 @@ fn is_past_all(listed: &[u32], numbers: &[Number], values: &[Value], number: u32
     !is_behind(numbers, values, number, listed[listed.len() - 1])
 }
 
-// Where the first number behind a place stands, or the length. The place of a new number is mostly the last one.
+// The place of the first number after a place, or the length. A new number mostly goes last.
 fn place_of_new(listed: &[u32], numbers: &[Number], values: &[Value], number: u32) -> usize
     requires { is_rising (stands_before numbers.now) listed.now ≡ true }
     ensures at { result ≡ position_or_len (is_behind numbers.now (values.now, number)) listed.now }
@@ -257,7 +257,7 @@ pub(crate) fn list_by_calc(listed: &mut Vec<u32>, numbers: &[Number], number: u3
     insert_number(listed, at, number);
 }
 
-// Where a listed number stands. It is the first behind the place of its values and the number below it; numbers that go one
+// The place of a listed number: the first after the place of its values and the number below it. Numbers that are removed one
 // after another mostly stand first.
 fn place_of_listed(listed: &[u32], numbers: &[Number], number: u32) -> usize
     requires rising { is_rising (stands_before numbers.now) listed.now ≡ true }

@@ -130,7 +130,7 @@ pub fn cell_number(schema: &Schema, capacity: u16, name: &CellName) -> Option<us
     }
 }
 
-/// Where each cell stands, worked out once: by it a number is found with no look at the schema.
+/// The place of each cell, computed once, so that a number is found without looking at the schema.
 #[derive(Clone, Copy, Drop)]
 pub struct Layout {
     areas: u8,
@@ -175,7 +175,7 @@ impl Layout {
         }
     }
 
-    /// The number of a cell. Of a name that no cell has it is any number.
+    /// The number of a cell. For a name that no cell has, it may be any number.
     pub fn number(&self, name: &CellName) -> usize
         ensures { result ≡ place_in self.now name.now }
     {

@@ -1,5 +1,5 @@
--- Lemmas on grammars: what is read to its end without a fault is derived, and in one way alone.
--- Over the definitions of texts alone; they know nothing of what makes a schema sound.
+-- Lemmas on grammars: what is read to its end without a fault is derived, and in one way only.
+-- They use only the definitions of texts, and know nothing of what makes a schema sound.
 -- May use: the definitions of texts.
 -- Promises: `Accepted` and `OneReading`: an accepted text is derived by the grammar of schemas, and in one way; `NoFault`: a text that it
 -- derives has no fault of the grammar.

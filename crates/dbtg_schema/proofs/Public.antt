@@ -46,11 +46,11 @@ pub use Rattle.dbtg_schema.proofs.Sound.Distinct.{bytes_same}
 pub use Rattle.dbtg_schema.proofs.Sound.Distinct.{distinct_behind}
 -- a name is in two lists joined just where it is in one of them
 pub use Rattle.dbtg_schema.proofs.Sound.Distinct.{name_among_append}
--- two names that are there have one number only where they are one
+-- two names that are there have the same number only if they are the same
 pub use Rattle.dbtg_schema.proofs.Sound.Distinct.{one_name}
 -- two lists are empty where both together are
 pub use Rattle.dbtg_schema.proofs.Sound.Limits.{both_nil}
--- WHAT IS WORKED OUT OF A SCHEMA
+-- WHAT IS COMPUTED FROM A SCHEMA
 
 -- some number passes both or neither of two tests that agree
 pub use Rattle.dbtg_schema.proofs.Known.Erasings.{any_same}

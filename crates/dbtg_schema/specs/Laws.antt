@@ -12,7 +12,7 @@ use Rattle.dbtg_schema.specs.Texts.SchemaFaults.{faults, refusal}
 abbrev pub Derivation : List ℕ → Type 0
 Derivation text = (ws : List Labelled) × (map (λ l. l.word) ws ≡ text_words text) × Derives fits schema ws
 
--- an accepted text has one derivation alone, which gives its words the roles that they are read with
+-- an accepted text has exactly one derivation, which gives its words the roles that they are read with
 abbrev pub AcceptedIsDerivedOnce : Type 0
 AcceptedIsDerivedOnce =
     (text : List ℕ) → refusal text ≡ None → (d : Derivation text) × (d.0 ≡ labels fits schema (text_words text)) × ((e : Derivation text) → e ≡ d)

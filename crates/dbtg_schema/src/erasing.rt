@@ -225,7 +225,7 @@ pub fn areas_of_each(alloc: Global, schema: &Schema) -> Result<Row<AreaSet>, All
     Ok(each)
 }
 
-/// The same as `areas_reached`. A function of its own, because its tables take room that is cleared at each call.
+/// The same as `areas_reached`. It is a separate function because its tables take room that is cleared at each call.
 #[inline(never)]
 fn areas_reached_now(schema: &Schema, rtype: RecordNo) -> AreaSet
     ensures { AreErased schema.now rtype result }

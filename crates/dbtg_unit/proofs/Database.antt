@@ -1,4 +1,4 @@
--- Lemmas on the sequential database, the first half of the crate. They cite nothing of what is in hand.
+-- Lemmas on the sequential database, the first half of the crate. They cite nothing about held cells.
 -- May use: `Lists` and the first half's definitions.
 pub mod Laws
 pub mod Legal

@@ -1,4 +1,4 @@
--- Lemmas on what a statement has in hand, the second half of the crate.
+-- Lemmas on what a statement holds, the second half of the crate.
 -- May use: the lemmas on the first half, and `Lists`.
 pub mod Changes
 pub mod Holding

@@ -1,4 +1,4 @@
--- Lemmas on lists, numbers and tests, which both halves of the crate use. They cite nothing of what is in hand.
+-- Lemmas on lists, numbers and tests, which both halves of the crate use. They cite nothing of what is held.
 -- May use: the standard library, and words on lists from the first half such as `pairwise`.
 -- Promises: each lemma is over lists of anything.
 pub mod Agreeing

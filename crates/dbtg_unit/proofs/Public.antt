@@ -2,7 +2,7 @@
 
 -- LISTS AND NUMBERS
 
--- what each element passes, all pass
+-- if each element passes a test, all do
 pub use Rattle.dbtg_unit.proofs.Lists.Agreeing.{all_in}
 -- tests that agree on a list: some element passes the one where one passes the other
 pub use Rattle.dbtg_unit.proofs.Lists.Agreeing.{any_agrees}
@@ -22,7 +22,7 @@ pub use Rattle.dbtg_unit.proofs.Lists.Ascending.{ascending_join}
 pub use Rattle.dbtg_unit.proofs.Lists.Ascending.{ascending_range}
 -- past the end, no number is left
 pub use Rattle.dbtg_unit.proofs.Lists.FromZeroUp.{numbers_end}
--- of the numbers from i on, i comes first and the others follow
+-- among the numbers from i on, i comes first and the others follow
 pub use Rattle.dbtg_unit.proofs.Lists.FromZeroUp.{numbers_next}
 -- the first number of a range that is kept and passes is this one, where none before it is
 pub use Rattle.dbtg_unit.proofs.Lists.NoAnswer.{find_here}
@@ -72,23 +72,23 @@ pub use Rattle.dbtg_unit.proofs.Lists.Numbered.{rewritten_all}
 pub use Rattle.dbtg_unit.proofs.Lists.Numbered.{rewritten_next}
 -- where a list has no entry at a number, nothing is left from there
 pub use Rattle.dbtg_unit.proofs.Lists.SideBySide.{drop_none}
--- what each element passes, each that a test keeps passes
+-- if each element passes, so does each that a test keeps
 pub use Rattle.dbtg_unit.proofs.Lists.WithANewMember.{all_filter}
 -- what holds of each pair in a list holds of each pair that a test keeps
 pub use Rattle.dbtg_unit.proofs.Lists.WithANewMember.{pairwise_filter}
 -- WHAT A LEGAL DATABASE HAS
 
--- the numbers in the value of an extent; of any other cell none
+-- the numbers in the value of an extent; none for any other cell
 pub use Rattle.dbtg_unit.proofs.Database.Records.Determined.{extent_in}
--- the occurrence in the value of a ring; of any other cell none
+-- the occurrence in the value of a ring; none for any other cell
 pub use Rattle.dbtg_unit.proofs.Database.Records.Determined.{ring_in}
--- the stored record in the value of a slot; of any other cell none
+-- the stored record in the value of a slot; none for any other cell
 pub use Rattle.dbtg_unit.proofs.Database.Records.Determined.{slot_in}
--- the users in the value of a usage cell; of any other cell none
+-- the users in the value of a usage cell; none for any other cell
 pub use Rattle.dbtg_unit.proofs.Database.Records.Determined.{usage_in}
 -- what a FIND finds is live
 pub use Rattle.dbtg_unit.proofs.Database.Records.FoundIsLive.{found_live}
--- an element passes of what is mapped
+-- an element of a mapped list passes
 pub use Rattle.dbtg_unit.proofs.Database.Records.ItemsAfterModify.{any_mapped}
 -- items that fit their pictures still fit them after changes that fit
 pub use Rattle.dbtg_unit.proofs.Database.Records.ItemsAfterModify.{changed_fit}
@@ -98,7 +98,7 @@ pub use Rattle.dbtg_unit.proofs.Database.Records.ItemsAfterModify.{set_has_numbe
 pub use Rattle.dbtg_unit.proofs.Database.Records.LiveKeys.{all_are_live}
 -- a key that is an element of a list is a member of it
 pub use Rattle.dbtg_unit.proofs.Database.Records.LiveKeys.{in_member}
--- whose list has a record has an occurrence of the set
+-- the owner whose list has a record has an occurrence of the set
 pub use Rattle.dbtg_unit.proofs.Database.Records.LiveKeys.{listed_has_occurrence}
 -- a live key is among all the keys of the database
 pub use Rattle.dbtg_unit.proofs.Database.Records.LiveKeys.{live_in_all}
@@ -106,29 +106,29 @@ pub use Rattle.dbtg_unit.proofs.Database.Records.LiveKeys.{live_in_all}
 pub use Rattle.dbtg_unit.proofs.Database.Records.LiveKeys.{live_is_latest}
 -- a key that is a member of a list is an element of it
 pub use Rattle.dbtg_unit.proofs.Database.Records.LiveKeys.{member_in}
--- what has no owner in a set is in no list of it
+-- a record without an owner in a set is in no list of it
 pub use Rattle.dbtg_unit.proofs.Database.Records.LiveKeys.{member_nowhere}
 -- the list of a record's owner has the record
 pub use Rattle.dbtg_unit.proofs.Database.Records.LiveKeys.{member_of_owner}
 -- a key among the live keys of a type is live and of that type
 pub use Rattle.dbtg_unit.proofs.Database.Records.LiveKeys.{of_live_keys}
--- who has an occurrence of a set is among its owners
+-- an owner with an occurrence of a set is among the set's owners
 pub use Rattle.dbtg_unit.proofs.Database.Records.LiveKeys.{owner_in}
 -- the owner of a record is the one whose list has it
 pub use Rattle.dbtg_unit.proofs.Database.Records.LiveKeys.{owner_of_member}
--- what is in no list of a set has no owner in it
+-- a record in no list of a set has no owner in it
 pub use Rattle.dbtg_unit.proofs.Database.Records.LiveKeys.{unlisted_has_no_owner}
--- of cells in order, the first comes before the last
+-- the first of cells in order comes before the last
 pub use Rattle.dbtg_unit.proofs.Database.Records.NameOrder.{name_chain}
 -- no cell comes before itself
 pub use Rattle.dbtg_unit.proofs.Database.Records.NameOrder.{name_never}
--- of two cells one comes first, or they are one
+-- one of two cells comes first, or they are the same
 pub use Rattle.dbtg_unit.proofs.Database.Records.NameOrder.{name_total}
--- of three numbers, each below the next, the first is below the last
+-- if three numbers are each below the next, the first is below the last
 pub use Rattle.dbtg_unit.proofs.Database.Records.NameOrder.{number_chain}
 -- no number is below itself
 pub use Rattle.dbtg_unit.proofs.Database.Records.NameOrder.{number_never}
--- of two numbers one is below, or they are equal
+-- one of two numbers is below the other, or they are equal
 pub use Rattle.dbtg_unit.proofs.Database.Records.NameOrder.{number_total}
 -- every entry of a list of nulls is null
 pub use Rattle.dbtg_unit.proofs.Database.Records.Openings.{nothing_at}
@@ -142,7 +142,7 @@ pub use Rattle.dbtg_unit.proofs.Database.Records.OwnersFound.{member_has_list}
 pub use Rattle.dbtg_unit.proofs.Database.Records.OwnersFound.{member_owner_found}
 -- the owner that is found has the member
 pub use Rattle.dbtg_unit.proofs.Database.Records.OwnersFound.{owner_has_member}
--- who has an occurrence stands at the place that names it
+-- an owner with an occurrence stands at the place that names it
 pub use Rattle.dbtg_unit.proofs.Database.Records.OwnersFound.{owner_stands_at_place}
 -- what holds of each holds of the one that a look-up gives
 pub use Rattle.dbtg_unit.proofs.Database.Records.SortKeysCompare.{all_at_entry}
@@ -158,7 +158,7 @@ pub use Rattle.dbtg_unit.proofs.Database.Records.UnitsOfSchema.{live_key_is_good
 
 -- the effect of a statement that fits leaves the database legal and the unit a unit of it
 pub use Rattle.dbtg_unit.proofs.Database.Legal.LegalEffect.{effect_step}
--- where no number of a list passes, one that is in it does not
+-- if no number of a list passes, one in it does not
 pub use Rattle.dbtg_unit.proofs.Database.Legal.LegalEffect.{no_number_passes}
 -- a statement that is not refused at once passes the checks without cells that the laws need
 pub use Rattle.dbtg_unit.proofs.Database.Legal.LegalEffect.{passes_without_cells}
@@ -170,7 +170,7 @@ pub use Rattle.dbtg_unit.proofs.Database.Legal.LegalHistory.{opening_is_legal}
 pub use Rattle.dbtg_unit.proofs.Database.Legal.LegalHistory.{replay_keeps_legal}
 -- the effect of a statement that fits leaves the database legal with all its units, if it was before
 pub use Rattle.dbtg_unit.proofs.Database.Legal.LegalUnits.{effect_keeps_legal}
--- what each member of a list passes, all its elements pass
+-- if each member of a list passes, all its elements do
 pub use Rattle.dbtg_unit.proofs.Database.Legal.ListsChanged.{all_members}
 -- a list that has a member is there
 pub use Rattle.dbtg_unit.proofs.Database.Legal.ListsChanged.{member_has_a_list}
@@ -182,7 +182,7 @@ pub use Rattle.dbtg_unit.proofs.Database.Legal.PassedChecks.{first_check_passes}
 pub use Rattle.dbtg_unit.proofs.Database.Legal.PassedChecks.{number_within}
 -- where the checks of two lists joined pass, those of each list pass
 pub use Rattle.dbtg_unit.proofs.Database.Legal.PassedChecks.{passes_append}
--- where a check and the others behind it pass, it does not apply and they pass
+-- if a check and those after it pass, it does not apply and they pass
 pub use Rattle.dbtg_unit.proofs.Database.Legal.PassedChecks.{passes_check}
 -- where the checks of all numbers of a list pass, those of each number do
 pub use Rattle.dbtg_unit.proofs.Database.Legal.PassedChecks.{passes_each}
@@ -194,7 +194,7 @@ pub use Rattle.dbtg_unit.proofs.Database.Legal.SameFacts.{checks_at_agree}
 pub use Rattle.dbtg_unit.proofs.Database.Legal.SameFacts.{SameNumbers, SameOccurrence, SameRecord}
 -- an INSERT has the same checks where the record, its owner and the occurrence are the same
 pub use Rattle.dbtg_unit.proofs.Database.Legal.SameFacts.{insert_checks_agree}
--- of its sets a MODIFY asks only those in which the record has an owner
+-- a MODIFY asks only those of its sets in which the record has an owner
 pub use Rattle.dbtg_unit.proofs.Database.Legal.SameFacts.{modify_checks_agree}
 -- the same record has the same checks of its own
 pub use Rattle.dbtg_unit.proofs.Database.Legal.SameFacts.{own_checks_agree}
@@ -208,7 +208,7 @@ pub use Rattle.dbtg_unit.proofs.Database.Legal.StoreLegal.{member_connected}
 pub use Rattle.dbtg_unit.proofs.Database.Legal.StoreLegal.{not_member}
 -- LAWS OF STATEMENTS AND HISTORIES
 
--- an element of what one element gives is one of what all give
+-- an element of what one element gives is among what all give
 pub use Rattle.dbtg_unit.proofs.Database.Laws.LeastSets.{in_flattened}
 -- the types that can be reached from a record type are it and, with each, its member types, and no more
 pub use Rattle.dbtg_unit.proofs.Database.Laws.LeastSets.{reachable_is_least}
@@ -216,9 +216,9 @@ pub use Rattle.dbtg_unit.proofs.Database.Laws.LeastSets.{reachable_is_least}
 pub use Rattle.dbtg_unit.proofs.Database.Laws.LeastSets.{set_of_member}
 -- answers that hold of a history hold of its rest, from the state that its beginning leads to
 pub use Rattle.dbtg_unit.proofs.Database.Laws.OneMoreEntry.{answers_behind}
--- an entry of the unit comes behind its others
+-- an entry of the unit comes after its others
 pub use Rattle.dbtg_unit.proofs.Database.Laws.OneMoreEntry.{entries_mine}
--- a unit's entries with one entry more
+-- a unit's entries with one more entry
 pub use Rattle.dbtg_unit.proofs.Database.Laws.OneMoreEntry.{entries_more}
 -- an entry of another unit leaves the unit's as they are
 pub use Rattle.dbtg_unit.proofs.Database.Laws.OneMoreEntry.{entries_other}
@@ -246,75 +246,75 @@ pub use Rattle.dbtg_unit.proofs.Database.Laws.UnitCount.{unit_is_there}
 pub use Rattle.dbtg_unit.proofs.Database.Laws.UnitCount.{units_are_there}
 -- WHAT IS READ OFF THE CELLS IN HAND
 
--- the members of an owner with their sort keys are read off the ring in hand
+-- the members of an owner with their sort keys are read from the held ring
 pub use Rattle.dbtg_unit.proofs.Hands.Reading.AsTheDatabase.{entries_in_hand}
--- a cell in hand shows what the database has in it
+-- a held cell shows what the database has in it
 pub use Rattle.dbtg_unit.proofs.Hands.Reading.AsTheDatabase.{held_shows}
--- the items of a record are read off its slot in hand
+-- the items of a record are read from its held slot
 pub use Rattle.dbtg_unit.proofs.Hands.Reading.AsTheDatabase.{items_in_hand}
--- the list of an owner is read off its ring in hand
+-- the list of an owner is read from its held ring
 pub use Rattle.dbtg_unit.proofs.Hands.Reading.AsTheDatabase.{list_in_hand}
--- an owner has a list just where its ring in hand has one
+-- an owner has a list just where its held ring has one
 pub use Rattle.dbtg_unit.proofs.Hands.Reading.AsTheDatabase.{listed_in_hand}
--- a record is live just where its slot in hand has one
+-- a record is live just where its held slot has one
 pub use Rattle.dbtg_unit.proofs.Hands.Reading.AsTheDatabase.{live_in_hand}
--- the members of an owner are read off its ring in hand
+-- the members of an owner are read from its held ring
 pub use Rattle.dbtg_unit.proofs.Hands.Reading.AsTheDatabase.{members_in_hand}
--- the numbers of a record type are read off its extent in hand
+-- the numbers of a record type are read from its held extent
 pub use Rattle.dbtg_unit.proofs.Hands.Reading.AsTheDatabase.{numbers_in_hand}
--- the owner of a record in a set is read off its slot in hand
+-- the owner of a record in a set is read from its held slot
 pub use Rattle.dbtg_unit.proofs.Hands.Reading.AsTheDatabase.{owner_in_hand}
--- the owners in the slot in hand are those of the record
+-- the owners in the held slot are those of the record
 pub use Rattle.dbtg_unit.proofs.Hands.Reading.AsTheDatabase.{owners_in_hand}
--- the ring in hand answers as the database does
+-- the held ring answers as the database does
 pub use Rattle.dbtg_unit.proofs.Hands.Reading.AsTheDatabase.{same_occurrence}
--- the slot in hand answers as the database does
+-- the held slot answers as the database does
 pub use Rattle.dbtg_unit.proofs.Hands.Reading.AsTheDatabase.{same_record}
--- the users of an area are read off its usage cell in hand
+-- the users of an area are read from its held usage cell
 pub use Rattle.dbtg_unit.proofs.Hands.Reading.AsTheDatabase.{users_in_hand}
--- the version of a record is read off its slot in hand
+-- the version of a record is read from its held slot
 pub use Rattle.dbtg_unit.proofs.Hands.Reading.AsTheDatabase.{version_in_hand}
--- the CALC values of a record are read off the extent in hand
+-- the CALC values of a record are read from the held extent
 pub use Rattle.dbtg_unit.proofs.Hands.Reading.ExtentInHand.{calc_items_in_hand}
 -- what a filter leaves of a mapped list is made of what passes once it is mapped
 pub use Rattle.dbtg_unit.proofs.Hands.Reading.ExtentInHand.{filter_map}
 -- the first of a mapped list is made of the first of the list
 pub use Rattle.dbtg_unit.proofs.Hands.Reading.ExtentInHand.{first_map}
--- the number that is free for a new record is read off the extent in hand
+-- the number that is free for a new record is read from the held extent
 pub use Rattle.dbtg_unit.proofs.Hands.Reading.ExtentInHand.{free_in_hand}
 -- the keys of an extent that are behind a key are those of the numbers behind its number
 pub use Rattle.dbtg_unit.proofs.Hands.Reading.ExtentInHand.{keys_behind_in_hand}
--- the last generation of a number is read off the extent in hand
+-- the last generation of a number is read from the held extent
 pub use Rattle.dbtg_unit.proofs.Hands.Reading.ExtentInHand.{last_in_hand}
--- a record is live just where the extent in hand has its key
+-- a record is live just where the held extent has its key
 pub use Rattle.dbtg_unit.proofs.Hands.Reading.ExtentInHand.{live_by_extent}
--- the live keys of a record type are those of the used numbers of the extent in hand
+-- the live keys of a record type are those of the used numbers of the held extent
 pub use Rattle.dbtg_unit.proofs.Hands.Reading.ExtentInHand.{live_keys_in_hand}
--- the key of a new record is read off the extent in hand
+-- the key of a new record is read from the held extent
 pub use Rattle.dbtg_unit.proofs.Hands.Reading.ExtentInHand.{new_key_in_hand}
--- also beside a live record of the type, the extent in hand has the same CALC values as the database
+-- also beside a live record of the type, the held extent has the same CALC values as the database
 pub use Rattle.dbtg_unit.proofs.Hands.Reading.ExtentInHand.{same_calc_beside}
--- the extent in hand answers as the database does
+-- the held extent answers as the database does
 pub use Rattle.dbtg_unit.proofs.Hands.Reading.ExtentInHand.{same_numbers}
--- the keys with given CALC values are read off the extent in hand
+-- the keys with given CALC values are read from the held extent
 pub use Rattle.dbtg_unit.proofs.Hands.Reading.ExtentInHand.{with_calc_in_hand}
--- a record in hand has a next version
+-- a held record has a next version
 pub use Rattle.dbtg_unit.proofs.Hands.Reading.NextVersions.{has_next_version}
--- a plan that is the statement's effect on every database that agrees with what is in hand
+-- a plan that is the statement's effect on every database that agrees with what is held
 pub use Rattle.dbtg_unit.proofs.Hands.Reading.OnePlan.{HasPlan}
 -- what a plan of a statement is read from; to carry it out, there must be next versions too
 pub use Rattle.dbtg_unit.proofs.Hands.Reading.OnePlan.{MayPlan}
--- who may prepare a statement may plan it
+-- a caller that may prepare a statement may plan it
 pub use Rattle.dbtg_unit.proofs.Hands.Reading.OnePlan.{may_plan}
--- one plan does the same on two databases that agree with what is in hand
+-- one plan does the same on two databases that agree with what is held
 pub use Rattle.dbtg_unit.proofs.Hands.Reading.OnePlan.{one_plan_does_the_same}
 -- the CALC values of a live key of the type are those that the extent has
 pub use Rattle.dbtg_unit.proofs.Hands.Reading.ReadingCells.{calc_reads}
 -- keys set beside their sort keys, and taken again
 pub use Rattle.dbtg_unit.proofs.Hands.Reading.ReadingCells.{firsts_pairs}
--- a cell in hand is the database's
+-- a held cell is the database's
 pub use Rattle.dbtg_unit.proofs.Hands.Reading.ReadingCells.{held_cell_agrees}
--- a cell that is in hand is there
+-- a cell that is held is there
 pub use Rattle.dbtg_unit.proofs.Hands.Reading.ReadingCells.{held_is_there}
 -- the last generation of a number of the type is the one that the extent has
 pub use Rattle.dbtg_unit.proofs.Hands.Reading.ReadingCells.{last_reads}
@@ -328,17 +328,17 @@ pub use Rattle.dbtg_unit.proofs.Hands.Reading.ReadingCells.{ring_keys_read}
 pub use Rattle.dbtg_unit.proofs.Hands.Reading.ReadingCells.{ring_reads}
 -- the number at an index of the numbers from a on
 pub use Rattle.dbtg_unit.proofs.Hands.Reading.ReadingCells.{slice_get_range}
--- the areas and the cells that a statement needs are in hand, and no guess is wrong
+-- the areas and the cells that a statement needs are held, and no guess is wrong
 pub use Rattle.dbtg_unit.proofs.Hands.Reading.ReadyParts.{HasAll}
--- a statement that is ready has all in hand of each database that agrees with it
+-- a statement that is ready holds all that it needs of each database that agrees with it
 pub use Rattle.dbtg_unit.proofs.Hands.Reading.ReadyParts.{prepared_has_all}
 -- hands that show the same agree with the same databases
 pub use Rattle.dbtg_unit.proofs.Hands.Reading.SameHands.{agrees_same}
--- cells that show the same are, where the others are, as the database has them
+-- if cells are as the database has them, so are others that show the same
 pub use Rattle.dbtg_unit.proofs.Hands.Reading.SameHands.{all_agree_same}
 -- hands that show the same hold the same cells
 pub use Rattle.dbtg_unit.proofs.Hands.Reading.SameHands.{holds_same}
--- who may prepare a statement with hands may with others that show the same
+-- a caller that may prepare a statement with some hands may do so with others that show the same
 pub use Rattle.dbtg_unit.proofs.Hands.Reading.SameHands.{may_prepare_same}
 -- hands that show the same have the same occurrence of a ring
 pub use Rattle.dbtg_unit.proofs.Hands.Reading.SameHands.{occurrence_in_same}
@@ -352,9 +352,9 @@ pub use Rattle.dbtg_unit.proofs.Hands.Reading.SameHands.{users_in_same}
 pub use Rattle.dbtg_unit.proofs.Hands.Reading.SameHands.{versions_same}
 -- EDITS OF CELLS
 
--- who is left behind by a DELETE is just who stays and is taken out of the list of an owner that goes
+-- a DELETE leaves behind exactly the records that stay and are taken out of the list of an owner that goes
 pub use Rattle.dbtg_unit.proofs.Hands.Changes.DeleteCells.{left_are_taken_out}
--- who is left behind by a DELETE is live
+-- a record that a DELETE leaves behind is live
 pub use Rattle.dbtg_unit.proofs.Hands.Changes.DeleteCells.{left_live}
 -- no record is left behind twice by a DELETE
 pub use Rattle.dbtg_unit.proofs.Hands.Changes.DeleteCells.{left_once}
@@ -362,7 +362,7 @@ pub use Rattle.dbtg_unit.proofs.Hands.Changes.DeleteCells.{left_once}
 pub use Rattle.dbtg_unit.proofs.Hands.Changes.DeleteCells.{skips_closings}
 -- the edits that take what a DELETE takes out of its lists leave each cell that is no ring as it is
 pub use Rattle.dbtg_unit.proofs.Hands.Changes.DeleteCells.{skips_leavings}
--- who is left behind by a DELETE has its next version
+-- a record that a DELETE leaves behind has its next version
 pub use Rattle.dbtg_unit.proofs.Hands.Changes.DeleteCells.{version_left}
 -- no number stands twice
 pub use Rattle.dbtg_unit.proofs.Hands.Changes.EditsInTurn.{distinct}
@@ -386,13 +386,13 @@ pub use Rattle.dbtg_unit.proofs.Hands.Changes.EffectEdits.{effect_is_its_edits}
 pub use Rattle.dbtg_unit.proofs.Hands.Changes.EffectEdits.{store_found}
 -- the effect of each statement that is done is its edits, cell by cell
 pub use Rattle.dbtg_unit.proofs.Hands.Changes.EveryEdit.{every_effect_is_its_edits}
--- of the members of an occurrence in the cell, the edits take out those that pass
+-- the edits take out the members of the cell's occurrence that pass
 pub use Rattle.dbtg_unit.proofs.Hands.Changes.ManyEdits.{Thins}
 -- a test that all pass keeps all
 pub use Rattle.dbtg_unit.proofs.Hands.Changes.ManyEdits.{filter_all}
 -- a key has this number of this type
 pub use Rattle.dbtg_unit.proofs.Hands.Changes.ManyEdits.{is_of_number}
--- the edits that leave the numbers of the keys vacate just these in the extent
+-- the edits that vacate the numbers of the keys vacate just these in the extent
 pub use Rattle.dbtg_unit.proofs.Hands.Changes.ManyEdits.{numbers_left}
 -- edits of other cells, one for each of a list, leave the cell as it is
 pub use Rattle.dbtg_unit.proofs.Hands.Changes.ManyEdits.{skips_map}
@@ -408,7 +408,7 @@ pub use Rattle.dbtg_unit.proofs.Hands.Changes.ModifyCells.{modify_makes}
 pub use Rattle.dbtg_unit.proofs.Hands.Changes.StoreCells.{own_ring_before}
 -- no owner of a list has the new record's number in the database before
 pub use Rattle.dbtg_unit.proofs.Hands.Changes.StoreCells.{owner_not_k}
--- the owners of a new record are those as STORE connects it
+-- the owners of a new record are those that STORE gives it
 pub use Rattle.dbtg_unit.proofs.Hands.Changes.StoreCells.{owners_first}
 -- WHAT A STATEMENT LEAVES AS IT WAS
 
@@ -424,19 +424,19 @@ pub use Rattle.dbtg_unit.proofs.Hands.Untouched.InTurn.{met_few}
 pub use Rattle.dbtg_unit.proofs.Hands.Untouched.InTurn.{met_once}
 -- an element of the first of two joined lists stands at the same place in the whole
 pub use Rattle.dbtg_unit.proofs.Hands.Untouched.InTurn.{slice_get_front}
--- an order of keys to which others are put begins with the order
+-- an order of keys with others added begins with the order
 pub use Rattle.dbtg_unit.proofs.Hands.Untouched.InTurn.{with_those_extends}
--- where the keys of an order pass, and those put to it, all of the longer order pass
+-- if the keys of an order pass, and those added to it, all of the longer order pass
 pub use Rattle.dbtg_unit.proofs.Hands.Untouched.InTurn.{with_those_pass}
 -- the database after a DELETE
 pub use Rattle.dbtg_unit.proofs.Hands.Untouched.LocalDelete.{after_delete}
 -- a record that stays and is in a list of one that goes
 pub use Rattle.dbtg_unit.proofs.Hands.Untouched.LocalDelete.{is_taken_out}
--- where no cell is wanting, each is in hand
+-- if no cell is missing, all are held
 pub use Rattle.dbtg_unit.proofs.Hands.Untouched.LocalReady.{all_held}
--- a statement that is ready changes no cell but those in hand
+-- a statement that is ready changes only held cells
 pub use Rattle.dbtg_unit.proofs.Hands.Untouched.LocalReady.{changes_only_its_cells}
--- a cell is held where its name is among those in hand
+-- a cell is held if its name is among the held names
 pub use Rattle.dbtg_unit.proofs.Hands.Untouched.LocalReady.{holds_any}
 -- the effect of a statement that fits leaves a legal database
 pub use Rattle.dbtg_unit.proofs.Hands.Untouched.LocalReady.{legal_after}
@@ -446,17 +446,17 @@ pub use Rattle.dbtg_unit.proofs.Hands.Untouched.LocalReady.{modify_typed}
 pub use Rattle.dbtg_unit.proofs.Hands.Untouched.LocalStatements.{names_once_complete}
 -- a new key is not live
 pub use Rattle.dbtg_unit.proofs.Hands.Untouched.LocalStore.{new_is_fresh}
--- the cells in hand after a plan that is the effect show what the database has after it
+-- the held cells after a plan that is the effect show what the database has after it
 pub use Rattle.dbtg_unit.proofs.Hands.Untouched.MadeOnEach.{cells_made}
--- a plan that can be finished makes the statement on every database of which the cells in hand are
+-- a plan that can be finished makes the statement on every database to which the held cells belong
 pub use Rattle.dbtg_unit.proofs.Hands.Untouched.MadeOnEach.{plan_makes}
--- a plan that is the statement's effect makes the statement on every database of which the cells in hand are
+-- a plan that is the statement's effect makes the statement on every database to which the held cells belong
 pub use Rattle.dbtg_unit.proofs.Hands.Untouched.MadeOnEach.{prepared_makes}
 -- THE ORDER OF TAKING
 
--- where each element of a list gives a list of which all pass, all pass of all these
+-- if each element of a list gives a list whose elements all pass, all elements of these lists pass
 pub use Rattle.dbtg_unit.proofs.Hands.Taking.AreasOfCells.{all_flat}
--- where all of two lists pass, all of them joined do
+-- if all of two lists pass, so do all of the joined list
 pub use Rattle.dbtg_unit.proofs.Hands.Taking.AreasOfCells.{all_join}
 -- where the slot of what is found passes, all slots of what is found do
 pub use Rattle.dbtg_unit.proofs.Hands.Taking.AreasOfCells.{found_passes}
@@ -464,7 +464,7 @@ pub use Rattle.dbtg_unit.proofs.Hands.Taking.AreasOfCells.{found_passes}
 pub use Rattle.dbtg_unit.proofs.Hands.Taking.AreasOfDelete.{brought_all}
 -- where all names pass, those listed once do
 pub use Rattle.dbtg_unit.proofs.Hands.Taking.AreasOfDelete.{once_all}
--- the cells of a statement ascend, those of a DELETE apart
+-- the cells of a statement ascend, except those of a DELETE
 pub use Rattle.dbtg_unit.proofs.Hands.Taking.CellsAscend.{cells_ascend}
 -- a key that is chosen by its place in key order is among the keys
 pub use Rattle.dbtg_unit.proofs.Hands.Taking.FoundKeys.{chosen_by_key_in}
@@ -486,13 +486,13 @@ pub use Rattle.dbtg_unit.proofs.Hands.Taking.FoundKeys.{of_reverse}
 pub use Rattle.dbtg_unit.proofs.Hands.Taking.KnownAreas.{areas_known}
 -- a need is above what was taken in turn
 pub use Rattle.dbtg_unit.proofs.Hands.Taking.NeedsInOrder.{above_hands}
--- a cell that is needed lies in an area in hand
+-- a cell that is needed lies in a held area
 pub use Rattle.dbtg_unit.proofs.Hands.Taking.NeedsInOrder.{area_held}
 -- the areas of a statement ascend
 pub use Rattle.dbtg_unit.proofs.Hands.Taking.NeedsInOrder.{areas_ascend}
--- of a cell that is needed, what decided it
+-- what decided that a cell is needed
 pub use Rattle.dbtg_unit.proofs.Hands.Taking.NeedsInOrder.{chose_take}
--- a cell that is needed is not in hand, and lies in an area in hand
+-- a cell that is needed is not held, and lies in a held area
 pub use Rattle.dbtg_unit.proofs.Hands.Taking.NeedsInOrder.{in_held_area}
 -- the owner type of a set is a record type of the schema
 pub use Rattle.dbtg_unit.proofs.Hands.Taking.SoundSchemas.{owner_is_type}
@@ -502,19 +502,19 @@ pub use Rattle.dbtg_unit.proofs.Hands.Taking.SoundSchemas.{owner_is_type}
 pub use Rattle.dbtg_unit.proofs.Hands.Holding.NamesAndCells.{holds_there}
 -- each of the edits can be made of what is held now
 pub use Rattle.dbtg_unit.proofs.Hands.Holding.WhileEditing.{EachCanEdit}
--- the cells in hand, each with its name
+-- the held cells, each with its name
 pub use Rattle.dbtg_unit.proofs.Hands.Holding.WhileEditing.{Held}
 -- no two of the edits are of one cell
 pub use Rattle.dbtg_unit.proofs.Hands.Holding.WhileEditing.{are_distinct}
 -- no edit is of this name, and no two are of one name
 pub use Rattle.dbtg_unit.proofs.Hands.Holding.WhileEditing.{are_of_others}
--- of edits that can be made in turn the first can be
+-- if edits can be made in turn, the first can be made
 pub use Rattle.dbtg_unit.proofs.Hands.Holding.WhileEditing.{can_make_front}
 -- edits of distinct cells can be made in turn where each can be made of what is held now
 pub use Rattle.dbtg_unit.proofs.Hands.Holding.WhileEditing.{can_make_distinct}
 -- edits of distinct cells can be made, then last an edit of another cell and its next version
 pub use Rattle.dbtg_unit.proofs.Hands.Holding.WhileEditing.{can_make_raised}
--- of edits that can be made in turn the last can be, once those before them are made
+-- if edits can be made in turn, the last can be made once those before are
 pub use Rattle.dbtg_unit.proofs.Hands.Holding.WhileEditing.{can_make_rest}
 -- a cell that is written leaves the held cell of another name
 pub use Rattle.dbtg_unit.proofs.Hands.Holding.WhileEditing.{cell_of_other}

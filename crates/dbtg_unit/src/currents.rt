@@ -1,4 +1,4 @@
-//! What statements change of a run-unit apart from what a FIND or STORE makes current: its modes, the current of one set, its
+//! Changes of a run-unit, apart from what a FIND or STORE makes current: its modes, the current of one set, its
 //! current of run-unit, its kept list. Nothing here takes memory.
 ghost use Rattle.std.specs.Prelude.{◌≡◌, [], Some, None, slice_set};
 ghost use Rattle.dbtg_unit.specs.Database.State.Base.{Database};

@@ -1,5 +1,5 @@
-//! The records that a DELETE takes out of the cells in hand. They may be thousands: what goes with each is told by its key, and is
-//! done without memory.
+//! The records that a DELETE takes out of the held cells. There may be thousands: what goes with each is found by its key, and it
+//! is all done without memory.
 ghost use Rattle.std.specs.Prelude.{◌≡◌, [], ◌∷◌, map};
 ghost use Rattle.dbtg_cells.specs.Cells.{shown};
 ghost use Rattle.dbtg_unit.specs.declared.edit.Edit.TheVariants.{CloseRing, LeaveNumber, Vacate};
@@ -19,7 +19,7 @@ use dbtg_schema::Row;
 /// What is taken out with records that go.
 #[derive(Drop)]
 pub struct Erased {
-    /// The records: their numbers are left, and last their slots are vacated.
+    /// The records: their numbers are no longer live, and at the end their slots are vacated.
     pub gone: Row<DbKey>,
     /// The edits by which they leave the lists of owners that stay.
     pub places: Row<CellEdit>,
@@ -139,7 +139,7 @@ fn take_out(held: &mut Held, erased: Erased)
     vacate_slots(held, gone.as_slice());
 }
 
-/// Takes the records out that go, where there are such.
+/// Takes out the records that go, if there are any.
 pub(crate) fn erase(held: &mut Held, erased: Option<Erased>)
     requires { CanMake (erased_edits erased) held.old.cells }
     ensures made { AreMade (erased_edits erased) held.old.cells held.new.cells }

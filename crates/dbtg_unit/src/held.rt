@@ -1,4 +1,4 @@
-//! What a statement has in hand: areas and cells in the order of taking, and the unit's guesses of owners. Short lists
+//! What a statement holds: areas and cells in the order of taking, and the unit's guesses of owners. Short lists
 //! live in place, so that most statements take no memory for them.
 ghost use Rattle.std.specs.Prelude.{◌≡◌, ◌==◌, ◌-◌, [], ◌∷◌, ◌++◌, length, map, option_map, false, option_copied, slice_get, slice_set, IfErr, IfNone, OnErr, OnOk};
 ghost use Rattle.std.specs.Borrow.{sem};
@@ -89,7 +89,7 @@ impl Held {
         }
     }
 
-    /// Hands with these cells, each at its number in a layout, and these guesses: no cell has to be searched.
+    /// Hands with these cells, each at its number in a layout, and these guesses: no cell has to be searched for.
     pub fn numbered(
         alloc: Global,
         layout: Layout,
@@ -112,7 +112,7 @@ impl Held {
         }
     }
 
-    /// Is this area in hand?
+    /// Is this area held?
     pub fn has(&self, area: AreaNo) -> bool
         ensures { result ≡ list_any (λ a. a == area) self.now.areas }
     {
@@ -188,7 +188,7 @@ impl Held {
         Ok(())
     }
 
-    /// Gives the cell back that was taken last, under its name.
+    /// Gives back the cell that was taken last, under its name.
     pub fn pop_cell(&mut self) -> Option<(CellName, Cell)>
         ensures cells { self.old.cells ≡ self.new.cells ++ option_to_list result }
         ensures none { IfNone result (self.old.cells ≡ []) }
@@ -218,7 +218,7 @@ impl Held {
         self.names.as_slice().last().copied()
     }
 
-    /// How many areas are in hand.
+    /// How many areas are held.
     pub fn area_count(&self) -> usize
         ensures { result ≡ length self.now.areas }
     {

@@ -40,7 +40,7 @@ pub fn stored<'a>(held: &'a Held, key: &DbKey) -> Option<&'a Stored>
     }
 }
 
-/// The version of a record that is held once it is changed.
+/// The version that a held record has once it is changed.
 #[tactic(auto, using(crate::proofs::Hands::Reading::NextVersions::has_next_version))]
 pub fn next_version(held: &Held, key: &DbKey) -> u64
     requires { HaveNextVersions held.now.cells }

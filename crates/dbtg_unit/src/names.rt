@@ -1,4 +1,4 @@
-//! Where a name stands among those of the cells in hand. The first eight live in place and are searched one by one, or
+//! Where a name stands among those of the held cells. The first eight live in place and are searched one by one, or
 //! the first are numbered cells and stand at their numbers, as all cells of a database that is made whole do. An index leads
 //! from each later name to its place, so that a statement that holds thousands of cells finds each at once. It is asked
 //! before the names in place: where there are thousands, few live there.
@@ -13,7 +13,7 @@ use dbtg_cells::{CellName, Layout, name_eq};
 use indexmap::IndexMap;
 use std::alloc::AllocError;
 
-/// How the first names in hand are found. The index leads to all others.
+/// How the first held names are found. The index leads to all others.
 #[derive(Clone, Copy, Drop)]
 pub(crate) enum FirstNames {
     /// Up to eight, in place: one by one.
@@ -139,7 +139,7 @@ pub(crate) fn find_place(
     }
 }
 
-/// Leads from the name that comes to this place, past as many first names. The index leads nowhere from it yet.
+/// Enters the name that comes to this place, past this many first names. The index leads nowhere from it yet.
 pub(crate) fn enter(
     index: &mut IndexMap<NameKey, usize>,
     first: usize,
@@ -157,7 +157,7 @@ pub(crate) fn enter(
     Ok(())
 }
 
-/// Leads nowhere from the name that goes from this place, past as many first names, where the index led there.
+/// Removes the name that goes from this place, past this many first names, if the index led there.
 pub(crate) fn leave(
     index: &mut IndexMap<NameKey, usize>,
     first: usize,

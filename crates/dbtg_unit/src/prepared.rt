@@ -54,7 +54,7 @@ impl Prepared {
         }
     }
 
-    /// Prepared by a statement that takes records out, which comes before the other changes of cells.
+    /// What is prepared by a statement that takes records out; it does so before the other changes of cells.
     pub fn erasing(
         answer: Answer,
         erased: Erased,
@@ -98,7 +98,7 @@ pub fn refused(alloc: Global, cause: Cause) -> Prepared
     )
 }
 
-/// Makes an edit of the cell of its name, if that cell is in hand. It takes no memory and cannot fail.
+/// Makes an edit of the cell of its name, if that cell is held. It takes no memory and cannot fail.
 pub fn edit_held(held: &mut Held, edit: CellEdit)
     requires { CanEditHeld edit held.old.cells }
     ensures made { AreMade (edit ∷ []) held.old.cells held.new.cells }
@@ -112,7 +112,7 @@ pub fn edit_held(held: &mut Held, edit: CellEdit)
     }
 }
 
-/// Makes edits of cells in hand, one after another.
+/// Makes edits of held cells, one after another.
 pub fn edit_cells(held: &mut Held, edits: Row<CellEdit>)
     requires { CanMake edits held.old.cells }
     ensures made { AreMade edits held.old.cells held.new.cells }

@@ -1,4 +1,4 @@
--- Where the words with which a form can go on are ranked, the start by which words are derived is the one that is found, or comes after it.
+-- If the words that can continue a form are ranked, the start that derives the words is the one that is found, or comes after it.
 use Rattle.std.proofs.Common.{◌≡◌, Bool, true, false, cond, not, ◌&&◌, List, [], ◌∷◌, ◌++◌, Some, map, refl, sym, ap, subst, ◌∙◌, ◌⊎◌, inl, inr}
 use Rattle.std.specs.List.{list_all}
 use Rattle.std.proofs.lemmas.Bool.{and_parts, or_cases}
@@ -33,7 +33,7 @@ module _ {K R : Type 0} (Before : K → K → Type 0) where
   abbrev pub AreBefore : List K → List (Start K R) → Type 0
   AreBefore ks ss = (k : K) (s : Start K R) → Among k ks → Among s ss → Before k s.kind
 
-  -- of two words with which the form can go on, the first comes before the second
+  -- the first of two words that can continue the form comes before the second
   abbrev pub Ranked : Form K R → Type 0
   Ranked nothing = Unit {0}
   Ranked (one k r) = Unit {0}

@@ -22,7 +22,7 @@ use Rattle.dbtg_schema.proofs.Forms.OneReading.{apart, told_apart, schema_is_tol
 use Rattle.dbtg_schema.proofs.Forms.OneWay.{words_of}
 use Rattle.dbtg_schema.proofs.Forms.Wanted.{ended as may_stop, starts_all, no_way_on}
 
--- none of the faults is of the grammar
+-- none of the faults is a fault of the grammar
 abbrev Clean : List Fault → Type 0
 Clean fs = list_any (λ f. is_of_grammar f.cause) fs ≡ false
 

@@ -1,4 +1,4 @@
--- Where the next word always tells how a form goes on, words are derived in one way at most.
+-- If the next word always tells how a form goes on, words are derived in at most one way.
 use Rattle.std.proofs.Common.{◌≡◌, Bool, true, false, not, ◌&&◌, List, [], ◌∷◌, ◌++◌, sym, ap, ◌∙◌, ◌⊎◌, inl, inr}
 use mathlib.Core.HLevel.{×_prop, Σ_prop_path}
 use Rattle.std.proofs.Math.Bool.{Bool-set}
@@ -81,7 +81,7 @@ module _ {K R W : Type 0} (fits : K → W → Bool) (are_set : IsSet (List (Labe
       λ i. ((same i).0, (same i).1.0, (same i).1.1)
 
 module _ {K R W : Type 0} (fits : K → W → Bool) (are_set : IsSet (List (Labelled W R))) (apart : K → K → Bool) (told_apart : (j k : K) (w : W) → apart j k ≡ true → fits j w ≡ true → fits k w ≡ true → ⊥) where
-  -- words with their roles are derived in one way at most
+  -- words with their roles are derived in at most one way
   pub derived_once : (f : Form K R) → is_told apart f ≡ true → (ws : List (Labelled W R)) → IsProp (Derives fits f ws)
   derived_once nothing t ws = are_set ws []
   derived_once (one k r) t ws = one_prop fits are_set k r ws
@@ -103,7 +103,7 @@ module _ {K R W : Type 0} (fits : K → W → Bool) (are_set : IsSet (List (Labe
   abbrev pub Labelling : Form K R → List W → Type 0
   Labelling f words = (ws : List (Labelled W R)) × (words_of ws ≡ words) × Derives fits f ws
 
-  -- words are labelled and derived in one way at most
+  -- words are labelled and derived in at most one way
   pub labelled_once : IsSet (List W) → (f : Form K R) → is_told apart f ≡ true → (words : List W) → IsProp (Labelling f words)
   labelled_once words_set f t words d c =
       let shape = ap (λ (z : List W). z ++ []) (d.1 ∙ sym c.1) in

@@ -1,4 +1,4 @@
--- Two readings of a form over the same words. Where the next word always tells how a form goes on, they are one, or a word follows with which the form could have gone on.
+-- Two readings of a form over the same words. If the next word always tells how the form goes on, they are one, or a word follows that could have continued the form.
 use Rattle.std.proofs.Common.{◌≡◌, Bool, true, false, cond, not, ◌&&◌, List, [], ◌∷◌, ◌++◌, map, refl, sym, ap, subst, ◌∙◌, ◌⊎◌, inl, inr}
 use Rattle.std.specs.List.{flat_map, list_any, list_all, AllByRecursion}
 use Rattle.std.proofs.lemmas.Bool.{and_parts, or_cases, or_left, or_right, not-true}
@@ -189,7 +189,7 @@ module _ {K W : Type 0} (fits : K → W → Bool) (apart : K → K → Bool) (to
       elim (or_cases (fits j w) (is_one fits js w) t) [ inl s ↦ one_apart j ks w p.0 s m | inr n ↦ are_apart js ks p.1 w n m ]
 
 module _ {K R W : Type 0} (fits : K → W → Bool) (apart : K → K → Bool) (told_apart : (j k : K) (w : W) → apart j k ≡ true → fits j w ≡ true → fits k w ≡ true → ⊥) where
-  -- two readings of the same words are one, or a word follows with which the form could have gone on
+  -- two readings of the same words are one, or a word follows that could have continued the form
   pub alike : (f : Form K R) → is_told apart f ≡ true → (xs ys : List (Labelled W R)) (left rest : List W) → words_of xs ++ left ≡ words_of ys ++ rest → Derives fits f xs → Derives fits f ys → Alike fits f xs left ys rest
   alike nothing t xs ys left rest e d c = inl (d ∙ sym c, sym (ap (λ (z : List (Labelled W R)). words_of z ++ left) d) ∙ e ∙ ap (λ (z : List (Labelled W R)). words_of z ++ rest) c)
   alike (one k r) t xs ys left rest e d c = one_alike fits k r xs ys left rest e d c

@@ -78,7 +78,7 @@ named_append r xs ys = ap (map (λ (w : Labelled). w.word.text)) (filter-append 
 pub named_none : (r : Role) (ws : List Labelled) → list_any (is r) ws ≡ false → named r ws ≡ []
 named_none r ws h = ap (map (λ (w : Labelled). w.word.text)) (nil_from_length (filter (is r) ws) (none_counted r ws h))
 
--- of parts that each have a role once
+-- for parts that each have a role once
 pub named_parts : (r : Role) (f : Form) (parts : List (List Labelled)) → AllByRecursion (Derives fits f) parts → few r f ≡ true → at_least r f ≡ 1 → at_most r f ≡ 1 → named r (flat parts) ≡ map (first_named r) parts
 named_parts r f [] all few least most = refl
 named_parts r f (p ∷ parts) all few least most =

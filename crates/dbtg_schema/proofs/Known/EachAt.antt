@@ -25,7 +25,7 @@ one_more_at {X} is xs x n many each more i y at =
       | inr w ↦ subst (λ (z : X). is i z) w.1 (subst (λ (k : ℕ). is k x) (sym (w.0 ∙ many)) more)
     ]
 
--- of one of them
+-- it holds for one of them
 pub one_at : {X : Type 0} (is : ℕ → X → Type 0) (xs : List X) (i : ℕ) (x : X) → EachAt is xs → slice_get xs i ≡ Some x → is i x
 unfolding EachAt
 one_at is xs i x each at = each i x at

@@ -87,7 +87,7 @@ unfolding is_given is_touched
 given_is_touched schema leads touched marks a ways lt =
     any_range (λ x. marked marks x && marked_in touched x a) (λ x. marked marks x && touches schema x a) 0 (length schema.types) (λ x l. ap (λ z. marked marks x && z) (ways.touched_right x a (omega arith) lt))
 
--- what a round leaves as it is all later rounds leave
+-- if one round changes nothing, no later round does
 all_after : (schema : Lists) (t n k : ℕ) → reached_in (leads schema) (λ u. u == t) (types_of schema) k ≡ reached_in (leads schema) (λ u. u == t) (types_of schema) (suc k) → k ≤ n
     → reached_in (leads schema) (λ u. u == t) (types_of schema) k ≡ reached_in (leads schema) (λ u. u == t) (types_of schema) n
 all_after schema t zero k same l =
@@ -118,7 +118,7 @@ touches_is schema t a =
     ap (λ z. area_of schema t == a || z) (any_map (λ b. b == a) (home schema) (filter (λ s. is_some (member_clause schema s t)) (set_numbers schema))
     ∙ any_filter (λ s. home schema s == a) (λ s. is_some (member_clause schema s t)) (set_numbers schema))
 
--- what the marked types touch are the areas of a DELETE
+-- the areas that the marked types touch are those of a DELETE
 pub touched : (schema : Lists) (t a : ℕ) (marks : List Bool) → filter (marked marks) (types_of schema) ≡ reachable_types schema t → is_touched schema marks a ≡ list_any (λ b. b == a) (erase_areas schema t)
 unfolding is_touched
 touched schema t a marks same =

@@ -19,7 +19,7 @@ wider {X} t u (x ∷ xs) h =
       goal : Bool → Bool → Type 0
       goal b c = (cond b (x ∷ filter t xs) (filter t xs) ≡ cond c (x ∷ filter u xs) (filter u xs)) ⊎ (length (cond b (x ∷ filter t xs) (filter t xs)) < length (cond c (x ∷ filter u xs) (filter u xs)))
 
--- what some kept element passes, some element that a wider test keeps passes
+-- if some element that a test keeps passes, so does some element that a wider test keeps
 any_wider : {X : Type 0} (q t u : X → Bool) (xs : List X) → ((x : X) → t x ≡ true → u x ≡ true) → list_any q (filter t xs) ≡ true → list_any q (filter u xs) ≡ true
 any_wider q t u [] h g = g
 any_wider q t u (x ∷ xs) h g =

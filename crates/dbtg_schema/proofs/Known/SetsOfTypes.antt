@@ -36,7 +36,7 @@ one_more_tested p n number passed row new same_number tested same listed =
     listed ∙ ap (λ (k : ℕ). row ++ cond passed (k ∷ []) []) same_number ∙ ap (λ (ks : List ℕ). ks ++ cond passed (n ∷ []) []) same
     ∙ sym (filter_more p n ∙ ap (λ b. filter p (range_with_len 0 n) ++ cond b (n ∷ []) []) tested)
 
--- of a type for which nothing is kept, there is none
+-- a type for which nothing is kept has none
 none_kept : (each : List SetsOfType) (types : ℕ) (sets : List SetType) (t : ℕ) → AreSetsOfEach each types sets → slice_get each t ≡ None → types ≤ t
 none_kept each types sets t kept none =
     let many = kept.many in
@@ -78,7 +78,7 @@ module _ (schema : Lists) (limits : IsSchema schema) (t : ℕ) (past : length sc
   none_owned = filter_none (λ s. owns schema s t) (set_numbers schema) (λ s. owns_none s (slice_get schema.sets s) refl)
 
 module _ (schema : Lists) (limits : IsSchema schema) (each : List SetsOfType) (t : ℕ) (kept : AreSetsOfEach each (length schema.types) schema.sets) {B : Type 0} (now : B → SetsOfType) where
-  -- what is found for a type are its sets
+  -- the sets that are found for a type are its sets
   pub found_are_sets_of : (o : Option B) → option_map now o ≡ slice_get each t → IfSome o (λ b. AreSetsOf schema t (now b))
   found_are_sets_of None is = tt
   found_are_sets_of (Some b) is = one_at (AreSetsOf (sets_alone schema.sets)) each t (now b) kept.right (sym is)

@@ -93,7 +93,7 @@ same_place m n i (x ∷ names) p h k a b = elim (cases_Bool (bytes_eq m x)) [
   ]
 ]
 
--- two names that are there have one number only where they are one
+-- two names that are there have the same number only if they are the same
 pub one_name : (m n : List ℕ) (names : List (List ℕ)) → among m names ≡ true → among n names ≡ true → number_of m names ≡ number_of n names → m ≡ n
 one_name m n names a b h =
     let p = found_from m 0 names a in

@@ -1,4 +1,4 @@
--- The picture of an item of a record type, by their names, is the same wherever after the record types it is asked for.
+-- The picture of an item, looked up by its name and its record type's, is the same from anywhere after the record types.
 use Rattle.std.proofs.Common.{◌≡◌, ℕ, suc, ◌+◌, Bool, true, false, cond, ◌||◌, List, [], ◌∷◌, ◌++◌, map, Option, Some, None, refl, sym, ap, ◌∙◌, arith, inl, inr}
 use Rattle.std.specs.Prelude.{codes, is_some, slice_get, unwrap_or}
 use Rattle.std.specs.List.{list_any, position_from, AllByRecursion}
@@ -21,7 +21,7 @@ use Rattle.dbtg_schema.proofs.Forms.Grammar.{right, left, lacking, entries_behin
 use Rattle.dbtg_schema.proofs.Forms.Parts.{flat, begins, entries_are, named_append, named_none, first_named_front, read_entries}
 use Rattle.dbtg_schema.proofs.Sound.TextParts.{type_head, type_parts, all_begin}
 
--- a record type as it is asked: its name, and each item with its spelled picture
+-- a record type as it is looked up: its name, and each item with its spelled picture
 abbrev pub Told : Type 0
 Told = List ℕ × List (List ℕ × List ℕ)
 

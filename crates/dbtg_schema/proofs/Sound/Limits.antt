@@ -30,7 +30,7 @@ at_word_parts ws l h =
     let b = both_nil (ended ws l.role) (when (is_surplus ws l.role) (fault OverLimit l.word.line)) a.0 in
     (b.0, not_when (is_surplus ws l.role) (fault OverLimit l.word.line) b.1, a.1)
 
--- a word of this role is none too many
+-- a word of this role is not one too many
 pub within : (r : Role) (ws : List Labelled) (l : Labelled) → at_word ws l ≡ [] → is r l ≡ true → is_surplus ws r ≡ false
 within r ws l c t = subst (λ (q : Role). is_surplus ws q ≡ false) (role_is r l t) (at_word_parts ws l c).1
 

@@ -1,4 +1,4 @@
--- In a text without faults the members of a set differ, none is the owner, and keys are where the set is sorted.
+-- In a text without faults the members of a set differ, none is the owner, and they have keys exactly if the set is sorted.
 use Rattle.std.proofs.Common.{◌≡◌, Option, ℕ, ◌+◌, ◌<◌, ◌≤◌, Bool, true, false, cond, not, ◌||◌, List, [], ◌∷◌, ◌++◌, map, refl, sym, ap, subst, ◌∙◌, append_assoc, arith, inl, inr}
 use Rattle.std.specs.Prelude.{codes, nat_le}
 use Rattle.std.specs.List.{count_by, list_any, AllByRecursion}
@@ -72,7 +72,7 @@ each_ends before (p ∷ parts) rest all c =
     let last = clean_parts before s.body (labelled role.MemberEnd s.stop ∷ []) (subst (EachClean before) s.whole one.0) in
     ((s.body, s.stop, s.whole, s.is_body, ended_of (before ++ s.body) (unsaid role.MemberEnd (before ++ s.body) (labelled role.MemberEnd s.stop) last.1.0 refl)), each_ends (before ++ p) parts rest all.1 one.1)
 
--- what is derived part by part ends with a part more
+-- what is derived part by part ends with one more part
 begins_all : (earlier : List (List Labelled)) (body : List Labelled) → AllByRecursion (Begins role.MemberEntry) earlier → Begins role.MemberEntry body → AllByRecursion (Begins role.MemberEntry) (earlier ++ body ∷ [])
 begins_all [] body all b = (b, tt)
 begins_all (p ∷ earlier) body all b = (all.0, begins_all earlier body all.1 b)
@@ -100,7 +100,7 @@ module _ (before head : List Labelled) (is_head : Derives fits set_head head) (e
   pub member_here : this_member position ≡ body
   member_here = since_begins role.MemberEntry (before ++ so_far) body (member_head_begins body is_body)
 
-  -- a role that the sentences have not
+  -- a role that the sentences don't have
   pub in_head : (r : Role) → lacks r member ≡ true → lacks r member_head ≡ true → list_any (is r) (so_far ++ body) ≡ list_any (is r) head
   in_head r none none_body =
       list_any-append (is r) so_far body ∙ (λ i. list_any-append (is r) head (flat earlier) i || lacking r member_head body is_body none_body i)

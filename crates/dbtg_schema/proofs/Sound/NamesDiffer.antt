@@ -1,4 +1,4 @@
--- In a text without faults names differ, of areas, record types and sets, of the items of a record type, and of its CALC items.
+-- In a text without faults the names of areas, record types and sets differ, and so do those of a record type's items and of its CALC items.
 use Rattle.std.proofs.Common.{◌≡◌, ℕ, Bool, true, false, cond, not, ◌||◌, List, [], ◌∷◌, ◌++◌, map, refl, sym, ap, subst, ◌∙◌, append_assoc, inl, inr}
 use Rattle.std.specs.Prelude.{codes, filter}
 use Rattle.std.specs.List.{list_any, AllByRecursion}

@@ -153,7 +153,7 @@ first_among r (w ∷ ws) h = step (is r w) h (λ k. first_among r ws k)
     step true h k = ap (λ b. b || among w.word.text (named r ws)) (bytes_same w.word.text)
     step false h k = k h
 
--- all have one value
+-- all have the same value
 all_alike : {X Y : Type 0} (f : X → Y) (make : List Labelled → X) (v : Y) (parts : List (List Labelled)) → AllByRecursion (λ p. f (make p) ≡ v) parts → All (λ m. All (λ n. f m ≡ f n) (map make parts)) (map make parts)
 all_alike {X} {Y} f make v parts h = outer parts h
   where
@@ -175,7 +175,7 @@ sorted_order p = by_words (has role.Sorted p) (has role.OrderFirst p) (has role.
     by_words false false false true = refl
     by_words false false false false = refl
 
--- pictures that are not unequal are one
+-- pictures that are not unequal are the same
 same_picture : (a b : Option Picture) (p q : Picture) → a ≡ Some p → b ≡ Some q → unequal a b ≡ false → p ≡ q
 same_picture a b p q e f h = alike p q ((λ i. unequal (sym e i) (sym f i)) ∙ h)
   where

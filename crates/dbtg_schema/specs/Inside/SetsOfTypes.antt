@@ -6,7 +6,7 @@ use Rattle.dbtg_schema.specs.Structure.{automatic_sets, owns, set_numbers}
 use Rattle.dbtg_schema.specs.declared.shape.SetType.{SetType}
 use Rattle.dbtg_schema.specs.declared.sets_of_type.SetsOfType.{SetsOfType}
 
--- these sets with nothing beside them, in which a type has the part that it has in each schema with these sets
+-- a schema with these sets and nothing else: a type has the same part in it as in every schema with these sets
 abbrev pub sets_alone : List SetType → Lists
 sets_alone sets = record { name = []; areas = []; types = []; sets = sets }
 

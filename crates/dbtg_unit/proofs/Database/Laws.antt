@@ -1,4 +1,4 @@
--- The other laws of statements and histories: answers, least sets, what only goes forward, placing, one entry more.
+-- The other laws of statements and histories: answers, least sets, what only goes forward, placing, one more entry.
 -- May use: `Lists`, `Records` and `Legal`.
 -- Promises: a file for each of the other laws.
 pub mod Answered

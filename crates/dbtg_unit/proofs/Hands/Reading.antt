@@ -1,4 +1,4 @@
--- What is read off the cells in hand is so in each database that agrees with them.
+-- What is read from the held cells is true in each database that agrees with them.
 -- May use: `Records`.
 -- Promises: `InHand` answers as the database does; hands that show the same serve alike; one plan has one outcome.
 pub mod AsTheDatabase

@@ -1,7 +1,7 @@
 -- A statement changes no cell but those that it needs: statement by statement, then where it is ready (`LocalReady`).
 -- May use: `Records` and `Reading`.
--- Promises: the law that a statement which is ready changes no cell but those that it holds, and that a plan which can be finished
--- makes it on every database of which they are (`MadeOnEach`).
+-- Promises: the law that a ready statement changes only the cells that it holds, and that a plan that can be finished
+-- makes it on every database to which they belong (`MadeOnEach`).
 pub mod InTurn
 pub mod LocalCells
 pub mod LocalDelete

@@ -32,7 +32,7 @@ pub none_pass : {X : Type 0} (p : X → Bool) (xs : List X) → ((x : X) → In 
 none_pass p [] h = refl
 none_pass p (x ∷ xs) h = cond-false (p x) (x ∷ filter p xs) (filter p xs) (h x (inl refl)) ∙ none_pass p xs (λ y i. h y (inr i))
 
--- what each element passes, all pass
+-- if each element passes a test, all do
 pub all_in : {X : Type 0} (p : X → Bool) (xs : List X) → ((x : X) → In x xs → p x ≡ true) → list_all p xs ≡ true
 all_in p [] h = refl
 all_in p (x ∷ xs) h = and_from _ _ (h x (inl refl)) (all_in p xs (λ y j. h y (inr j)))

@@ -9,7 +9,7 @@ use Rattle.dbtg_unit.proofs.Lists.WithANewMember.{filter_all, filter_none}
 
 -- RANGES
 
--- what no number from a on passes, no element made of one passes
+-- if no number from a on passes, no element made of one passes
 pub none_in_range : {X : Type 0} (p : X → Bool) (f : ℕ → X) (a n : ℕ) → ((j : ℕ) → a ≤ j → j < a + n → p (f j) ≡ false) → filter p (map f (range_with_len a n)) ≡ []
 none_in_range p f a zero h = refl
 none_in_range p f a (suc n) h =
@@ -49,7 +49,7 @@ module _ {X : Type 0} (before : X → Bool) (m : X) (block grown : ℕ → List 
     (low : (d : ℕ) → d ≤ own → list_all before (block d) ≡ true)
     (high : (d : ℕ) → own < d → list_all (λ x. not (before x)) (block d) ≡ true)
     (is_grown : (d : ℕ) → grown d ≡ block d ++ cond (own == d) (m ∷ []) []) where
-  -- behind its own block nothing comes before it, all stays as it is
+  -- after its own block nothing comes before it, and everything stays as it is
   none_before : (a n : ℕ) → own < a → filter before (flat_map block (range_with_len a n)) ≡ []
   none_before a zero h = refl
   none_before a (suc n) h =

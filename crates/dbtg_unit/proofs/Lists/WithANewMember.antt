@@ -1,4 +1,4 @@
--- A list with a new member: what it has, how long it is, what it is less that member, and its order.
+-- A list with a new member: what it has, how long it is, what it is without that member, and its order.
 use Rattle.std.proofs.Common.{◌≡◌, refl, sym, ◌∙◌, ap, subst, suc, Bool, true, false, cond, not, ◌&&◌, ◌||◌, List, [], ◌∷◌, ◌++◌, length, inl, inr, arith, length-append}
 use Rattle.std.specs.Prelude.{filter}
 use Rattle.std.specs.List.{list_any, list_all}
@@ -21,7 +21,7 @@ pub and_assoc : (a b c : Bool) → ((a && b) && c) ≡ (a && (b && c))
 and_assoc true b c = refl
 and_assoc false b c = refl
 
--- what all of both parts pass, all pass
+-- if all of both parts pass, all pass
 pub all_parts : {X : Type 0} (p q : X → Bool) (xs : List X) → (list_all p (filter q xs) && list_all p (filter (λ x. not (q x)) xs)) ≡ list_all p xs
 all_parts p q [] = refl
 all_parts p q (x ∷ xs) =
@@ -46,7 +46,7 @@ all_before p is m (x ∷ xs) =
       | false ↦ ap (λ b. p x && b) (all_before p is m xs) ∙ and_swap (p x) (p m) (list_all p xs)
     ]
 
--- what each passes, each that a test keeps passes
+-- if each passes, so does each that a test keeps
 pub all_filter : {X : Type 0} (p t : X → Bool) (xs : List X) → list_all p xs ≡ true → list_all p (filter t xs) ≡ true
 all_filter p t xs h = (and_parts _ _ (all_parts p t xs ∙ h)).0
 
@@ -85,7 +85,7 @@ length_placed {X} (Among c) m xs =
     let parts = length-filter_both c (λ x. not (c x)) (λ x. refl) xs in
     omega (arith, parts, length-append (filter c xs) (m ∷ filter (λ x. not (c x)) xs))
 
--- THE LIST LESS THE NEW MEMBER
+-- THE LIST WITHOUT THE NEW MEMBER
 
 filter_after : {X : Type 0} (p is : X → Bool) (m : X) (xs : List X) → p m ≡ false → filter p (after is m xs) ≡ filter p xs
 filter_after p is m [] h = ap (λ b. cond b (m ∷ []) []) h
@@ -133,7 +133,7 @@ parts {X} c (x ∷ xs) h =
       goal : Bool → Type 0
       goal b = cond b (x ∷ filter c xs) (filter c xs) ++ cond (not b) (x ∷ filter (λ y. not (c y)) xs) (filter (λ y. not (c y)) xs) ≡ x ∷ xs
 
--- what is kept of a list is kept of it with a new member that goes
+-- what is kept of a list is kept of it with a new member that is dropped
 pub filter_placed : {X : Type 0} (p : X → Bool) (spot : Spot X) (m : X) (xs : List X) → p m ≡ false → divides spot xs ≡ true → filter p (placed spot m xs) ≡ filter p xs
 filter_placed p Front m xs h d = ap (λ b. cond b (m ∷ filter p xs) (filter p xs)) h
 filter_placed p Back m xs h d = filter-append p xs (m ∷ []) ∙ ap (λ b. filter p xs ++ cond b (m ∷ []) []) h ∙ append_nil (filter p xs) where
@@ -148,7 +148,7 @@ filter_placed p (Among c) m xs h d =
     ∙ sym (filter-append p (filter c xs) (filter (λ x. not (c x)) xs))
     ∙ ap (filter p) (parts c xs d)
 
--- and is the list itself, where only the new member goes
+-- and is the list itself, if only the new member is dropped
 pub less_placed : {X : Type 0} (is : X → Bool) (spot : Spot X) (m : X) (xs : List X) → is m ≡ true → list_any is xs ≡ false → divides spot xs ≡ true → filter (λ x. not (is x)) (placed spot m xs) ≡ xs
 less_placed is spot m xs h none d = filter_placed (λ x. not (is x)) spot m xs (not_from_true _ h) d ∙ filter_all _ xs (all_from_none is xs none) where
   all_from_none : {X : Type 0} (is : X → Bool) (xs : List X) → list_any is xs ≡ false → list_all (λ x. not (is x)) xs ≡ true

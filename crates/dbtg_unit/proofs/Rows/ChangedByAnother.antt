@@ -14,7 +14,7 @@ use Rattle.dbtg_unit.proofs.Rows.Words.{find, store, modify, by, owner_itself, m
 use Rattle.dbtg_unit.proofs.Rows.Defined.OwnSchemas.{wood, roots, branches, leaves, bears, sheds, tree}
 use Rattle.dbtg_unit.specs.Database.Laws.Replay.{opening_state, state_after}
 
--- own changes are noted in what is kept, by INSERT, REMOVE and MODIFY, also where the value stays; of another unit they are found out,
+-- a unit's own changes by INSERT, REMOVE and MODIFY are noted in what it keeps, even if the value stays; another unit's are found out,
 -- before not a member, already member, and owner has members, but after deleted
 abbrev pub who_changed_it : List (ℕ × Statement)
 who_changed_it =

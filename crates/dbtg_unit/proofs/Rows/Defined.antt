@@ -1,4 +1,4 @@
--- The worked rows of definitions that are no run of statements, with the schemas that all rows use.
+-- The worked rows of definitions that are not runs of statements, with the schemas that all rows use.
 -- May use: all definitions; no lemma.
 -- Promises: each row is a theorem that computes; the words and schemas here are those of all rows, in the crates above too.
 pub mod CellsOfADatabase

@@ -82,7 +82,7 @@ unfolding effect image_of
 plain_is_refused_versions = refl
 
 -- ONLY takes the branch, and the leaf that is mandatory in a list of it. The others are taken out of their lists; each has its next
--- version, once, and the kept list knows it; of the record itself nothing is kept, of other records that went the old version
+-- version, once, and the kept list knows it; nothing is kept of the record itself; of other records that went, the old version is kept
 abbrev pub only_takes_mandatory : List (ℕ × Statement)
 only_takes_mandatory =
     leaves_in_two_lists ++ by 1 (

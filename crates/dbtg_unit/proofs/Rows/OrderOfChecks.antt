@@ -149,7 +149,7 @@ deleted_owner_before_lost_position_answers : (run desk 10 2 deleted_owner_before
 unfolding effect image_of
 deleted_owner_before_lost_position_answers = refl
 
--- no room, then the CALC items, then set by set: owner deleted, position lost, sort key. Of an INSERT: already member, then the place
+-- no room, then the CALC items, then set by set: owner deleted, position lost, sort key. For an INSERT: already member, then the place
 abbrev pub what_the_cells_decide : List (ℕ × Statement)
 what_the_cells_decide =
     by 1 (

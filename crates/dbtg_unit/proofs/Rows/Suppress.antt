@@ -186,7 +186,7 @@ owner_found_suppressed_units : (run shop 10 1 owner_found_suppressed).units
 unfolding effect image_of
 owner_found_suppressed_units = refl
 
--- of a STORE too: the next order still goes to the customer who is current of the set
+-- the same for a STORE: the next order still goes to the customer who is current of the set
 abbrev pub store_suppressed : List (ℕ × Statement)
 store_suppressed =
     two_watched_items ++ by 1 (

@@ -1,4 +1,4 @@
--- The words in which the worked rows are told.
+-- The words in which the worked rows are written.
 use Prim.Native.String.{String}
 use Rattle.std.specs.Prelude.{ℕ, List, [], ◌∷◌, Option, Some, None, map, codes, false}
 use Rattle.dbtg_schema.specs.Lists.{Lists}

@@ -1,4 +1,4 @@
--- What a statement has in hand.
+-- What a statement holds.
 use Rattle.std.specs.Prelude.{◌≡◌, ℕ, ◌<◌, List, [], ◌∷◌, Option, Some, None, cond, slice_get}
 use Rattle.dbtg_cells.specs.declared.name.CellName.{CellName}
 use Rattle.dbtg_cells.specs.declared.cell.Cell.{Cell}

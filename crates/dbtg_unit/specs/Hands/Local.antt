@@ -23,7 +23,7 @@ abbrev pub AllAgree : Lists → ℕ → Database → List (CellName × Cell) →
 AllAgree schema capacity db [] = ⊤
 AllAgree schema capacity db (e ∷ es) = (shown e.1 ≡ cell schema capacity db e.0) × AllAgree schema capacity db es
 
--- a database that may be the one of which these cells are held by this unit
+-- a database to which the cells that this unit holds may belong
 pub record Agrees (schema : Lists) (capacity : ℕ) (db : Database) (hands : Hands) (unit : Unit) : Type 0 where
   pub legal : Legal schema capacity db
   pub cells : AllAgree schema capacity db hands.cells

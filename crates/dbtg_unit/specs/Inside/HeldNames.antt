@@ -1,4 +1,4 @@
--- How the names of the cells in hand are found again.
+-- How the names of the held cells are found again.
 use Rattle.std.specs.Prelude.{◌≡◌, ℕ, ◌≤◌, Bool, false, ◌&&◌, ◌==◌, cond, nat_lt, List, length, Option, Some, None}
 use Rattle.std.specs.List.{position_from}
 use Rattle.std.specs.Option.{option_map_or, option_or}
@@ -23,17 +23,17 @@ name_key (Ring s None) = record { kind = 2; of = s; owner = 0; number = 0 }
 name_key (Ring s (Some o)) = record { kind = 3; of = s; owner = o.0; number = o.1 }
 name_key (Slot t n) = record { kind = 4; of = t; owner = 0; number = n }
 
--- how many of the names in hand the index doesn't lead to
+-- how many of the held names the index doesn't lead to
 abbrev pub first_count : FirstNames → ℕ
 first_count InPlace = 8
 first_count (Numbered layout count) = count
 
--- a place, if it lies past as many first names
+-- a place, if it lies past this many first names
 abbrev pub past : ℕ → Option ℕ → Option ℕ
 past count None = None
 past count (Some p) = cond (nat_lt p count) None (Some p)
 
--- an index leads from each name to where it first stands, if that lies past as many first names
+-- an index leads from each name to where it first stands, if that lies past this many first names
 abbrev pub IsIndexOf : (NameKey → Option ℕ) → ℕ → List CellName → Type 0
 IsIndexOf index count names = (c : CellName) → index (name_key c) ≡ past count (position_from (name_eq c) 0 names)
 
@@ -46,10 +46,10 @@ abbrev pub up_to : ℕ → FirstNames → FirstNames
 up_to most InPlace = InPlace
 up_to most (Numbered layout count) = Numbered layout (cond (nat_lt most count) most count)
 
--- the index that has taken a name at a place, past as many first names: it leads there, if it led nowhere
+-- the index that has taken a name at a place, past this many first names: it leads there, if it led nowhere
 abbrev pub entered : (NameKey → Option ℕ) → ℕ → NameKey → ℕ → NameKey → Option ℕ
 entered index count k place q = cond (nat_lt place count) (index q) (option_or (index q) (cond (key_eq k q) (Some place) None))
 
--- the index that has given up the name at a place, past as many first names: it leads nowhere, if it led there
+-- the index that has given up the name at a place, past this many first names: it leads nowhere, if it led there
 abbrev pub left : (NameKey → Option ℕ) → ℕ → NameKey → ℕ → NameKey → Option ℕ
 left index count k place q = cond (nat_lt place count) (index q) (cond (key_eq k q && option_map_or (λ p. p == place) (index k) false) None (index q))

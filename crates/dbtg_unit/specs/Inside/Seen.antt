@@ -10,18 +10,18 @@ use Rattle.dbtg_unit.specs.declared.unit.Place.{Place}
 use Rattle.dbtg_unit.specs.declared.statement.Suppress.{Suppress}
 use Rattle.dbtg_unit.specs.Database.State.Units.{suppresses, seen_place}
 
--- of a set by its number, with its current before
+-- for a set by its number, with its current before
 abbrev pub seen_in_set : Lists → DbKey → List (Option Owner) → Suppress → ℕ × Option Place → Option Place
 seen_in_set schema k owners suppress e = if suppresses suppress e.0 then e.1 else seen_place e.1 (owns schema e.0 k.rtype) k (at owners e.0)
 
--- of all sets
+-- for all sets
 abbrev pub seen_in_sets : Lists → DbKey → List (Option Owner) → Suppress → List (Option Place) → List (Option Place)
 seen_in_sets schema k owners suppress was = map (seen_in_set schema k owners suppress) (enumerate_from 0 was)
 
--- of a set in whose list k is, by its number, with its current before
+-- for a set in whose list k is, by its number, with its current before
 abbrev pub seen_in_list : DbKey → List (Option Owner) → Suppress → ℕ × Option Place → Option Place
 seen_in_list k owners suppress e = if suppresses suppress e.0 then e.1 else seen_place e.1 false k (at owners e.0)
 
--- of a set that the type of k owns, by its number, with its current before
+-- for a set that the type of k owns, by its number, with its current before
 abbrev pub seen_as_owner : Lists → DbKey → Suppress → ℕ × Option Place → Option Place
 seen_as_owner schema k suppress e = if suppresses suppress e.0 then e.1 else seen_place e.1 (owns schema e.0 k.rtype) k None

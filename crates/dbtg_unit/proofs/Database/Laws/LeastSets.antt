@@ -48,7 +48,7 @@ reachable_is_least schema t =
 
 -- AREAS
 
--- an element of what one element gives is one of what all give
+-- an element of what one element gives is among what all give
 pub in_flattened : {X Y : Type 0} (f : X → List Y) (x : X) (y : Y) (xs : List X) → In x xs → In y (f x) → In y (flatten (map f xs))
 in_flattened f x y [] i j = absurd i
 in_flattened {X} f x y (z ∷ xs) i j = elim i [
@@ -70,7 +70,7 @@ module _ (schema : Lists) (capacity : ℕ) (db : Database) (legal : Legal schema
   type_in : (x : DbKey) → is_live db x ≡ true → list_any (eqb x.rtype) (range_with_len 0 (length schema.types)) ≡ true
   type_in x h = let below = (legal.keys x h).0 in any_in (eqb x.rtype) x.rtype _ (in_range (length schema.types) 0 x.rtype (omega arith) (omega arith)) (eq-eqb x.rtype x.rtype refl)
 
-  -- with a record's type, that of a member of its lists is reached
+  -- if a record's type is reached, so is that of a member of its lists
   next_reached : (s : ℕ) (x y : DbKey) → is_reached x.rtype ≡ true → is_member y (members_of db s (Rec x)) ≡ true → is_reached y.rtype ≡ true
   unfolding is_reached
   next_reached s x y h g =

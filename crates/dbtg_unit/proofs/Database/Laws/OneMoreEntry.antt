@@ -168,11 +168,11 @@ replay_goes_forward schema capacity state (e ∷ es) =
 pub opening_length : (schema : Lists) (units : ℕ) → length (opening_state schema units).units ≡ units
 opening_length schema units = length-map (range_with_len 1 units) (opening_unit schema) ∙ length-range_with_len 1 units
 
--- a unit's entries with one entry more
+-- a unit's entries with one more entry
 pub entries_more : (u : ℕ) (before : List Entry) (e : Entry) → entries_of u (before ++ e ∷ []) ≡ entries_of u before ++ cond (eqb e.unit u) (e ∷ []) []
 entries_more u before e = filter-append (λ x. eqb x.unit u) before (e ∷ [])
 
--- an entry of the unit comes behind its others
+-- an entry of the unit comes after its others
 pub entries_mine : (u : ℕ) (log : List Entry) (e : Entry) → e.unit ≡ u → entries_of u (log ++ e ∷ []) ≡ entries_of u log ++ e ∷ []
 entries_mine u log e q = entries_more u log e ∙ ap (λ b. entries_of u log ++ cond b (e ∷ []) []) (eq-eqb e.unit u q)
 

@@ -71,7 +71,7 @@ module _ (schema : Lists) (capacity : ℕ) (db : Database) (option : Erase) (k :
             legal.calc i j a.1 b.1 same unique (sym (λ d. values_eq (calc_items schema i.rtype (items_kept i a.0 d)) (calc_items schema j.rtype (items_kept j b.0 d))) ∙ eq);
       }
 
-  -- who is a member still was one, stays, and so does the owner
+  -- a key that is still a member was one and stays, and so does the owner
   was_member : (s : ℕ) (o : Owner) (x : DbKey) → is_member x (members_in after.lists s o) ≡ true → (is_member x gone ≡ false) × (is_member x (members_of db s o) ≡ true)
   was_member s o x h =
       elim (cases_Bool (is_gone gone o)) [
@@ -120,7 +120,7 @@ module _ (schema : Lists) (capacity : ℕ) (db : Database) (option : Erase) (k :
 
   -- MEMBERS THAT CAN'T LEAVE
 
-  -- what the set has, with each in it, it has what the option takes with that
+  -- the set has, with each key in it, what the option takes with that key
   dragged : (j m : DbKey) → is_member j gone ≡ true → is_live db m ≡ true → drags schema capacity db option j m ≡ true → is_member m gone ≡ true
   dragged j m has live drag =
       let least = least_closed_is_least (drags schema capacity db option) (key_eq k) (all_keys schema capacity db) in

@@ -80,7 +80,7 @@ pub some_from_not_none : {X : Type 0} (o : Option X) → is_none o ≡ false →
 some_from_not_none None h = absurd (true≢false h)
 some_from_not_none (Some x) h = (x, refl)
 
--- none of a list, so not one
+-- if no number of a list passes, one in it does not
 pub no_number_passes : (p : ℕ → Bool) (s : ℕ) (xs : List ℕ) → has_number s xs ≡ true → list_any p xs ≡ false → p s ≡ false
 no_number_passes p s xs h none = false_from_ne_true _ (λ e. false≢true (sym none ∙ any_number p s xs h e))
 

@@ -31,7 +31,7 @@ use Rattle.dbtg_unit.proofs.Database.Legal.PassedChecks.{has_number}
 use Rattle.dbtg_unit.proofs.Database.Records.NoCalcKey.{not_taken}
 use Rattle.dbtg_unit.proofs.Database.Records.ItemsAfterModify.{changed_fit, same_calc_items, same_key_item}
 
--- what the checks of a MODIFY have passed: each value of its picture, and no other record with the new CALC key, nor with a new sort key that is refused
+-- what the checks of a MODIFY guarantee: each value has its picture, and no other record has the new CALC key, or a new sort key that would be refused
 pub record CanChange (schema : Lists) (capacity : ℕ) (db : Database) (changes : List Change) (k : DbKey) : Type 0 where
   pub fit : list_all (λ c. some_and (λ p. value_fits p c.value) (picture_of schema k.rtype c.item)) changes ≡ true
   pub calc_free : (names_calc schema k.rtype changes && calc_taken schema (whole schema capacity db) k.rtype (changed_items changes (items_of db k)) (Some k)) ≡ false
@@ -123,7 +123,7 @@ module _ (schema : Lists) (capacity : ℕ) (db : Database) (unit : Unit) (change
                   (values_swap (calc_items schema j.rtype (items_of db j)) (calc_items schema k.rtype (items_of db k)) ((λ d. values_eq (calc_items schema j.rtype (items_of db j)) (sym (same_calc_items schema k.rtype changes (items_of db k) unnamed) d)) ∙ eq))
             ]
 
-  -- THE LISTS LESS THE RECORD
+  -- THE LISTS WITHOUT THE RECORD
 
   thin : (s : ℕ) (o : Owner) → (p : DbKey → Bool) × (members_in lists_less s o ≡ filter p (members_in db.lists s o))
   thin s o =

@@ -59,7 +59,7 @@ module _ (schema : Lists) (capacity : ℕ) (db : Database) (unit : Unit) (s : �
         | false ↦ refl
       ]
 
-  -- a member stays, but k in set s
+  -- every member stays, except k in set s
   stays : (t : ℕ) (o : Owner) (m : DbKey) → (t ≡ s → key_eq k m ≡ false) → is_member m (members_in db.lists t o) ≡ true → is_member m (members_in lists_after t o) ≡ true
   stays t o m other h =
       elim (eqb t s) as (λ b. (eqb t s ≡ b) → is_member m (unwrap_or (cond b (option_map (without k) (db.lists t o)) (db.lists t o)) []) ≡ true) [

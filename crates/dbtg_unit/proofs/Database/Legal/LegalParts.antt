@@ -15,7 +15,7 @@ use Rattle.dbtg_unit.specs.Database.Statements.Effect.{raised, next_version}
 use Rattle.dbtg_unit.specs.Database.State.Legal.{Legal, pairwise, differ, keys_in_order, agree, has_occurrence}
 use Rattle.dbtg_schema.specs.Structure.{calc_of, is_automatic, is_mandatory, is_system, member_clause, order_of, owns, pictures}
 
--- the keys that live, the items of each, the lists, the last generations and the usage lists: what a database is read by
+-- the live keys, the items of each, the lists, the last generations and the usage lists: what a database is read by
 abbrev pub Living : Type 0
 Living = DbKey → Bool
 
@@ -66,7 +66,7 @@ pub record Uses (schema : Lists) (usage : ℕ → List (ℕ × Mode)) : Type 0 w
   pub no_area : (a : ℕ) → length schema.areas ≤ a → usage a ≡ []
   pub agrees : (a : ℕ) → pairwise agree (usage a) ≡ true
 
--- all but that each record is in the lists that it can't leave
+-- everything except that each record is in the lists that it can't leave
 pub record Sound (schema : Lists) (capacity : ℕ) (live : Living) (items : Items) (lists : Rows) (last : ℕ → ℕ → ℕ) : Type 0 where
   pub stock : Stock schema capacity live items last
   pub rings : Rings schema live items lists
@@ -109,7 +109,7 @@ module _ (schema : Lists) (capacity : ℕ) (db : Database) where
 -- RAISED VERSIONS
 
 module _ (test : DbKey → Bool) (db : Database) where
-  -- what is read of a record, and read so of its next version, is the same where versions are raised
+  -- what is read from a record, and is the same for its next version, stays the same if versions are raised
   read_raised : {X : Type 0} (read : Option Record → X) → ((r : Record) → read (Some (next_version r)) ≡ read (Some r)) → (k : DbKey) → read ((raised test db).records k) ≡ read (db.records k)
   read_raised read kept k = elim (test k) as (λ b. read (cond b (option_map next_version (db.records k)) (db.records k)) ≡ read (db.records k)) [
     | true ↦ elim (db.records k) as (λ r. read (option_map next_version r) ≡ read r) [ None ↦ refl | Some r ↦ kept r ]
@@ -122,7 +122,7 @@ module _ (test : DbKey → Bool) (db : Database) where
   pub items_raised : items_of (raised test db) ≡ items_of db
   items_raised = λ i k. read_raised (λ o. unwrap_or (option_map (λ (r : Record). r.items) o) []) (λ r. refl) k i
 
--- a legal database stays so where versions are raised: it is read without them
+-- a legal database stays legal if versions are raised: its laws don't read them
 pub legal_raised : (schema : Lists) (capacity : ℕ) (test : DbKey → Bool) (db : Database) → Sound schema capacity (is_live db) (items_of db) db.lists db.last → Uses schema db.usage → Legal schema capacity (raised test db)
 legal_raised schema capacity test db sound uses =
     legal_from schema capacity (raised test db)

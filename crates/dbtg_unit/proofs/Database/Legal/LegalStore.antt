@@ -61,7 +61,7 @@ module _ (schema : Lists) (capacity : ℕ) (db : Database) (t n : ℕ) (its : Li
   items_new : (x : DbKey) → key_eq k x ≡ true → items_of after x ≡ its
   items_new x same = ap (λ b. unwrap_or (option_map (λ (r : Record). r.items) (cond b (Some (record { items = its; version = 1 })) (db.records x))) []) same
 
-  -- a key that was live is another than the new one
+  -- a key that was live differs from the new one
   other_key : (x : DbKey) → is_live db x ≡ true → key_eq k x ≡ false
   other_key x h = false_from_ne_true _ (λ same. false≢true (sym not_yet ∙ subst (λ (y : DbKey). is_live db y ≡ true) (sym (same_key k x same)) h))
 
@@ -129,7 +129,7 @@ module _ (schema : Lists) (capacity : ℕ) (db : Database) (t n : ℕ) (its : Li
             ∙ sym (λ d. values_eq (calc_items schema (type_j d) (items_after j b d)) (calc_items schema (type_i d) (items_new i a d)))
             ∙ eq)
 
-  -- members are those that were
+  -- the members are those that were there
   same_members : (s : ℕ) (o : Owner) → members_in after.lists s o ≡ members_in db.lists s o
   same_members s o =
       elim (cases_Bool (owns schema s t && owner_eq (Rec k) o)) [

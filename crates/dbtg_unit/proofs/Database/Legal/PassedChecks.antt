@@ -83,7 +83,7 @@ number_within s a (suc n) h =
     (λ r. let w = number_within s (a + 1) n r in let low = w.0 in let high = w.1 in (omega arith, omega arith))
     (or_cases _ _ h)
 
--- what a number of a list passes, some number passes
+-- if a number of a list passes, some number passes
 pub any_number : (p : ℕ → Bool) (n : ℕ) (xs : List ℕ) → has_number n xs ≡ true → p n ≡ true → list_any p xs ≡ true
 any_number p n [] h g = absurd (false≢true h)
 any_number p n (x ∷ xs) h g =

@@ -23,24 +23,24 @@ use Rattle.dbtg_unit.specs.Database.Statements.StoredFacts.{StoredFacts}
 use Rattle.dbtg_unit.proofs.Lists.Agreeing.{flat_map_agrees, map_agrees}
 use Rattle.dbtg_unit.proofs.Lists.Membership.{In}
 
--- the same of a record
+-- the same for a record
 pub record SameRecord (v w : StoredFacts) (k : DbKey) : Type 0 where
   pub is_live : v.is_live k ≡ w.is_live k
   pub items : v.items k ≡ w.items k
   pub version : v.version k ≡ w.version k
 
--- the same of an occurrence
+-- the same for an occurrence
 pub record SameOccurrence (v w : StoredFacts) (s : ℕ) (o : Owner) : Type 0 where
   pub is_absent : v.is_absent s o ≡ w.is_absent s o
   pub members : v.members s o ≡ w.members s o
   pub has_sort_key : (left : Option DbKey) (key : Option Value) → v.has_sort_key s o left key ≡ w.has_sort_key s o left key
 
--- the same of the numbers of a record type
+-- the same for the numbers of a record type
 pub record SameNumbers (v w : StoredFacts) (t : ℕ) : Type 0 where
   pub is_full : v.is_full t ≡ w.is_full t
   pub has_calc : (values : List Value) → v.has_calc t values None ≡ w.has_calc t values None
 
--- what is behind a check counts where that one does not apply
+-- the checks after a check count only if it does not apply
 pub behind_check : (b c : Bool) (cause : Cause) (x y : Option Cause) → b ≡ c → (c ≡ false → x ≡ y) → cond b (Some cause) x ≡ cond c (Some cause) y
 behind_check b c cause x y same h = ap (λ d. cond d (Some cause) x) same ∙ rest c h where
   rest : (d : Bool) → (d ≡ false → x ≡ y) → cond d (Some cause) x ≡ cond d (Some cause) y
@@ -52,7 +52,7 @@ pub and_agrees : (b c d : Bool) → (b ≡ true → c ≡ d) → (b && c) ≡ (b
 and_agrees true c d h = h refl
 and_agrees false c d h = refl
 
--- checks behind the record's own count where it is live
+-- the checks after the record's own count if it is live
 pub own_checks_then : (v : StoredFacts) (unit : Unit) (k : DbKey) (rest rest' : List (Bool × Cause)) → (v.is_live k ≡ true → first_cause rest ≡ first_cause rest')
     → first_cause (own_checks v unit k ++ rest) ≡ first_cause (own_checks v unit k ++ rest')
 own_checks_then v unit k rest rest' h =
@@ -95,7 +95,7 @@ module _ (v w : StoredFacts) (unit : Unit) where
       (λ free. ap first_cause (flat_map_agrees (λ s. place_checks schema v unit s (key_item schema s t items)) (λ s. place_checks schema w unit s (key_item schema s t items)) (automatic_sets schema t)
       (λ s i. checks_at_agree schema s (joined_place schema unit s) (places room free s i) (key_item schema s t items)))))
 
-  -- of its sets a MODIFY asks only those in which the record has an owner
+  -- a MODIFY asks only those of its sets in which the record has an owner
   pub modify_checks_agree : (schema : Lists) (changes : List Change) (k : DbKey) → SameRecord v w k
       → (names_calc schema k.rtype changes ≡ true → v.is_live k ≡ true → (values : List Value) → v.has_calc k.rtype values (Some k) ≡ w.has_calc k.rtype values (Some k))
       → ((s : ℕ) → In s (rekeyed_sets schema k.rtype (map (λ c. c.item) changes)) → v.owner s k ≡ w.owner s k)

@@ -37,7 +37,7 @@ no_list : (o : Option (List DbKey)) → is_some o ≡ false → (x : DbKey) → 
 no_list None h x = refl
 no_list (Some list) h x = absurd (false≢true (sym h))
 
--- a new record leaves all memberships
+-- a new record leaves all memberships as they were
 pub member_new : (schema : Lists) (capacity : ℕ) (db : Database) (k : DbKey) (items : List Value) → Legal schema capacity db → is_live db k ≡ false → (s : ℕ) (o : Owner) (x : DbKey)
     → is_member x (members_of (with_new schema db k items) s o) ≡ is_member x (members_of db s o)
 member_new schema capacity db k items legal fresh s o x =

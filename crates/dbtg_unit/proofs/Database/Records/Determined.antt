@@ -118,7 +118,7 @@ module _ (schema : Lists) (capacity : ℕ) (db eb : Database) (ldb : Legal schem
   same_occurrence s System = refl
   same_occurrence s (Rec k) = ap (λ b. owns schema s k.rtype && b) (same_live k)
 
-  -- who has an occurrence stands at a place
+  -- an owner with an occurrence stands at a place
   standing : (s : ℕ) (o : Owner) → has_occurrence schema db s o ≡ true → owner_at db (place_of o) ≡ o
   standing s System h = refl
   standing s (Rec k) h = ap Rec (sym (latest db ldb k (and_parts _ _ h).1))

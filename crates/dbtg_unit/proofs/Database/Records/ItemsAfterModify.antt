@@ -20,7 +20,7 @@ use Rattle.dbtg_unit.specs.Database.Statements.Fits.{value_fits, values_fit}
 use Rattle.dbtg_unit.specs.Database.Statements.Effect.{changed_items, names_calc}
 use Rattle.dbtg_unit.proofs.Database.Legal.PassedChecks.{has_number, number_kept, number_in}
 
--- an element passes of what is mapped
+-- an element of a mapped list passes
 pub any_mapped : {X Y : Type 0} (p : Y → Bool) (f : X → Y) (xs : List X) → list_any p (map f xs) ≡ list_any (λ x. p (f x)) xs
 any_mapped p f [] = refl
 any_mapped p f (x ∷ xs) = ap (λ b. p (f x) || b) (any_mapped p f xs)

@@ -52,7 +52,7 @@ module _ (schema : Lists) (capacity : ℕ) (db : Database) (legal : Legal schema
   pub all_are_live : (k : DbKey) → In k (all_keys schema capacity db) → is_live db k ≡ true
   all_are_live k i = let r = of_flat_map (live_keys capacity db) k _ i in (of_live_keys k r.0 r.2).0
 
-  -- who has an occurrence of a set is among its owners
+  -- an owner with an occurrence of a set is among the set's owners
   pub owner_in : (s : ℕ) (o : Owner) → has_occurrence schema db s o ≡ true → In o (owners schema capacity db s)
   owner_in s System h = subst (λ b. In System (cond b (System ∷ []) (unwrap_or (option_map (λ t. map Rec (live_keys capacity db t)) (owner_type schema s)) []))) (sym h) (inl refl)
   owner_in s (Rec k) h =
@@ -66,7 +66,7 @@ module _ (schema : Lists) (capacity : ℕ) (db : Database) (legal : Legal schema
         system_or_owned None t h = refl
         system_or_owned (Some x) t h = ap is_none h
 
-  -- whose list has a record
+  -- the owner whose list has a record
   pub listed_has_occurrence : (s : ℕ) (o : Owner) (k : DbKey) → is_member k (members_of db s o) ≡ true → has_occurrence schema db s o ≡ true
   listed_has_occurrence s o k h = sym (legal.pairs s o) ∙ has_list (db.lists s o) h where
     has_list : (l : Option (List DbKey)) → is_member k (unwrap_or l []) ≡ true → is_some l ≡ true

@@ -1,4 +1,4 @@
--- What it says that no record has a CALC key.
+-- What it means that no record has a CALC key.
 use Rattle.std.proofs.Common.{◌≡◌, sym, ◌∙◌, subst, ℕ, Bool, true, false, not, ◌&&◌, List, [], ◌∷◌, Option, Some, None, ⊎_elim}
 use Rattle.std.specs.List.{list_any}
 use Rattle.std.proofs.lemmas.Bool.{or_cases, or_left, or_right, false≢true, false_from_ne_true, not_from_false}
@@ -36,7 +36,7 @@ none_where_unique (Some c) taken h g = at (not c.duplicates_allowed) h g where
   at true h g = h
   at false h g = absurd (false≢true g)
 
--- where a CALC key is not taken, no live record has it but those that are left out
+-- if a CALC key is not taken, no live record has it except those left out
 pub not_taken : (schema : Lists) (capacity : ℕ) (db : Database) (t : ℕ) (items : List Value) (left : Option DbKey) → Legal schema capacity db → calc_taken schema (whole schema capacity db) t items left ≡ false → unique_calc schema t ≡ true
     → (x : DbKey) → is_live db x ≡ true → x.rtype ≡ t → is_left_out left x ≡ false → values_eq (calc_items schema t (items_of db x)) (calc_items schema t items) ≡ false
 not_taken schema capacity db t items left legal free unique x live of_type stays =

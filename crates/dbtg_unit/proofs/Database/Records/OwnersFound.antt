@@ -121,7 +121,7 @@ no_owner schema capacity db legal s m h o = false_from_ne_true _ (λ has. absurd
   none_some : {X : Type 0} {x : X} → None ≡ Some x → ⊥
   none_some h = cc
 
--- who has an occurrence stands at the place that names it
+-- an owner with an occurrence stands at the place that names it
 pub owner_stands_at_place : (schema : Lists) (capacity : ℕ) (db : Database) → Legal schema capacity db → (s : ℕ) (o : Owner) → has_occurrence schema db s o ≡ true → owner_at db (place_of o) ≡ o
 owner_stands_at_place schema capacity db legal s System h = refl
 owner_stands_at_place schema capacity db legal s (Rec k) h = ap Rec (latest schema capacity db legal k (and_parts _ _ h).1)

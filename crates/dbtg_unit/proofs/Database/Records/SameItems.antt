@@ -1,4 +1,4 @@
--- Two databases whose records have the same items: what else they then have alike.
+-- Two databases whose records have the same items: what else they have in common.
 use Rattle.std.proofs.Common.{◌≡◌, refl, sym, ◌∙◌, ap, ℕ, cond, List, [], ◌∷◌, Option, Some, None, map}
 use Rattle.std.specs.Prelude.{is_some, option_map, unwrap_or, filter}
 use Rattle.std.specs.List.{find, range_with_len}

@@ -31,7 +31,7 @@ bytes_lt_irrefl : (a : List ℕ) → bytes_below a a ≡ true → ⊥
 bytes_lt_irrefl [] h = false≢true h
 bytes_lt_irrefl (x ∷ a) h = ⊎_elim (λ l. let low = ltb-true x x l in absurd (omega arith)) (λ l. bytes_lt_irrefl a (and_parts _ _ l).1) (or_cases _ _ h)
 
--- of two texts that are not the same, one comes before the other
+-- if two texts differ, one comes before the other
 bytes_lt_either : (a b : List ℕ) → bytes_same a b ≡ false → bytes_below a b ≡ false → bytes_below b a ≡ true
 bytes_lt_either [] [] h g = sym h
 bytes_lt_either [] (y ∷ b) h g = sym g
@@ -58,7 +58,7 @@ value_lt_irrefl : (a : Value) → value_below a a ≡ true → ⊥
 value_lt_irrefl (Num a) h = let low = ltb-true a a h in absurd (omega arith)
 value_lt_irrefl (Text a) h = bytes_lt_irrefl a h
 
--- of two values of one kind that are not the same, one comes before the other
+-- if two values of one kind differ, one comes before the other
 pub value_lt_either : (a b : Value) → comparable (Some a) (Some b) ≡ true → value_eq a b ≡ false → value_below a b ≡ false → value_below b a ≡ true
 value_lt_either (Num a) (Num b) k h g = let apart = eqb-false a b h in let low = ltb-false a b g in lt-ltb b a (omega arith)
 value_lt_either (Text a) (Text b) k h g = bytes_lt_either a b h g

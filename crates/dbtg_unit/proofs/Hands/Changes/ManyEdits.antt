@@ -106,7 +106,7 @@ filter_twice p q (x ∷ xs) =
       | false ↦ ap (λ ys. cond (not (q x)) (x ∷ ys) ys) (filter_twice p q xs)
     ]
 
--- of the members of an occurrence in the cell, the edits take out those that pass
+-- the edits take out the members of the cell's occurrence that pass
 abbrev pub Thins : CellName → List CellEdit → (DbKey → Bool) → Type 0
 Thins c edits out = (o : Option Occurrence) → edited_at c edits (RingValue o) ≡ RingValue (option_map (with_members (filter (λ m. not (out m.0)))) o)
 

@@ -144,7 +144,7 @@ module _ (schema : Lists) (capacity : ℕ) (db : Database) (unit : Unit) (k : Db
             ∙ ap (λ b. cond b (option_map (λ place. place.owner) (place_in schema unit s)) None) (sym e)
       ]
 
-  -- the owners of k are those as STORE connects it
+  -- the owners of k are those that STORE gives it
   pub owners_first : Legal schema capacity new → owners_of schema capacity new k ≡ first_owners schema unit k.rtype
   owners_first legal_new = λ i. map (λ s. owner_here legal_new s i) (set_numbers schema)
 

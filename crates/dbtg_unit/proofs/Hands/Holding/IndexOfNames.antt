@@ -1,4 +1,4 @@
--- The index of the names in hand, as names come and go.
+-- The index of the held names, as names come and go.
 use Rattle.std.proofs.Common.{◌≡◌, refl, sym, ◌∙◌, ap, ℕ, zero, suc, ◌+◌, ◌<◌, ◌≤◌, Bool, true, false, cond, nat_lt, ◌&&◌, ◌==◌, List, [], ◌∷◌, ◌++◌, length, Option, Some, None, inl, inr, arith, true≢false, Result, Ok, Err, OnOk}
 use Rattle.std.specs.Prelude.{is_err, take, ◌||◌}
 use Rattle.std.specs.List.{list_any, position_from, zip}
@@ -71,7 +71,7 @@ place_of_more c n names =
     let e : 0 + length names ≡ length names = omega arith in
     position_more (name_eq c) 0 names n ∙ ap (λ (k : ℕ). option_or (position_from (name_eq c) 0 names) (cond (name_eq c n) (Some k) None)) e
 
--- a name that is not in hand stands nowhere
+-- a name that is not held stands nowhere
 pub stands_nowhere : (c : CellName) (base : ℕ) (names : List CellName) (cells : List Cell) → length cells ≡ length names → list_any (λ (e : CellName × Cell). name_eq c e.0) (zip names cells) ≡ false → position_from (name_eq c) base names ≡ None
 stands_nowhere c base [] cells long none = refl
 stands_nowhere c base (n ∷ ns) [] long none = let h : 0 ≡ length ns + 1 = omega (arith, long) in absurd (omega (arith, h))
@@ -99,22 +99,22 @@ position_above t base (x ∷ xs) p h =
           omega arith
     ]
 
--- as many first names, to which the index leads from none
+-- this many first names, from none of which the index leads anywhere
 module _ (count : ℕ) where
-  -- one name more that lives in place leaves what is past these
+  -- one more name among them changes nothing past them
   in_place_more : (o : Option ℕ) (b : Bool) (len : ℕ) → nat_lt len count ≡ true → past count (option_or o (cond b (Some len) None)) ≡ past count o
   in_place_more (Some p) b len few = refl
   in_place_more None true len few = ap (λ c. cond c None (Some len)) few
   in_place_more None false len few = refl
 
-  -- one name more, which was not there, past those that live in place
+  -- one more name, which was not there, past those that live in place
   past_more : (o : Option ℕ) (b : Bool) (len : ℕ) → nat_lt len count ≡ false → (b ≡ true → o ≡ None) → option_or (past count o) (cond b (Some len) None) ≡ past count (option_or o (cond b (Some len) None))
   past_more None true len many new = sym (ap (λ c. cond c None (Some len)) many)
   past_more None false len many new = refl
   past_more (Some p) true len many new = let h = new refl in absurd (cc (h))
   past_more (Some p) false len many new = or_none (past count (Some p))
 
-  -- one name more
+  -- one more name
   pub pushed_index : (old new : NameKey → Option ℕ) (names : List CellName) (n : CellName) → position_from (name_eq n) 0 names ≡ None → IsIndexOf old count names → ((q : NameKey) → new q ≡ entered old count (name_key n) (length names) q) → IsIndexOf new count (names ++ n ∷ [])
   pushed_index old new names n fresh is enters c =
       elim (cases_Bool (nat_lt (length names) count)) [

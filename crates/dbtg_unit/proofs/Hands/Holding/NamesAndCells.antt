@@ -98,7 +98,7 @@ zip_push [] (y ∷ ys) n x h = absurd (omega arith)
 zip_push (m ∷ ms) [] n x h = absurd (omega arith)
 zip_push (m ∷ ms) (y ∷ ys) n x h = ap (λ es. (m, y) ∷ es) (zip_push ms ys n x (omega arith))
 
--- a name and a cell more
+-- one more name and cell
 pub pushed : (ns ms : List CellName) (cs ds : List Cell) (n : CellName) (x : Cell) → length cs ≡ length ns → ms ≡ ns ++ n ∷ [] → ds ≡ cs ++ x ∷ [] → zip ms ds ≡ zip ns cs ++ (n, x) ∷ []
 pushed ns ms cs ds n x h names cells = (λ i. zip (names i) (cells i)) ∙ zip_push ns cs n x h
 

@@ -108,7 +108,7 @@ in_front [] d n within = absurd (omega (arith, within))
 in_front (c ∷ names) d zero within = refl
 in_front (c ∷ names) d (suc n) within = in_front names d n (omega (arith, within))
 
--- one name more
+-- one more name
 pub numbered_more : (first : FirstNames) (names : List CellName) (d : CellName) → AreNumbered first names → AreNumbered first (names ++ d ∷ [])
 numbered_more first names d numbered layout count is =
     let old = numbered layout count is in

@@ -1,4 +1,4 @@
--- What is held once room was made in one cell of it.
+-- What is held once room has been made in one held cell.
 -- c and d are names of cells, x and y cells.
 use Rattle.std.proofs.Common.{◌≡◌, refl, sym, ◌∙◌, ap, subst, false, [], ◌∷◌, Some, inl, inr}
 use Rattle.std.proofs.lemmas.Bool.{cases_Bool}
@@ -38,11 +38,11 @@ keeps_others c y cells = λ d other. cell_of_other c d y cells other
 pub of_written : (P : Cell → Type 0) (c : CellName) (y : Cell) (cells : Held) → P y → OfHeld c (with_cell c y cells) P
 of_written P c y cells h = λ x there. subst P (sym (written_over c x y cells there).0) h
 
--- what is so of a cell stays so while another is written
+-- what holds of a cell still holds when another is written
 pub of_held_kept : (P : Cell → Type 0) (c d : CellName) (old new : Held) → KeepsOthers d old new → name_eq c d ≡ false → OfHeld c old P → OfHeld c new P
 of_held_kept P c d old new keeps other h = λ x there. h x (sym (keeps c other) ∙ there)
 
--- what is so of a cell is so of the one that is written in its place
+-- what holds of a cell holds of the one that is written in its place
 of_held_written : (P : Cell → Type 0) (c d : CellName) (x y : Cell) (cells : Held) → Some x ≡ cell_of c cells → (P x → P y) → OfHeld d cells P → OfHeld d (with_cell c y cells) P
 of_held_written P c d x y cells there kept h =
     elim (cases_Bool (name_eq d c)) [
@@ -52,7 +52,7 @@ of_held_written P c d x y cells there kept h =
       | inr other ↦ of_held_kept P d c cells (with_cell c y cells) (keeps_others c y cells) other h
     ]
 
--- a cell that keeps its room leaves all held cells theirs
+-- if a cell keeps its room, so do all held cells
 pub room_kept : (c : CellName) (x y : Cell) (cells : Held) → Some x ≡ cell_of c cells → KeepsRoom x y → KeepRoom cells (with_cell c y cells)
 room_kept c x y cells there keeps = record {
   members = λ d k. of_held_written (CanTakeMember k) c d x y cells there (keeps.members k);

@@ -1,4 +1,4 @@
--- What is held while edits are made of it.
+-- What is held while it is edited.
 -- e is an edit of a cell, c and d names of cells, x and y cells, db a database.
 use Rattle.std.proofs.Common.{◌≡◌, refl, sym, ◌∙◌, ap, subst, ℕ, ◌+◌, ◌<◌, Bool, true, false, cond, not, List, [], ◌∷◌, ◌++◌, map, drop, get_or, length, Option, Some, None, inl, inr}
 use Rattle.std.specs.Prelude.{◌^◌, ⊤}
@@ -154,7 +154,7 @@ pub made_append : (es fs : List CellEdit) (old between new : Held) → AreMade e
 made_append [] fs old between new made further = subst (λ (cells : Held). AreMade fs cells new) made further
 made_append (e ∷ es) fs old between new made further = (made.0, made.1, made_append es fs (with_cell e.name made.0 old) between new made.2 further)
 
--- of edits that can be made in turn the first can be, and once they are made, the others
+-- if edits can be made in turn, the first can be made, and the others once it is
 pub can_make_front : (es fs : List CellEdit) (cells : Held) → CanMake (es ++ fs) cells → CanMake es cells
 can_make_front [] fs cells can = tt
 can_make_front (e ∷ es) fs cells can = (can.0, λ y shows. can_make_front es fs (with_cell e.name y cells) (can.1 y shows))
@@ -189,7 +189,7 @@ can_make_append [] fs cells can further = further cells refl
 can_make_append (e ∷ es) fs cells can further =
     (can.0, λ y shows. can_make_append es fs (with_cell e.name y cells) (can.1 y shows) (λ new made. further new (y, shows, made)))
 
--- the cells that no edit is of stay
+-- cells that no edit names stay
 pub cell_of_made : (c : CellName) (es : List CellEdit) (old new : Held) → are_of_others c es ≡ true → AreMade es old new → cell_of c new ≡ cell_of c old
 cell_of_made c [] old new others made = ap (cell_of c) made
 cell_of_made c (e ∷ es) old new others made =

@@ -1,4 +1,4 @@
--- What is read off the cells in hand is so in each database that agrees with them.
+-- What is read from the held cells is true in each database that agrees with them.
 use Rattle.std.proofs.Common.{◌≡◌, refl, sym, ◌∙◌, ap, subst, ℕ, Bool, true, false, cond, List, [], length, Option, Some, None, arith, eqb, map, inl, inr}
 use Rattle.std.specs.Prelude.{is_none, is_some, option_map, option_and_then, unwrap_or}
 use Rattle.std.specs.List.{list_any, range_with_len}
@@ -40,7 +40,7 @@ use Rattle.dbtg_unit.proofs.Hands.Reading.ReadingCells.{held_is_there, held_cell
 
 -- READING ONE CELL
 
--- of a record, by what the slot shows
+-- for a record, by what the slot shows
 pub stored_shows : (k : DbKey) (x : Cell) → stored_of k.generation (Some x) ≡ option_and_then (λ (r : Stored). cond (eqb r.generation k.generation) (Some r) None) (slot_in (shown x))
 stored_shows k (SlotCell None) = refl
 stored_shows k (SlotCell (Some stored)) = refl
@@ -90,7 +90,7 @@ same_none None (Some y) h = absurd (false≢true h)
 same_none (Some x) None h = absurd (true≢false h)
 same_none (Some x) (Some y) h = refl
 
--- what a cell in hand shows
+-- what a held cell shows
 pub held_shows : (schema : Lists) (capacity : ℕ) (db : Database) (hands : Hands) (unit : Unit) → Agrees schema capacity db hands unit → (c : CellName) → holds hands.cells c ≡ true
     → (x : Cell) × (cell_of c hands.cells ≡ Some x) × (shown x ≡ cell schema capacity db c)
 held_shows schema capacity db hands unit agrees c held =

@@ -1,4 +1,4 @@
--- What is read off an extent in hand: which keys are live, which have given CALC values, and which number is free.
+-- What is read from a held extent: which keys are live, which have given CALC values, and which number is free.
 use Rattle.std.proofs.Common.{◌≡◌, refl, sym, ◌∙◌, ap, ℕ, zero, suc, ◌+◌, Bool, true, false, cond, not, ◌&&◌, ◌||◌, List, [], ◌∷◌, Option, Some, None, arith, eqb, map, inl, inr}
 use Rattle.std.specs.Prelude.{◌==◌, nat_lt, filter, is_some, is_none, option_map, option_and_then, unwrap_or}
 use Rattle.std.specs.List.{list_any, range_with_len}

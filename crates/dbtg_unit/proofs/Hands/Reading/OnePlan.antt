@@ -1,4 +1,4 @@
--- One plan, the effect of a statement on two databases, has one outcome in what is in hand.
+-- One plan, the effect of a statement on two databases, has one outcome in what is held.
 use Rattle.std.proofs.Common.{◌≡◌, sym, ◌∙◌, ap, ℕ, true, List}
 use Rattle.dbtg_schema.specs.Lists.{Lists}
 use Rattle.dbtg_schema.specs.Sound.{IsSound}
@@ -19,7 +19,7 @@ use Rattle.dbtg_unit.specs.Hands.Making.{IsReady, MayPrepare}
 use Rattle.dbtg_unit.specs.Hands.Prepared.{IsEffect, Plan}
 use Rattle.dbtg_unit.proofs.Hands.Reading.ReadingCells.{held_cell_agrees, held_is_there}
 
--- a cell in hand is the same in two databases that agree with what is in hand
+-- a held cell is the same in two databases that agree with what is held
 held_alike : (schema : Lists) (capacity : ℕ) (db eb : Database) (cells : List (CellName × Cell)) → AllAgree schema capacity db cells → AllAgree schema capacity eb cells
     → (c : CellName) → holds cells c ≡ true → cell schema capacity db c ≡ cell schema capacity eb c
 held_alike schema capacity db eb cells agree agree' c h =
@@ -37,7 +37,7 @@ pub record MayPlan (schema : Lists) (capacity : ℕ) (unit : Unit) (hands : Hand
 pub may_plan : {schema : Lists} {capacity : ℕ} {unit : Unit} {hands : Hands} {statement : Statement} → MayPrepare schema capacity unit hands statement → MayPlan schema capacity unit hands statement
 may_plan may = record { sound = may.sound; fits = may.fits; of_schema = may.of_schema; within = may.within; ready = may.ready }
 
--- a plan that is the statement's effect on every database that agrees with what is in hand
+-- a plan that is the statement's effect on every database that agrees with what is held
 abbrev pub HasPlan : Lists → ℕ → Unit → Hands → Statement → Type 0
 HasPlan schema capacity unit hands statement = (plan : Plan) × ((db : Database) → Agrees schema capacity db hands unit → IsEffect schema capacity db unit hands.guesses statement plan)
 

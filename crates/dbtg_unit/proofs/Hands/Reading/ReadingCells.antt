@@ -1,4 +1,4 @@
--- What a cell in hand says of every legal database that has it so.
+-- What a held cell says of every legal database that has it so.
 use Rattle.std.proofs.Common.{◌≡◌, refl, sym, ◌∙◌, ap, subst, ℕ, zero, suc, ◌+◌, ◌<◌, ◌≤◌, true, false, cond, List, [], ◌∷◌, length, Option, Some, None, arith, eqb, inl, inr, ⊎_elim, map}
 use Rattle.std.specs.Prelude.{◌==◌, is_some, option_map, option_and_then, unwrap_or, slice_get, if◌then◌else◌}
 use Rattle.std.specs.List.{range_with_len}
@@ -34,7 +34,7 @@ use Rattle.dbtg_unit.proofs.Database.Records.LiveKeys.{live_is_latest}
 
 -- NAMES
 
--- a cell in hand is the database's
+-- a held cell is the database's
 pub held_cell_agrees : (schema : Lists) (capacity : ℕ) (db : Database) (cells : List (CellName × Cell)) (c : CellName) (x : Cell) → AllAgree schema capacity db cells → cell_of c cells ≡ Some x → shown x ≡ cell schema capacity db c
 held_cell_agrees schema capacity db [] c x agree h = absurd (none-some x h)
 held_cell_agrees schema capacity db (e ∷ es) c x agree h =

@@ -1,4 +1,4 @@
--- What a statement that is ready has in hand.
+-- What a statement that is ready holds.
 use Rattle.std.proofs.Common.{◌≡◌, refl, sym, subst, ℕ, Bool, true, false, cond, not, List, [], ◌∷◌, Option, Some, None, inl, inr}
 use Rattle.std.specs.Prelude.{◌==◌, is_some}
 use Rattle.std.specs.List.{list_any, find}
@@ -20,7 +20,7 @@ use Rattle.dbtg_unit.specs.Hands.Needs.{areas_in_order, cells_of, is_stale, need
 use Rattle.dbtg_unit.proofs.Lists.Membership.{In}
 use Rattle.dbtg_unit.proofs.Hands.Untouched.LocalReady.{ready_has}
 
--- the areas and the cells that a statement needs are in hand, and no guess is wrong
+-- the areas and the cells that a statement needs are held, and no guess is wrong
 pub record HasAll (schema : Lists) (capacity : ℕ) (db : Database) (unit : Unit) (hands : Hands) (statement : Statement) : Type 0 where
   pub areas : (a : ℕ) → In a (areas_in_order schema unit statement) → list_any (λ b. b == a) hands.areas ≡ true
   pub cells : (c : CellName) → In c (cells_of schema capacity db unit hands.guesses statement) → holds hands.cells c ≡ true
@@ -30,7 +30,7 @@ no_area : (a : Option ℕ) (c : Option CellName) (stale : Bool) → next_of a c 
 no_area (Some a) c stale h = cc
 no_area None c stale h = refl
 
--- where no area is wanting, each is in hand
+-- if no area is missing, all are held
 all_have : (held areas : List ℕ) → find (λ a. not (list_any (λ b. b == a) held)) areas ≡ None → (a : ℕ) → In a areas → list_any (λ b. b == a) held ≡ true
 all_have held [] h a i = absurd i
 all_have held (d ∷ areas) h a i =
@@ -53,6 +53,6 @@ module _ (schema : Lists) (capacity : ℕ) (unit : Unit) (hands : Hands) (statem
       (subst (λ (o : Option Cause). cond (is_some o) Ready (need_of_cells schema capacity db unit hands statement) ≡ Ready) passes ready) in
       record { areas = all_have hands.areas (areas_in_order schema unit statement) wanted; cells = has.0; fresh = has.1 }
 
-  -- the same of each database that agrees with what is in hand
+  -- the same for each database that agrees with what is held
   pub prepared_has_all : IsReady schema capacity unit hands statement → (db : Database) → Agrees schema capacity db hands unit → HasAll schema capacity db unit hands statement
   prepared_has_all ready db agrees = ready_has_all db (ready db agrees)

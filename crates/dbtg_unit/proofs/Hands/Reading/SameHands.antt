@@ -101,7 +101,7 @@ need_same old new same schema capacity db unit statement =
 
 -- READERS
 
--- what is read off a cell by what it shows
+-- what is read from a cell by what it shows
 read_same : {X : Type 0} (read : Option Cell → X) (by_value : CellValue → X) → ((x : Cell) → read (Some x) ≡ by_value (shown x)) → (x y : Option Cell) → option_map shown x ≡ option_map shown y → read x ≡ read y
 read_same read by_value shows None None e = refl
 read_same read by_value shows None (Some y) e = absurd (cc)

@@ -56,7 +56,7 @@ module _ (schema : Lists) (capacity : ℕ) (db : Database) (legal : Legal schema
   pub root_reached : reached root ≡ true
   root_reached = (reachable_is_least schema root).starts root (type_in root known) (eq-eqb root root refl)
 
-  -- with an owner's type those of its members are reached
+  -- if an owner's type is reached, so are those of its members
   members_reached : (s : ℕ) (d m : DbKey) → reached d.rtype ≡ true → In m (members_of db s (Rec d)) → reached m.rtype ≡ true
   members_reached s d m h i =
       let member = in_member m _ i in

@@ -1,4 +1,4 @@
--- What a statement needs next is above what it has in hand, where that was taken in turn; a cell lies in an area in hand.
+-- What a statement needs next is above what it holds, if that was taken in turn; a cell lies in a held area.
 use Rattle.std.proofs.Common.{◌≡◌, refl, sym, ◌∙◌, ap, subst, ℕ, zero, suc, ◌<◌, Bool, true, false, not, eqb, List, [], ◌∷◌, length, Option, Some, None, inl, inr, arith}
 use Rattle.std.specs.Prelude.{is_some, nat_lt, take, if◌then◌else◌, ◌==◌}
 use Rattle.std.specs.List.{list_any, find, range_with_len}
@@ -33,7 +33,7 @@ use Rattle.dbtg_unit.proofs.Lists.Ascending.{ascending_range}
 use Rattle.dbtg_unit.proofs.Lists.Membership.{In, all_at, any_element, any_in, find_element, find_none_of, in_filter, in_map, in_range, of_map}
 use Rattle.dbtg_unit.proofs.Lists.WithANewMember.{pairwise_filter}
 
--- of a choice that was made, what decided it
+-- what decided a choice that was made
 pub chose_take : (r : Bool) (oa : Option ℕ) (oc : Option CellName) (stale : Bool) (c : CellName) →
     (if r then Ready else next_of oa oc stale) ≡ Take c → (r ≡ false) × (oa ≡ None) × (oc ≡ Some c)
 chose_take true oa oc stale c e = absurd (cc (e))

@@ -1,4 +1,4 @@
--- The doomed records in turn are just the doomed, each once.
+-- The doomed records in turn are exactly the doomed records, each once.
 use Rattle.std.proofs.Common.{◌≡◌, refl, sym, ◌∙◌, ap, subst, ℕ, zero, suc, ◌+◌, ◌<◌, ◌≤◌, Bool, true, false, cond, not, ◌&&◌, ◌||◌, List, [], ◌∷◌, ◌++◌, length, Option, Some, None, inl, inr, arith, append_assoc, zero-add, append-nil}
 use Rattle.std.specs.Prelude.{filter, slice_get}
 use Rattle.std.specs.List.{list_all}
@@ -40,7 +40,7 @@ shorter x (y ∷ ys) h =
           subst (λ b. length (cond (not b) (y ∷ filter (differ x) ys) (filter (differ x) ys)) < length (y ∷ ys)) (sym e) (omega arith)
     ]
 
--- keys that differ and are all in a list are no more than it has
+-- distinct keys that are all in a list are no more than it has
 pub no_more : (xs ys : List DbKey) → pairwise differ xs ≡ true → list_all (λ x. is_member x ys) xs ≡ true → length xs ≤ length ys
 no_more [] ys h g = omega arith
 no_more (x ∷ xs) ys h g =

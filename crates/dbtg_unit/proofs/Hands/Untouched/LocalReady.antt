@@ -1,4 +1,4 @@
--- What a statement that is ready has in hand, and that it changes no other cell.
+-- What a statement that is ready holds, and that it changes no other cell.
 use Rattle.std.proofs.Common.{◌≡◌, refl, sym, ◌∙◌, ap, subst, ℕ, Bool, true, false, cond, not, ◌||◌, List, [], ◌∷◌, Option, Some, None, eqb, inl, inr}
 use Rattle.std.specs.Prelude.{is_some, option_map, ◌==◌}
 use Rattle.std.specs.List.{list_any, find}
@@ -34,19 +34,19 @@ use Rattle.dbtg_unit.proofs.Database.Legal.Outcomes.{of_current, of_done, of_fin
 use Rattle.dbtg_unit.proofs.Lists.Membership.{In, any_element}
 use Rattle.dbtg_unit.proofs.Hands.Untouched.LocalStatements.{Stays, of_open, of_close, of_store, of_insert, of_remove, of_modify, of_delete}
 
--- a statement is ready where no area and no cell is wanting and no guess is wrong
+-- a statement is ready if no area or cell is missing and no guess is wrong
 pub ready_parts : (a : Option ℕ) (c : Option CellName) (stale : Bool) → next_of a c stale ≡ Ready → (c ≡ None) × (stale ≡ false)
 ready_parts (Some a) c stale h = cc
 ready_parts None (Some c) stale h = cc
 ready_parts None None true h = cc
 ready_parts None None false h = (refl, refl)
 
--- a cell is held where its name is among those in hand
+-- a cell is held if its name is among the held names
 pub holds_any : (cells : List (CellName × Cell)) (c : CellName) → list_any (λ e. name_eq c e.0) cells ≡ holds cells c
 holds_any [] c = refl
 holds_any (e ∷ es) c = elim (name_eq c e.0) as (λ b. (b || list_any (λ e. name_eq c e.0) es) ≡ cond b true (holds es c)) [ true ↦ refl | false ↦ holds_any es c ]
 
--- where no cell is wanting, each is in hand
+-- if no cell is missing, all are held
 pub all_held : (cells : List (CellName × Cell)) (names : List CellName) → find (λ c. not (list_any (λ e. name_eq c e.0) cells)) names ≡ None → (c : CellName) → In c names → holds cells c ≡ true
 all_held cells [] h c i = absurd i
 all_held cells (d ∷ names) h c i =
@@ -57,7 +57,7 @@ all_held cells (d ∷ names) h c i =
       | inr wanting ↦ absurd (none-some d (sym (subst (λ b. cond (not b) (Some d) (find (λ c. not (list_any (λ e. name_eq c e.0) cells)) names) ≡ None) wanting h)))
     ]
 
--- a cell that is not in hand is not named
+-- a cell that is not held is not named
 pub not_named : (cells : List (CellName × Cell)) (names : List CellName) → ((c : CellName) → In c names → holds cells c ≡ true) → (c : CellName) → holds cells c ≡ false → list_any (name_eq c) names ≡ false
 not_named cells names held c h =
     false_from_ne_true _ (λ m. let d = any_element (name_eq c) names m in
@@ -69,7 +69,7 @@ second_passes false true x y rest h = absurd (none-some y (sym h))
 second_passes false false x y rest h = refl
 
 module _ (schema : Lists) (capacity : ℕ) (db : Database) (unit : Unit) (hands : Hands) where
-  -- a statement that is not refused at once and is ready has all its cells in hand, and right guesses
+  -- a statement that is not refused at once and is ready holds all its cells, and its guesses are right
   pub ready_has : (statement : Statement) → refused_at_once schema capacity unit statement ≡ None → need schema capacity db unit hands statement ≡ Ready
       → ((c : CellName) → In c (cells_of schema capacity db unit hands.guesses statement) → holds hands.cells c ≡ true) × (is_stale schema capacity db unit hands.guesses statement ≡ false)
   unfolding need

@@ -25,7 +25,7 @@ pub owner_at_place : (db : Database) (q : Option (ℕ × ℕ)) → place_of (own
 owner_at_place db None = refl
 owner_at_place db (Some p) = refl
 
--- a list without a key that it has not
+-- a list without a key that it doesn't have
 pub without_absent : (k : DbKey) (xs : List DbKey) → is_member k xs ≡ false → without k xs ≡ xs
 without_absent k [] h = refl
 without_absent k (x ∷ xs) h =
@@ -81,7 +81,7 @@ module _ (schema : Lists) (capacity : ℕ) (db : Database) (unit : Unit) (s : �
   same_owner_of : (s' : ℕ) (x : DbKey) → key_eq x k ≡ false → owner_of schema capacity new s' x ≡ owner_of schema capacity db s' x
   same_owner_of s' x h = λ i. find (λ o. same_member s' o x h i) (same_owners s' i)
 
-  -- a list that has not k is as it was
+  -- a list without k is as it was
   same_list : (s' : ℕ) (o : Owner) → (s' ≡ s → is_member k (members_of db s' o) ≡ false) → new.lists s' o ≡ db.lists s' o
   same_list s' o none =
       elim (eqb s' s) as (λ b. (eqb s' s ≡ b) → cond b (option_map (without k) (db.lists s' o)) (db.lists s' o) ≡ db.lists s' o) [

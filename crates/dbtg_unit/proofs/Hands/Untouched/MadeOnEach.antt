@@ -1,4 +1,4 @@
--- What a plan makes of the cells in hand is what the statement makes on every database that agrees with them.
+-- What a plan makes of the held cells is what the statement makes on every database that agrees with them.
 use Rattle.std.proofs.Common.{ℕ, ◌≡◌, Bool, true, false, cond, not, ◌&&◌, List, [], ◌∷◌, map, refl, sym, ap, ◌∙◌, subst}
 use Rattle.std.specs.List.{list_all}
 use Rattle.std.proofs.lemmas.Bool.{and_parts, not-true}
@@ -104,7 +104,7 @@ module _ (schema : Lists) (capacity : ℕ) (unit : Unit) (x : Statement) (plan :
   due_values db db' edits h [] a = refl
   due_values db db' edits h (c ∷ cs) a = λ i. (c.0, (ap (edited_at c.0 edits) a.0 ∙ sym (h c.0)) i) ∷ due_values db db' edits h cs a.1 i
 
-  -- the cells in hand after a plan that is the effect show what the database has after it
+  -- the held cells after a plan that is the effect show what the database has after it
   pub cells_made : (db : Database) (hands : Hands) → pairwise (λ (e f : CellName × Cell). not (name_eq e.0 f.0)) hands.cells ≡ true → Agrees schema capacity db hands unit → IsEffect schema capacity db unit hands.guesses x plan
       → edited_values plan.cells (values_of hands.cells) ≡ map (λ (e : CellName × Cell). (e.0, cell schema capacity (effect schema capacity db unit x).database e.0)) hands.cells
   cells_made db hands once agrees e =

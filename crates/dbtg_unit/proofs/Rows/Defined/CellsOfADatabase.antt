@@ -1,6 +1,6 @@
 -- What each cell shows of a database.
--- What is expected was worked out by hand: a usage list as it is; of an extent every number with its last generation and, where it is live,
--- its CALC values; of a ring its owner's key and the members with their sort keys; of a slot the record with its owner in each set.
+-- What is expected was worked out by hand: a usage list as it is; for an extent every number with its last generation and, if it is live,
+-- its CALC values; for a ring its owner's key and the members with their sort keys; for a slot the record with its owner in each set.
 use Rattle.std.specs.Prelude.{◌≡◌, refl, ℕ, List, [], ◌∷◌, Some, None}
 use Rattle.dbtg_cells.specs.Shown.{UsageValue, ExtentValue, RingValue, SlotValue}
 use Rattle.dbtg_cells.specs.declared.key.Owner.TheVariants.{System, Rec}

@@ -1,6 +1,6 @@
 -- What each statement takes: its areas, ascending, then its cells in their order.
--- What is expected was worked out by hand: of a FIND the rings or extents that it looks through and the slot of what it finds, of a STORE
--- its extent, the rings of the current owners and of the new one, and the new slot, of an INSERT, REMOVE or MODIFY the rings and the slot.
+-- What is expected was worked out by hand: for a FIND the rings or extents that it looks through and the slot of what it finds; for a STORE
+-- its extent, the rings of the current owners and of the new one, and the new slot; for an INSERT, REMOVE or MODIFY the rings and the slot.
 use Rattle.std.specs.Prelude.{codes, ◌≡◌, refl, ℕ, false, List, [], ◌∷◌, Option, Some, None, slice_get, unwrap_or}
 use Rattle.dbtg_cells.specs.declared.cell.Cell.{Cell}
 use Rattle.dbtg_cells.specs.declared.key.Owner.{Owner}

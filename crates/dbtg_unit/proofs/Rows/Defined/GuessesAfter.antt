@@ -1,5 +1,5 @@
 -- The owners of the current of run-unit, as a unit has last seen them, after each statement.
--- What is expected was worked out by hand: FIND and STORE note the owner in every set, INSERT and REMOVE that of their set, nothing else notes any.
+-- What is expected was worked out by hand: FIND and STORE note the owner in every set, INSERT and REMOVE the one in their set; nothing else notes any.
 use Rattle.std.specs.Prelude.{◌≡◌, refl, true, List, [], ◌∷◌, Option, Some, None, slice_get, unwrap_or}
 use Rattle.dbtg_cells.specs.declared.key.Owner.{Owner}
 use Rattle.dbtg_cells.specs.declared.key.Owner.TheVariants.{System, Rec}

@@ -65,7 +65,7 @@ image : image_of card 2 (replay card 2 (opening_state card 2) history).database
 unfolding effect image_of replay
 image = refl
 
--- unit 0 is no unit, nor is one above the last; no answer is theirs
+-- there is no unit 0, nor one above the last; neither has an answer
 of_no_unit : answer_to card 2 (opening_state card 2) (opened 0 0) ≡ None
 unfolding effect
 of_no_unit = refl

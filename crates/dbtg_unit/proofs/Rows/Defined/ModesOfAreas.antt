@@ -13,7 +13,7 @@ use Rattle.dbtg_unit.specs.Database.State.Image.{image_of}
 use Rattle.dbtg_unit.proofs.Rows.Defined.Schemas.{shop, main, side, customers}
 use Rattle.dbtg_unit.proofs.Rows.Words.{by, customer_key, done, found, no, run, store, text}
 
--- what a second unit is answered that opens the area in each of the six modes
+-- the answer to a second unit that opens the area in each of the six modes
 abbrev pub beside : Mode → List (Option Answer)
 beside mode =
     flat_map (λ other. drop 1 (run shop 10 2 ((1, OpenArea main mode) ∷ (2, OpenArea main other) ∷ [])).answers)

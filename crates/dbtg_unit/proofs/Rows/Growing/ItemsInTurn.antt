@@ -151,7 +151,7 @@ live_orders c k =
     ap (λ ks. ordr_key 1 ∷ ks) (none_in_range (is_live (shop_with k)) (key_at (shop_with k) orders) 2 c (λ j above below.
     ap (λ b. is_some (cond (b && 1 == the_last k orders j) (there (Num 1 ∷ [])) None)) (ne_eqb 1 j (λ e. omega (arith, e, above)))))
 
--- whether a number is free goes by whether its item is there
+-- whether a number is free depends on whether its item is there
 abbrev is_free : ℕ → Bool → Bool
 is_free n stored = not (is_some (cond (1 == cond stored 1 0 && stored) (there (the_items n)) None)) && nat_lt (cond stored 1 0) 255
 

@@ -69,7 +69,7 @@ all_shown : shown a_thousand.answers last_state ≡ a_thousand
 unfolding image_of shop_with
 all_shown = refl
 
--- no state on the way is computed: a store leads from items 1 to k to items 1 to k + 1, and the last state is looked at alone
+-- no state on the way is computed: a store leads from items 1 to k to items 1 to k + 1, and only the last state is looked at
 thousand_in_order : run shop 1000 1 (first_statements ++ (store_items 1 1000 ++ last_statements)) ≡ a_thousand
 thousand_in_order =
     (λ i. shown (told i) (left i)) ∙ all_shown where

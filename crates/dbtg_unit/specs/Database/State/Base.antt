@@ -71,7 +71,7 @@ owners schema capacity db s =
 abbrev pub members_of : Database → ℕ → Owner → List DbKey
 members_of db s o = unwrap_or (db.lists s o) []
 
--- whose list of set s has k
+-- the owner whose list of set s has k
 abbrev pub owner_of : Lists → ℕ → Database → ℕ → DbKey → Option Owner
 owner_of schema capacity db s k = find (λ o. is_member k (members_of db s o)) (owners schema capacity db s)
 

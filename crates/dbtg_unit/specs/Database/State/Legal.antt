@@ -45,7 +45,7 @@ keys_in_order order a b = true
 abbrev pub in_order : Lists → Database → ℕ → DbKey → DbKey → Bool
 in_order schema db s x y = keys_in_order (order_of schema s) (sort_key schema db s x) (sort_key schema db s y)
 
--- of two units and their modes in one area
+-- for two units and their modes in one area
 abbrev pub agree : ℕ × Mode → ℕ × Mode → Bool
 agree a b = not (a.0 == b.0) && not (conflict a.1 b.1)
 

@@ -97,7 +97,7 @@ distinct_items (c ∷ changes) = not (list_any (λ d. d.item == c.item) changes)
 abbrev pub change_fits : Lists → ℕ → Change → Bool
 change_fits schema t c = some_and (λ p. value_fits p c.value) (picture_of schema t c.item)
 
--- of the schema's sets alone
+-- only sets of the schema
 abbrev pub suppress_fits : Lists → Suppress → Bool
 suppress_fits schema suppress = nat_lt suppress.sets (2 ^ length schema.sets)
 
