@@ -51,7 +51,7 @@ abbrev pub area_cells : ℕ → List Area → List ℕ
 area_cells a [] = []
 area_cells a (area ∷ areas) = area_cell area.name a ++ area_cells (a + 1) areas
 
--- the beginning of the table, up to how many cells the title is wide
+-- the beginning of the table, up to the title's width in cells
 unfoldable pub table_text : List ℕ
 table_text = codes "label=<<table border=\"0\" cellborder=\"1\" cellspacing=\"4\">\n<tr><td border=\"0\" colspan=\""
 

@@ -77,7 +77,7 @@ abbrev pub direction_text : Bool → List ℕ
 direction_text true = codes "SORTED ASC"
 direction_text false = codes "SORTED DES"
 
--- where a member goes that has the sort key of another: first, last, or nowhere
+-- where a member with the sort key of another goes: first, last, or nowhere
 abbrev pub duplicates_text : Duplicates → List ℕ
 duplicates_text duplicates.First = codes " DF"
 duplicates_text duplicates.Last = codes " DL"

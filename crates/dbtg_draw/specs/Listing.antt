@@ -18,7 +18,7 @@ named_line word name = word ++ name ++ 10 ∷ []
 abbrev pub area_line : Area → List ℕ
 area_line a = named_line (codes "AREA ") a.name
 
--- what follows another
+-- a text after a comma
 abbrev pub behind_comma : List ℕ → List ℕ
 behind_comma text = codes ", " ++ text
 

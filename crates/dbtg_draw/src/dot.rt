@@ -1,5 +1,5 @@
-//! The diagram of a schema in the language of Graphviz. A name that is read in a schema has capital letters, digits and hyphens
-//! only, and pictures also have parentheses, so that no byte within quotation marks has to be escaped. Record types have
+//! The diagram of a schema in the language of Graphviz. Names in a schema have only capital letters, digits and hyphens,
+//! and pictures also have parentheses, so that no byte within quotation marks has to be escaped. Record types have
 //! different names, and no name has a space, so that each box is called by its name, and each SYSTEM by its set.
 
 ghost use Rattle.dbtg_draw.specs.Dot.{area_cell, area_cells, cell_text, colour_number, colour_text, dot_text, fill_text, front_text, graph_text, heading_text, item_line, left_line, legend_text, location_text, member_edge, member_label, owner_name, quoted, record_label, record_node, row_text, set_text, style_text, system_name, system_node, table_text, title_text, words_end, words_text};

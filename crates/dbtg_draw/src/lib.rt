@@ -1,5 +1,5 @@
 //! The Bachman diagram of a schema: record types as boxes, sets as arrows from owner to member. Its text is in the language of
-//! Graphviz, which lays it out. And the schema in lines, in the diagram's words.
+//! Graphviz, which lays it out. It also prints the schema in lines, in the same words.
 #![tactic(auto)]
 
 mod dot;

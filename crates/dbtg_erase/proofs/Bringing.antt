@@ -1,4 +1,4 @@
--- Two work lists that bring the same of each key whose cells are in hand are the same as far as the cells in hand go.
+-- Two work lists that bring the same of each key whose cells are held are the same as far as the held cells go.
 use Rattle.std.proofs.Common.{◌≡◌, refl, sym, ◌∙◌, ap, subst, ℕ, zero, suc, ◌+◌, ◌≤◌, Bool, true, false, cond, List, [], ◌∷◌, ◌++◌, length, Option, Some, None, arith, append_assoc, length-append, append-nil}
 use Rattle.std.specs.Prelude.{slice_get}
 use Rattle.std.specs.List.{find, flat_map}
@@ -95,7 +95,7 @@ module _ (taken : DbKey → List DbKey) where
 
 module _ (taken taken' : DbKey → List DbKey) (cells cells' : DbKey → List CellName) (wanting : CellName → Bool)
     (finds : (d : DbKey) → find wanting (cells d) ≡ find wanting (cells' d)) (brings : (d : DbKey) → find wanting (cells d) ≡ None → taken d ≡ taken' d) where
-  -- from place i on the same cell is the first wanting one; where none is, the lists are one
+  -- from place i on the first missing cell is the same; where none is missing, the lists are the same
   abbrev pub Agree : ℕ → List DbKey → List DbKey → Type 0
   Agree i xs ys =
       (find wanting (flat_map cells (from i xs)) ≡ find wanting (flat_map cells' (from i ys)))

@@ -45,11 +45,11 @@ can_leave n numbers used (ExtentCell v) h = let same : v.numbers ≡ numbers = c
 can_leave n numbers used (RingCell v) h = tt
 can_leave n numbers used (SlotCell v) h = tt
 
--- two keys have not one number of one type
+-- two keys do not share a number of one type
 abbrev pub apart : DbKey → DbKey → Bool
 apart a b = not (is_of_number b.rtype b.number a)
 
--- the numbers of d and of none else
+-- the numbers of d and of no other
 abbrev left_at : DbKey → (ℕ → ℕ → Number) → ℕ → ℕ → Number
 left_at d f t n = cond (list_any (is_of_number t n) (d ∷ [])) (vacated (f t n)) (f t n)
 
@@ -207,7 +207,7 @@ next_after c x (s ∷ ss) v next =
     next_after c x ss (cond (name_eq c (slot_name x)) (edited (ChangeOwner s None) v) v)
     (elim (name_eq c (slot_name x)) as (λ b. HasNext (cond b (edited (ChangeOwner s None) v) v)) [ true ↦ next_still s v next | false ↦ next ])
 
--- two keys have not one slot
+-- two keys do not share a slot
 abbrev pub other_slots : DbKey → DbKey → Bool
 other_slots a b = not (name_eq (slot_name b) (slot_name a))
 

@@ -1,4 +1,4 @@
--- What a DELETE that needs nothing more prepares can be made of the cells in hand.
+-- What a DELETE that needs nothing more prepares can be made of the held cells.
 use Rattle.std.proofs.Common.{◌≡◌, refl, sym, ◌∙◌, ap, subst, ℕ, ◌≤◌, arith, true, false, cond, List, [], length, Option, Some, None, map}
 use Rattle.std.specs.Prelude.{Result, Ok, Err, IfOk, is_some, option_map, unwrap_or}
 use Rattle.std.specs.List.{flat_map, list_all, list_any}
@@ -66,7 +66,7 @@ module _ (schema : Lists) (capacity : ℕ) (db : Database) (hands : Hands) (unit
   abbrev vacatings : List CellEdit
   vacatings = map (λ d. slot_edit d Vacate) turn
 
-  -- live records that differ have not one number
+  -- different live records do not share a number
   apart_live : (xs : List DbKey) → list_all (is_live db) xs ≡ true → pairwise differ xs ≡ true → pairwise apart xs ≡ true
   apart_live xs live once =
       pairwise_weaker differ apart (is_live db) xs
@@ -163,7 +163,7 @@ module _ (schema : Lists) (capacity : ℕ) (unit : Unit) (hands : Hands) (option
   pub delete_can_finish : CanFinish schema capacity unit hands (Delete option) (whole_plan schema capacity hands unit option)
   delete_can_finish = record { prepared = is_prepared schema capacity unit hands option (may_plan may); can_make = can_make }
 
-  -- and so it makes it, if memory was found, on every database of which the cells in hand are
+  -- and so makes it, if memory was found, on every database to which the held cells belong
   pub delete_makes : {E : Type 0} (prepared : Result Plan E) → IfOk prepared (λ plan. plan ≡ whole_plan schema capacity hands unit option) → IfOk prepared (λ plan. IsMadeOnEach schema capacity unit hands (Delete option) (made_by schema unit hands plan))
   delete_makes (Ok plan) is =
       subst (λ (p : Plan). IsMadeOnEach schema capacity unit hands (Delete option) (made_by schema unit hands p)) (sym is)

@@ -1,5 +1,5 @@
--- What is kept of a DELETE's course stays right while more cells come to hand.
--- Uses: what a DELETE reads off the cells in hand. Promises: `course_stays`, and what has all of what.
+-- What is kept of a DELETE's course stays right while more cells are taken.
+-- Uses: what a DELETE reads from the held cells. Promises: `course_stays`, and which hands have all that others have.
 use Rattle.std.proofs.Common.{◌≡◌, ◌&&◌, refl, sym, ◌∙◌, ap, ℕ, zero, suc, ◌+◌, ◌<◌, Bool, true, false, cond, not, List, [], ◌∷◌, ◌++◌, Option, Some, None, arith, inl, inr, map, subst, take}
 use Rattle.std.specs.Prelude.{filter, is_some, option_and_then, slice_get, ◌==◌}
 use Rattle.std.specs.List.{flat_map}
@@ -80,7 +80,7 @@ brought_same taken taken' (suc n) i order h = by (slice_get order i) refl h (bro
       let here : taken' d ≡ taken d = h d i (omega arith) (kept_at taken n (suc i) i (with_those order (taken d)) d (still_at order (taken d) i d e)) in
       ap (λ xs. brought taken' n (suc i) (with_those order xs)) here ∙ later (with_those order (taken d)) (λ d j below at. h d j (omega arith) at)
 
--- names that are all in hand
+-- names that are all held
 none_is : (hands : Hands) (cs : List CellName) → ((c : CellName) → In c cs → holds hands.cells c ≡ true) → first_missing hands cs ≡ None
 none_is hands [] h = refl
 none_is hands (c ∷ cs) h = ap (λ b. cond (not b) (Some c) (first_missing hands cs)) (h c (inl refl)) ∙ none_is hands cs (λ d i. h d (inr i))
@@ -92,7 +92,7 @@ module _ (schema : Lists) (hands hands' : Hands) (all : HasAllOf hands hands') w
   held_of : (cs : List CellName) → first_missing hands cs ≡ None → (c : CellName) → In c cs → holds hands.cells c ≡ true
   held_of cs none c i = none_wanting (holds hands.cells) cs none c i
 
-  -- names that are in hand stay so
+  -- names that are held stay so
   still : (cs : List CellName) → first_missing hands cs ≡ None → first_missing hands' cs ≡ None
   still cs none = none_is hands' cs (λ c i. stays c (held_of cs none c i))
 
@@ -108,7 +108,7 @@ module _ (schema : Lists) (hands hands' : Hands) (all : HasAllOf hands hands') w
   members_same : (d : DbKey) → first_missing hands (own_rings schema d) ≡ None → members_in_hand schema hands' d ≡ members_in_hand schema hands d
   members_same d none = flat_map_agrees (list_in hands' d) (list_in hands d) (own_sets schema d) (λ s i. list_same d s (ring_held d s none i))
 
-  -- what a record whose cells are in hand has of the cells
+  -- what a record whose cells are held has of the cells
   own_of : (d : DbKey) → first_missing hands (cells_of_gone schema hands d) ≡ None → first_missing hands (own_rings schema d) ≡ None
   own_of d none = none_is hands (own_rings schema d) (λ c i. held_of (cells_of_gone schema hands d) none c (inr (in_left c (own_rings schema d) (map slot_name (members_in_hand schema hands d)) i)))
 
@@ -131,7 +131,7 @@ module _ (schema : Lists) (hands hands' : Hands) (all : HasAllOf hands hands') w
       ∙ filter_agrees (λ m. takes_member schema option s (elsewhere_in schema hands' s (Rec d) m) m) (λ m. takes_member schema option s (elsewhere_in schema hands s (Rec d) m) m) (list_in hands d s)
       (λ m j. ap (λ b. takes_member schema option s b m) (elsewhere_same s (Rec d) m (slot_held d s m none i j))))
 
-  -- of the records that go, each has its cells in hand
+  -- each record that goes has its cells held
   each_none : (gone : List DbKey) → first_missing hands (flat_map (cells_of_gone schema hands) gone) ≡ None → (d : DbKey) → In d gone → first_missing hands (cells_of_gone schema hands d) ≡ None
   each_none gone none d i = none_is hands (cells_of_gone schema hands d) (λ c j. held_of (flat_map (cells_of_gone schema hands) gone) none c (in_flat_map (cells_of_gone schema hands) d c gone i j))
 
@@ -197,7 +197,7 @@ pub nothing_kept : (schema : Lists) (capacity : ℕ) (hands : Hands) (unit : Uni
 unfolding IsCourseOfCurrent
 nothing_kept schema capacity hands unit option = λ k e. tt
 
--- with more in hand, what is kept is right
+-- what is kept is right when more is held
 pub kept_stays : (schema : Lists) (capacity : ℕ) (hands hands' : Hands) (unit : Unit) (option : Erase) (course : Option Course) → HasAllOf hands hands' → IsCourseOfCurrent schema capacity hands unit option course → IsCourseOfCurrent schema capacity hands' unit option course
 unfolding IsCourseOfCurrent
 kept_stays schema capacity hands hands' unit option None all kept = λ k e. tt

@@ -1,5 +1,5 @@
--- How a DELETE's course goes on: of the next record a cell is found that is not in hand, or it brings those that go with it.
--- Uses: work lists, what is read off the cells in hand. Promises: what each step of the course ensures.
+-- How a DELETE's course goes on: a cell of the next record is not held, or the record brings those that go with it.
+-- Uses: work lists, what is read from the held cells. Promises: what each step of the course ensures.
 use Rattle.std.proofs.Common.{◌≡◌, refl, sym, ◌∙◌, ap, subst, ℕ, zero, suc, ◌+◌, ◌-◌, ◌<◌, ◌≤◌, List, [], ◌∷◌, ◌++◌, length, Option, Some, None, arith, append-nil, append_assoc, drop, false, length-append, map, take, true}
 use Rattle.std.specs.Prelude.{is_some, slice_get}
 use Rattle.std.specs.List.{flat_map}
@@ -24,11 +24,11 @@ use Rattle.dbtg_erase.proofs.Bringing.{find_first, find_second, in_two, past, pr
 
 -- OF ONE RECORD
 
--- one of its own cells is not in hand
+-- one of its own cells is not held
 pub own_first : (schema : Lists) (hands : Hands) (d : DbKey) (x : CellName) → first_missing hands (slot_name d ∷ own_rings schema d) ≡ Some x → first_missing hands (cells_of_gone schema hands d) ≡ Some x
 own_first schema hands d x h = find_first (is_missing hands) (slot_name d ∷ own_rings schema d) (map slot_name (members_in_hand schema hands d)) x h
 
--- its own cells are in hand
+-- its own cells are held
 pub members_first : (schema : Lists) (hands : Hands) (d : DbKey) (names : Names) → AreOfMembers schema hands d names → first_missing hands names.names.items ≡ first_missing hands (cells_of_gone schema hands d)
 members_first schema hands d names are =
     ap (first_missing hands) are.members ∙ sym (find_second (is_missing hands) (slot_name d ∷ own_rings schema d) (map slot_name (members_in_hand schema hands d)) are.own)
@@ -85,7 +85,7 @@ module _ (schema : Lists) (capacity : ℕ) (hands : Hands) (option : Erase) (k :
       ∙ find_second (is_missing hands) (cells (take course.done course.gone)) (cells es) is.cells
 
   module _ (d : DbKey) (at : slice_get course.gone course.done ≡ Some d) where
-    -- a cell of the next record is not in hand
+    -- a cell of the next record is not held
     found_first : (x : CellName) → first_missing hands (cells_of_gone schema hands d) ≡ Some x → first_of all ≡ Some x
     found_first x h =
         let more = prefix taken (most - course.done) course.done course.gone in

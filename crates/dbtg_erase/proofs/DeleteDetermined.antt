@@ -1,4 +1,4 @@
--- What a DELETE has in hand determines what it does: one plan is its effect on each database that agrees.
+-- What a DELETE holds determines what it does: one plan is its effect on each database that agrees.
 use Rattle.std.proofs.Common.{◌≡◌, refl, sym, ◌∙◌, ℕ, not, Option, Some, None}
 use Rattle.std.specs.Prelude.{◌==◌}
 use Rattle.std.specs.List.{find, list_any}
@@ -19,7 +19,7 @@ use Rattle.dbtg_erase.specs.Locality.{DeleteIsDetermined}
 use Rattle.dbtg_erase.proofs.NextNeed.{area_wanted, cell_wanted, ready_refused}
 use Rattle.dbtg_erase.proofs.PlanIsEffect.{plan_is_effect}
 
--- on two databases that agree with what is in hand a DELETE needs the same
+-- on two databases that agree with what is held, a DELETE needs the same
 module _ (schema : Lists) (capacity : ℕ) (unit : Unit) (option : Erase) (hands : Hands) (db eb : Database) (agrees : Agrees schema capacity db hands unit) (agrees_too : Agrees schema capacity eb hands unit) where
   abbrev needed : Database → Need
   needed d = need schema capacity d unit hands (Delete option)

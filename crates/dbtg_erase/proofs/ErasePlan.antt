@@ -1,4 +1,4 @@
--- What a DELETE prepares is its effect on each database that agrees with the cells in hand.
+-- What a DELETE prepares is its effect on each database that agrees with the held cells.
 use Rattle.std.proofs.Common.{◌⊎◌, ◌≡◌, refl, sym, ◌∙◌, ap, subst, ℕ, ◌+◌, arith, eqb, Bool, true, false, cond, not, ◌&&◌, ◌||◌, List, [], ◌∷◌, ◌++◌, length, Option, Some, None, inl, inr, ⊎_elim, map}
 use Rattle.std.specs.Prelude.{filter, is_some, nat_lt, if◌then◌else◌}
 use Rattle.std.specs.List.{find, flat_map, list_all, list_any, range_with_len}
@@ -50,7 +50,7 @@ refused_first [] ys cause h = absurd (none-some cause h)
 refused_first (x ∷ xs) ys cause h =
     elim x.0 as (λ b. cond b (Some x.1) (first_cause xs) ≡ Some cause → cond b (Some x.1) (first_cause (xs ++ ys)) ≡ Some cause) [ true ↦ λ e. e | false ↦ λ e. refused_first xs ys cause e ] h
 
--- the first cause of a list, or of what is behind it
+-- the first cause of a list, or of what follows it
 pub cause_append : (xs ys : List (Bool × Cause)) → first_cause (xs ++ ys) ≡ option_or (first_cause xs) (first_cause ys)
 cause_append [] ys = refl
 cause_append (x ∷ xs) ys = elim x.0 as (λ b. cond b (Some x.1) (first_cause (xs ++ ys)) ≡ option_or (cond b (Some x.1) (first_cause xs)) (first_cause ys)) [ true ↦ refl | false ↦ cause_append xs ys ]
@@ -67,7 +67,7 @@ pub any_same : (p q : ℕ → Bool) (xs : List ℕ) → ((x : ℕ) → In x xs �
 any_same p q [] h = refl
 any_same p q (x ∷ xs) h = λ i. h x (inl refl) i || any_same p q xs (λ y j. h y (inr j)) i
 
--- all are there where none is wanting
+-- all are there if none is missing
 all_there : {X : Type 0} (has : X → Bool) (xs : List X) → ((x : X) → In x xs → has x ≡ true) → find (λ x. not (has x)) xs ≡ None
 all_there has [] h = refl
 all_there has (x ∷ xs) h = ap (λ b. cond (not b) (Some x) (find (λ x. not (has x)) xs)) (h x (inl refl)) ∙ all_there has xs (λ y j. h y (inr j))
@@ -165,12 +165,12 @@ module _ (schema : Lists) (capacity : ℕ) (db : Database) (hands : Hands) (unit
     abbrev names : List CellName
     names = slot_name k ∷ own_rings schema k ++ flat_map (cells_of_doomed schema db) (doomed_in_turn schema capacity db option k) ++ outer_cells schema capacity db (doomed_in_turn schema capacity db option k)
 
-    -- refused for its members: its rings as far as the first member are in hand
+    -- refused for its members: its rings as far as the first member are held
     as_far : has_any ≡ true → (c : CellName) → In c (rings_to_member schema db k owned) → holds hands.cells c ≡ true
     as_far h c i =
         has c (subst (In c) (sym (cond-false (is_some (first_cause (own_checks (whole schema capacity db) unit k))) (slot_name k ∷ []) _ (ap is_some own) ∙ cond-true has_any (slot_name k ∷ rings_to_member schema db k owned) (names_once [] names) h)) (inr i))
 
-    -- else all that it names
+    -- otherwise all that it names
     all_held : has_any ≡ false → (c : CellName) → In c names → holds hands.cells c ≡ true
     all_held h c i =
         let once : list_any (name_eq c) (names_once [] names) ≡ true = true_from (list_any (name_eq c) (names_once [] names)) (λ e. names_once_complete names c c e i refl) in
@@ -250,7 +250,7 @@ module _ (schema : Lists) (capacity : ℕ) (db : Database) (hands : Hands) (unit
     abbrev left : List DbKey
     left = left_behind (members_of_all schema db) turn
 
-    -- the slot of each that is left behind is in hand
+    -- the slot of each that is left behind is held
     pub left_held : (x : DbKey) → In x left → holds hands.cells (slot_name x) ≡ true
     left_held x i =
         all_at (λ y. holds hands.cells (slot_name y)) x left
@@ -297,7 +297,7 @@ module _ (schema : Lists) (capacity : ℕ) (db : Database) (hands : Hands) (unit
                     ∙ sym (cond-false (is_taken_out schema capacity db unit option k e.0) _ e (sym (left_are_taken_out schema capacity db unit option k agrees.legal live e.0) ∙ h))
               ]
 
-    -- every edit is of a cell in hand
+    -- every edit is of a held cell
     outer_held : (c : CellName) → In c (outer_cells schema capacity db turn) → holds hands.cells c ≡ true
     outer_held c i = all_held own none c (inr (in_right c (own_rings schema k ++ flat_map (cells_of_doomed schema db) turn) (outer_cells schema capacity db turn) i))
 

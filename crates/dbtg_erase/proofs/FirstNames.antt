@@ -105,6 +105,6 @@ module _ (p : CellName → Bool) (names : List CellName) (i : ℕ) (name : CellN
 pub none_there : (p : CellName → Bool) (names : List CellName) (i : ℕ) → length names ≤ i → find p (take i names) ≡ None → slice_get names (length names) ≡ find p names
 none_there p names i past none = slice_get_past names (length names) (omega arith) ∙ sym (ap (find p) (sym (take_all i names past)) ∙ none)
 
--- one list of names behind two others, in whatever brackets
+-- one list of names after two others, however they are grouped
 pub names_append : (xs ys zs : List CellName) → (xs ++ ys) ++ zs ≡ xs ++ (ys ++ zs)
 names_append xs ys zs = append_assoc xs ys zs

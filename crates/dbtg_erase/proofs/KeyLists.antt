@@ -29,6 +29,6 @@ pub append_nil : {X : Type 0} (xs : List X) → xs ++ [] ≡ xs
 append_nil [] = refl
 append_nil (x ∷ xs) = ap (λ ys. x ∷ ys) (append_nil xs)
 
--- one list behind two others, in whatever brackets
+-- one list after two others, however they are grouped
 pub keys_append : (xs ys zs : List DbKey) → (xs ++ ys) ++ zs ≡ xs ++ (ys ++ zs)
 keys_append xs ys zs = append_assoc xs ys zs

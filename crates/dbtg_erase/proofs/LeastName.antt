@@ -11,7 +11,7 @@ use Rattle.dbtg_unit.specs.Database.State.Legal.{pairwise}
 use Rattle.dbtg_unit.proofs.Public.{In, all_at, in_filter, name_chain, name_never, of_filter}
 use Rattle.dbtg_erase.specs.NextCell.{least_name, nearer}
 
--- c, or a name behind it
+-- c, or a later name
 abbrev pub AtOrBehind : CellName → CellName → Type 0
 AtOrBehind c d = (d ≡ c) ⊎ (name_below c d ≡ true)
 
@@ -24,7 +24,7 @@ stays_best : (c : CellName) (xs : List CellName) → ((d : CellName) → In d xs
 stays_best c [] h = refl
 stays_best c (x ∷ xs) h = ap (λ b. least_name (Some (cond b x c)) xs) (not_before c x (h x (inl refl))) ∙ stays_best c xs (λ d i. h d (inr i))
 
--- it becomes the best where it is among the names, and the others are behind it
+-- it becomes the best where it is among the names, and the others are later
 becomes_best : (c : CellName) (best : Option CellName) (xs : List CellName) → ((b : CellName) → best ≡ Some b → AtOrBehind c b) → In c xs → ((d : CellName) → In d xs → AtOrBehind c d) → least_name best xs ≡ Some c
 becomes_best c best [] behind i h = absurd i
 becomes_best c best (x ∷ xs) behind (inl e) h = ap (λ (b : CellName). least_name (Some b) xs) (now best behind) ∙ stays_best c xs (λ d j. h d (inr j)) where

@@ -1,4 +1,4 @@
--- The next cell that is read off the cells in hand is that of each database that agrees with them.
+-- The next cell that is read from the held cells is that of each database that agrees with them.
 use Rattle.std.proofs.Common.{◌≡◌, refl, sym, ◌∙◌, ap, ℕ, ◌&&◌, ◌||◌, Bool, true, false, cond, not, List, [], ◌∷◌, ◌++◌, length, Option, Some, None, inl, inr, map}
 use Rattle.std.specs.Prelude.{filter, is_some, nat_lt}
 use Rattle.std.specs.List.{find, flat_map, list_any}
@@ -64,7 +64,7 @@ find_once p met (c ∷ cs) h =
             | inr other ↦ h d (sym (ap (λ b. b || list_any (name_eq d) met) other) ∙ m)
           ]
 
--- k's own rings up to the first that has a member in hand
+-- k's own rings up to the first that has a member, by the held cells
 abbrev rings_to_member_in : Hands → DbKey → List ℕ → List CellName
 rings_to_member_in hands k [] = []
 rings_to_member_in hands k (s ∷ sets) = ring_of k s ∷ cond (nat_lt 0 (length (list_in hands k s))) [] (rings_to_member_in hands k sets)
@@ -145,7 +145,7 @@ module _ (schema : Lists) (capacity : ℕ) (db : Database) (hands : Hands) (unit
             ∙ ap (λ b. cond (not b) (Some (ring s)) (find wanting (cond (some_in s) [] (rings_to_member_in hands k sets)))) (sym h)
       ]
 
-  -- a member is found in hand where the rings as far as the first are
+  -- a member is found in the held cells if the rings as far as the first are held
   found_in : (sets : List ℕ) → find wanting (rings_to_member_in hands k sets) ≡ None → list_any some_of sets ≡ true → list_any some_in sets ≡ true
   found_in [] h e = e
   found_in (s ∷ sets) h e =
@@ -210,7 +210,7 @@ module _ (schema : Lists) (capacity : ℕ) (db : Database) (hands : Hands) (unit
     goes_live : (d : DbKey) → In d turn → is_live db d ≡ true
     goes_live d i = all_at (is_live db) d turn (met_are_live schema capacity db agrees.legal option k live) i
 
-    -- where all cells of what goes are in hand, so are its owners
+    -- where all cells of what goes are held, so are its owners
     owners_are : find wanting (flat_map (cells_of_doomed schema db) turn) ≡ None → (d : DbKey) → In d turn → (s : ℕ) → In s (set_numbers schema) → owner_of schema capacity db s d ≡ owner_in hands s d
     owners_are e d i s j =
         owner_in_hand schema capacity db hands unit agrees d

@@ -1,4 +1,4 @@
--- What a DELETE needs next by the cells in hand is what it needs on each database that agrees with them.
+-- What a DELETE needs next by the held cells is what it needs on each database that agrees with them.
 use Rattle.std.proofs.Common.{◌≡◌, refl, sym, ◌∙◌, ap, ℕ, false, cond, not, ◌&&◌, [], Option, Some, None}
 use Rattle.std.specs.Prelude.{◌==◌, is_some}
 use Rattle.std.specs.List.{find, list_any}

@@ -1,4 +1,4 @@
--- The cells around the records that go, as they are read off those, and in the order of cells.
+-- The cells around the records that go, as they are read from those, and in the order of cells.
 use Rattle.std.proofs.Common.{◌≡◌, refl, sym, ◌∙◌, ap, subst, ℕ, arith, Bool, true, false, cond, eqb, List, [], ◌∷◌, length, Option, Some, None, inl, inr, ⊎_elim, map}
 use Rattle.std.specs.Prelude.{filter, nat_lt, option_map, unwrap_or}
 use Rattle.std.specs.List.{flat_map, list_all, list_any, range_with_len}

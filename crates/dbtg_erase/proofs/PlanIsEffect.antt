@@ -1,4 +1,4 @@
--- A DELETE that needs nothing more prepares its effect, whatever database agrees with the cells in hand.
+-- A DELETE that needs nothing more prepares its effect, whatever database agrees with the held cells.
 use Rattle.std.proofs.Common.{◌≡◌, refl, sym, ◌∙◌, ap, subst, ℕ, true, false, not, ◌&&◌, List, [], ◌∷◌, Option, Some, None}
 use Rattle.std.specs.List.{list_all}
 use Rattle.std.proofs.lemmas.Bool.{not-false}
@@ -121,7 +121,7 @@ module _ (schema : Lists) (capacity : ℕ) (unit : Unit) (hands : Hands) (option
         plan_by (IsEffect schema capacity db unit hands.guesses (Delete option)) (refusal_is_effect schema capacity db unit hands.guesses (Delete option))
         (λ k current e has p. done_is_effect k current e has p)
 
-    -- each edit is of a cell in hand
+    -- each edit is of a held cell
     all_held : list_all (λ (e : CellEdit). holds hands.cells e.name) (whole_plan schema capacity hands unit option).cells ≡ true
     all_held =
         plan_by (λ (plan : Plan). list_all (λ (e : CellEdit). holds hands.cells e.name) plan.cells ≡ true) (λ cause e. refl)

@@ -2,7 +2,7 @@
 
 -- WHAT IS KEPT OF A COURSE
 
--- with more in hand, what is kept is right
+-- what is kept is right when more is held
 pub use Rattle.dbtg_erase.proofs.CourseStays.{kept_stays}
 -- nothing kept is right
 pub use Rattle.dbtg_erase.proofs.CourseStays.{nothing_kept}

@@ -1,4 +1,4 @@
--- What is read off the cells in hand of a record that goes is so in each database that agrees with them.
+-- What the held cells say of a record that goes is so in each database that agrees with them.
 use Rattle.std.proofs.Common.{◌≡◌, refl, sym, ◌∙◌, ap, subst, ℕ, suc, ◌+◌, ◌*◌, ◌≤◌, Bool, true, false, cond, not, ◌&&◌, List, [], ◌∷◌, ◌++◌, length, Option, Some, None, arith, inl, inr, map, length-append}
 use Rattle.std.proofs.Math.Nat.{suc-mul}
 use Rattle.std.proofs.lemmas.List.FromFn.{length-map-range_with_len, length-range_with_len}
@@ -44,7 +44,7 @@ flat_filter f p (x ∷ xs) h =
       | inr e ↦ ap (λ ys. ys ++ flat_map f xs) (h x e) ∙ flat_filter f p xs h ∙ ap (λ b. flat_map f (cond b (x ∷ filter p xs) (filter p xs))) (sym e)
     ]
 
--- where none is wanting, all are there
+-- if none is missing, all are there
 pub none_wanting : {X : Type 0} (has : X → Bool) (xs : List X) → find (λ x. not (has x)) xs ≡ None → (x : X) → In x xs → has x ≡ true
 none_wanting has [] h x i = absurd i
 none_wanting has (y ∷ xs) h x i =
@@ -55,7 +55,7 @@ none_wanting has (y ∷ xs) h x i =
       | inr e ↦ absurd (none-some y (sym h ∙ ap (λ b. cond (not b) (Some y) (find (λ x. not (has x)) xs)) e))
     ]
 
--- the first wanting one is there, where the first list is wanting or all of it is there
+-- the first missing one is the same if the second lists are the same once all of the first is there
 find_by_parts : {X : Type 0} (has : X → Bool) (xs ys zs : List X) → (((x : X) → In x xs → has x ≡ true) → ys ≡ zs) → find (λ x. not (has x)) (xs ++ ys) ≡ find (λ x. not (has x)) (xs ++ zs)
 find_by_parts has [] ys zs h = ap (find (λ x. not (has x))) (h (λ x i. absurd i))
 find_by_parts has (x ∷ xs) ys zs h =
@@ -78,7 +78,7 @@ module _ (schema : Lists) (capacity : ℕ) (db : Database) (hands : Hands) (unit
   pub unowned : (d : DbKey) (s : ℕ) → owns schema s d.rtype ≡ false → members_of db s (Rec d) ≡ []
   unowned d s h = ap (λ l. unwrap_or l []) (none_is (db.lists s (Rec d)) (agrees.legal.pairs s (Rec d) ∙ ap (λ b. b && is_live db d) h))
 
-  -- nor has it one in hand
+  -- nor has it one by the held cells
   pub unowned_in : (d : DbKey) (s : ℕ) → owns schema s d.rtype ≡ false → list_in hands d s ≡ []
   unowned_in d s h =
       elim (cases_Bool (holds hands.cells (Ring s (Some (d.rtype, d.number))))) [
@@ -135,13 +135,13 @@ module _ (schema : Lists) (capacity : ℕ) (db : Database) (hands : Hands) (unit
           (slots (slot_name m) (in_map slot_name m (members_of_all schema db d) (in_flat_map (λ s. members_of db s (Rec d)) s m (set_numbers schema) (of_filter (λ s. owns schema s d.rtype) s (set_numbers schema) i).0 j)))))
           ∙ ap (filter (λ m. takes_member schema option s (elsewhere_in schema hands s (Rec d) m) m)) (list_is s i))
 
-  -- the first of its cells that is not in hand
+  -- the first of its cells that is not held
   pub finds : (d : DbKey) → find (λ c. not (held c)) (cells_of_doomed schema db d) ≡ find (λ c. not (held c)) (cells_of_gone schema hands d)
   finds d =
       find_by_parts held (slot_name d ∷ own_rings schema d) (map slot_name (members_of_all schema db d)) (map slot_name (members_in_hand schema hands d))
       (λ all. ap (map slot_name) (all_members_are d (λ c i. all c (inr i))))
 
-  -- where all are in hand, what it brings
+  -- where all are held, what it brings
   pub brings : (option : Erase) (d : DbKey) → find (λ c. not (held c)) (cells_of_doomed schema db d) ≡ None → taken_with schema capacity db option d ≡ taken_in schema hands option d
   brings option d none =
       let all = none_wanting held (cells_of_doomed schema db d) none in
@@ -174,7 +174,7 @@ module _ (schema : Lists) (capacity : ℕ) (db : Database) (hands : Hands) (unit
       omega arith in
       subst (λ n. length (all_keys schema capacity db) ≤ n * capacity) (length-range_with_len 0 (length schema.types)) (length_flat (live_keys capacity db) capacity (range_with_len 0 (length schema.types)) each)
 
-  -- the work list over the cells in hand is the database's, as far as the cells in hand go
+  -- the work list over the held cells is the database's, as far as the held cells go
   pub gone_agrees : (option : Erase) (k : DbKey) → is_live db k ≡ true
       → Agree (taken_with schema capacity db option) (taken_in schema hands option) (cells_of_doomed schema db) (cells_of_gone schema hands) (λ c. not (held c)) finds (brings option)
       0 (doomed_in_turn schema capacity db option k) (gone_in schema capacity hands option k)

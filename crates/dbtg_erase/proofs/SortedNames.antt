@@ -13,7 +13,7 @@ use Rattle.dbtg_unit.proofs.Public.{In, name_chain, name_never, name_total}
 use Rattle.dbtg_erase.specs.NextCell.{least_name}
 use Rattle.dbtg_erase.proofs.LeastName.{Ascends, AtOrBehind, first_is_least}
 
--- a name that does not come before another is it or comes behind it
+-- a name that does not come before another is that name or comes after it
 behind_of : (c d : CellName) → name_below d c ≡ false → AtOrBehind c d
 behind_of c d h = elim (name_total c d) [
   | inl less ↦ inr less
@@ -59,7 +59,7 @@ ascends_far (x ∷ xs) far = (λ d i. first d (place_of d xs i), ascends_far xs 
   first : (d : CellName) → (j : ℕ) × (j < length xs) × ((e : CellName) → get_or xs j e ≡ d) → AtOrBehind x d
   first d j = behind_of x d (subst (λ (y : CellName). name_below y x ≡ false) (j.2 d) (far 0 (suc j.0) d (omega arith) (omega arith)))
 
--- of sorted names the first that passes is the least of them in whatever order
+-- the first of sorted names that passes is the least that passes in any order
 pub sorted_around : (xs ys : List CellName) → IsPermutation xs ys → IsSortedBy name_below ys → (p : CellName → Bool) → find p ys ≡ least_name None (filter p xs)
 sorted_around xs ys moved sorted p =
     first_is_least p ys xs (ascends_far ys (sorted_far name_below names_rank ys sorted)) (same_elements xs ys moved) (same_elements ys xs (IsPermutation-sym xs ys moved))

@@ -22,8 +22,8 @@ use dbtg_schema::Schema;
 use dbtg_unit::{Erase, Held, type_count};
 use std::alloc::{AllocError, Global};
 
-/// How far a DELETE has come: the records that go, as far as they are known; for how many of them all cells are held and those that
-/// go with them are added; the cells of the members of the next one; and, once all are known, the cells around them.
+/// How far a DELETE has come: the records known to go; how many of them have all their cells held and those that
+/// go with them added; the cells of the members of the next one; and, once all are known, the cells around them.
 #[derive(Drop)]
 pub struct Course {
     pub(crate) gone: Keys,
@@ -59,7 +59,7 @@ fn slots_of_members(
     Ok(Names::new(slots_of(alloc, members.as_slice())?))
 }
 
-// The first of a record's own slot and rings that is not held.
+// The first cell not held among a record's own slot and rings.
 fn first_own(schema: &Schema, held: &Held, key: &DbKey) -> Option<CellName>
     ensures { result ≡ first_missing held.now (slot_name key.now ∷ own_rings schema.now key.now) }
 {
@@ -69,7 +69,7 @@ fn first_own(schema: &Schema, held: &Held, key: &DbKey) -> Option<CellName>
     }
 }
 
-// The first of the cells of the next record that is not held.
+// The first cell of the next record that is not held.
 #[tactic(auto, using(crate::proofs::CourseSteps::own_first, crate::proofs::CourseSteps::members_first))]
 fn next_of_record(
     alloc: Global,
@@ -95,7 +95,7 @@ fn next_of_record(
 }
 
 impl Course {
-    /// The progress of a DELETE of this record, before its first cell beside the record's own slot.
+    /// The progress of a DELETE of this record, before its first cell other than the record's own slot.
     pub(crate) fn begin(alloc: Global, key: &DbKey) -> Result<Self, AllocError>
         ensures { IfOk result (λ course. (schema : Lists) (capacity : ℕ) (hands : Hands) (option : Erase) → IsCourse schema capacity hands option key.now course) }
     {
@@ -131,7 +131,7 @@ impl Course {
         Ok(())
     }
 
-    // The first of the cells of the records that go, one record after another, that is not held.
+    // The first cell not held among those of the records that go, one record after another.
     fn next_of_records(
         &mut self,
         alloc: Global,
@@ -159,7 +159,7 @@ impl Course {
             }
             self.pass(alloc, schema, held, option, &next)?;
         }
-        // No more records go than there are numbers; where they are all met, none is left here.
+        // No more records go than there are numbers; once all are met, none is left here.
         first_of_all(alloc, schema, held, &self.gone.as_slice()[self.done..])
     }
 

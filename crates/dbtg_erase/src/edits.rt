@@ -105,7 +105,7 @@ fn push_rings(schema: &Schema, key: &DbKey, rings: &mut Row<CellName>) -> Result
     Ok(())
 }
 
-// Those of all that go.
+// The rings owned by all records that go.
 #[tactic(auto, using(crate::proofs::EditLists::names_append))]
 fn rings_of_all(alloc: Global, schema: &Schema, gone: &[DbKey]) -> Result<Row<CellName>, AllocError>
     ensures { IfOk result (λ rings. rings ≡ flat_map (own_rings schema.now) gone.now) }
@@ -117,7 +117,7 @@ fn rings_of_all(alloc: Global, schema: &Schema, gone: &[DbKey]) -> Result<Row<Ce
     Ok(rings)
 }
 
-// A member that stays gets no owner in a set if its owner there goes.
+// A member that stays loses its owner in a set if that owner goes.
 fn lose_owner(
     held: &Held,
     gone: &Keys,
@@ -133,7 +133,7 @@ fn lose_owner(
     Ok(())
 }
 
-// It gets no owner in each set in which its owner goes.
+// The member loses its owner in each set in which that owner goes.
 fn lose_owners(
     schema: &Schema,
     held: &Held,
@@ -150,7 +150,7 @@ fn lose_owners(
     Ok(())
 }
 
-// And its version is raised.
+// A member that stays loses its owners that go, and its version is raised.
 #[tactic(auto, using(crate::proofs::EditLists::edits_append))]
 fn lose(
     schema: &Schema,

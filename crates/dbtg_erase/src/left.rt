@@ -1,4 +1,4 @@
-//! The members of what goes that stay.
+//! The members that stay when their owners go.
 ghost use Rattle.std.specs.Prelude.{◌≡◌, ◌++◌, filter, not, IfOk, IsTrue, OnOk};
 ghost use Rattle.std.specs.List.{flat_map};
 ghost use Rattle.dbtg_cells.specs.declared.key.DbKey.{DbKey};
@@ -73,7 +73,7 @@ fn members_of_all(
     Ok(members)
 }
 
-// The members of the lists of the records that go, each once, that stay.
+// The members that stay, each once, of the lists of the records that go.
 fn left_of_all(alloc: Global, schema: &Schema, held: &Held, gone: &Keys) -> Result<Keys, AllocError>
     ensures { IfOk result (λ left. left ≡ left_behind (members_in_hand schema.now held.now) gone.now) }
 {
@@ -90,7 +90,7 @@ fn takes_all(option: Erase) -> bool
     matches!(option, Erase::All)
 }
 
-/// The members of the lists of the records that go, each once, that stay. Where each member goes with its owner none is asked for.
+/// The members that stay, each once, of the lists of the records that go. If each member goes with its owner, none is looked for.
 pub(crate) fn left(
     alloc: Global,
     schema: &Schema,

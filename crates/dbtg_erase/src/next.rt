@@ -73,7 +73,7 @@ fn course_of(alloc: Global, key: &DbKey, course: &mut Option<Course>) -> Result<
     }
 }
 
-// The next cell on the progress that is kept, which begins here if there is none. If memory is refused it is lost.
+// The next cell by the progress that is kept, or by a new one if none is. If memory is refused, the progress is lost.
 fn next_on_course(
     alloc: Global,
     schema: &Schema,

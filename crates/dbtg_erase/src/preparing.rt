@@ -90,7 +90,7 @@ fn next_versions(
     Ok(versions)
 }
 
-// How cells and versions change of the members that stay where these records go.
+// How the cells and versions of the members that stay change when these records go.
 fn losses(
     alloc: Global,
     schema: &Schema,
@@ -110,7 +110,7 @@ fn losses(
     Ok((cells, versions))
 }
 
-// What a DELETE prepares that nothing refuses.
+// What a DELETE that nothing refuses prepares.
 fn erasing(
     alloc: Global,
     schema: &Schema,

@@ -1,4 +1,4 @@
-//! The first cell of the records that go that is not held.
+//! The first cell not held among those of the records that go.
 ghost use Rattle.std.specs.Prelude.{◌≡◌, [], ◌∷◌, filter, map, IfOk};
 ghost use Rattle.std.specs.List.{flat_map};
 ghost use Rattle.dbtg_schema.specs.Structure.{owns};
@@ -40,7 +40,7 @@ pub(crate) fn first_ring(schema: &Schema, held: &Held, key: &DbKey) -> Option<Ce
     None
 }
 
-// The first slot of some keys that is not held.
+// The first slot not held among those of some keys.
 fn first_slot(held: &Held, keys: &[DbKey]) -> Option<CellName>
     ensures { result ≡ first_missing held.now (map slot_name keys.now) }
 {
@@ -52,7 +52,7 @@ fn first_slot(held: &Held, keys: &[DbKey]) -> Option<CellName>
     None
 }
 
-// The first slot of the members of a record's list of a set that is not held.
+// The first slot not held among those of the members of a record's list of a set.
 fn first_of_list(
     alloc: Global,
     schema: &Schema,
@@ -70,7 +70,7 @@ fn first_of_list(
     }
 }
 
-// The first slot of the members of all lists of a record that is not held.
+// The first slot not held among those of the members of all lists of a record.
 fn first_member(
     alloc: Global,
     schema: &Schema,
@@ -89,7 +89,7 @@ fn first_member(
     Ok(None)
 }
 
-// The first of the cells of a record that goes that is not held.
+// The first cell not held among those of a record that goes.
 #[tactic(auto, using(crate::proofs::FirstNames::find_or))]
 fn first_of_gone(
     alloc: Global,
@@ -108,7 +108,7 @@ fn first_of_gone(
     first_member(alloc, schema, held, key)
 }
 
-/// The first of the cells of these records, one after another, that is not held.
+/// The first cell not held among those of these records, one after another.
 #[tactic(auto, using(crate::proofs::FirstNames::find_or))]
 pub(crate) fn first_of_all(
     alloc: Global,

@@ -29,7 +29,7 @@ pub(crate) fn list(
     }
 }
 
-// Is this owner in this set another list than the one of the own owner in its set?
+// Is this owner's list of this set another list than the given owner's list of its own set?
 fn is_other(set: SetNo, owner: Option<Owner>, own_set: SetNo, own: &DbKey) -> bool
     ensures { result ≡ some_and (λ o. not (set == own_set && owner_eq o (Rec own.now))) owner }
 {
@@ -123,7 +123,7 @@ pub(crate) fn bring(
     Ok(())
 }
 
-/// No more records go than there are numbers.
+/// The most records that can go: one for each number.
 pub(crate) fn most_gone(schema: &Schema, capacity: u16) -> u32
     ensures { result ≡ most_gone schema.now capacity }
 {

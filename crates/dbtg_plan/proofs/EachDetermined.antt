@@ -1,4 +1,4 @@
--- What a statement has in hand determines what it does: one plan is its effect on each database that agrees.
+-- What a statement holds determines what it does: one plan is its effect on each database that agrees.
 use Rattle.std.proofs.Common.{◌≡◌, refl, sym, ◌∙◌, ℕ, true, false, not, Option, Some, None}
 use Rattle.std.specs.Prelude.{◌==◌}
 use Rattle.std.specs.List.{find, list_any}
@@ -40,7 +40,7 @@ use Rattle.dbtg_plan.proofs.Needs.WrongGuesses.{area_needed, cell_needed, guesse
 use Rattle.dbtg_plan.proofs.Plans.StoreHolds.{missing_in_hand}
 use Rattle.dbtg_plan.proofs.Store.StoreIsEffect.{plan_is_effect}
 
--- two databases whose statement wants the same first cell need the same
+-- a statement that wants the same first cell on two databases needs the same on both
 module _ (schema : Lists) (capacity : ℕ) (db eb : Database) (hands : Hands) (unit : Unit) (statement : Statement) (fit : fits schema statement ≡ true)
     (agrees : Agrees schema capacity db hands unit) (agrees_too : Agrees schema capacity eb hands unit)
     (wanted : first_missing hands (cells_of schema capacity db unit hands.guesses statement) ≡ first_missing hands (cells_of schema capacity eb unit hands.guesses statement)) where
@@ -77,7 +77,7 @@ module _ (schema : Lists) (capacity : ℕ) (db eb : Database) (hands : Hands) (u
   WantsTheSame statement = (other : Database) → Agrees schema capacity other hands unit
       → first_missing hands (cells_of schema capacity db unit hands.guesses statement) ≡ first_missing hands (cells_of schema capacity other unit hands.guesses statement)
 
-  -- a refusal is a plan; ready on one database that agrees, a statement is ready on each
+  -- a refusal is a plan; a statement that is ready on one database that agrees is ready on each
   by_plan : (statement : Statement) → fits schema statement ≡ true → WantsTheSame statement
       → (refused_at_once schema capacity unit statement ≡ None → MayPlan schema capacity unit hands statement → HasPlan schema capacity unit hands statement) → Determined statement
   by_plan statement fit wanted plan ready = one_plan_does_the_same schema capacity db eb hands unit statement (by_check (refused_at_once schema capacity unit statement) refl) agrees agrees_too where

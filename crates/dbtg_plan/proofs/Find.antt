@@ -1,5 +1,5 @@
--- FIND: what it finds off the cells in hand is what it finds in each database that agrees with them.
--- May use: `Needs`, and the reading of cells in hand.
+-- FIND: what it finds from the held cells is what it finds in each database that agrees with them.
+-- May use: `Needs`, and the reading of held cells.
 -- Promises: `FindPlans`, on which the contract of `prepare` rests for FIND.
 pub mod ChosenKeys
 pub mod FindPlans

@@ -1,5 +1,5 @@
--- Plans in general, those of the current record, and those of the statements that change the unit alone.
--- May use: the reading of cells in hand, and edits.
+-- Plans in general, those of the current record, and those of the statements that change only the unit.
+-- May use: the reading of held cells, and edits.
 -- Promises: one lemma serves every statement about the current record, and one every plan that changes no cell.
 pub mod EffectIsPlan
 pub mod GetKeepFree

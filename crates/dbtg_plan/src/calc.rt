@@ -18,7 +18,7 @@ fn number_of(key: Option<DbKey>) -> Option<u32>
     key.map(|key| key.number)
 }
 
-// Does a record of this type that is held have the items with these numbers, other than the one that is left out?
+// Does a held record of this type, other than the one left out, have the items with these numbers?
 fn has_calc(
     held: &Held,
     rtype: RecordNo,
@@ -34,8 +34,8 @@ fn has_calc(
     }
 }
 
-/// Does a record that is held have the CALC items of these, if their duplicates are not allowed, other than the one that is left
-/// out?
+/// If duplicates of the CALC items are not allowed, does a held record other than the one left out have the same ones as
+/// these?
 pub(crate) fn calc_taken(
     schema: &Schema,
     held: &Held,

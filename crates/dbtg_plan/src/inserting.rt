@@ -191,7 +191,7 @@ pub(crate) fn make_insert(
     ensures unit { OnErr result (unit.new ≡ unit.old) }
     ensures shows { OnErr result (ShowsTheSame held.old held.new) }
 {
-    // Used by the contract alone.
+    // Unused here; the contract mentions it.
     let _ = capacity;
     let Some(key) = unit.currency.run_unit else {
         return Ok(unit_alone::refusal(Cause::NoCurrentOfRunUnit));

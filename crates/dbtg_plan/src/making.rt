@@ -34,7 +34,7 @@ pub fn is_made_at_once(statement: &Statement) -> bool
     )
 }
 
-// Makes one that the checks without cells let through.
+// Makes a statement that the checks without cells let through.
 fn make_passed(
     alloc: Global,
     schema: &Schema,
@@ -76,7 +76,7 @@ fn make_passed(
     }
 }
 
-/// Makes a statement that needs nothing more, as its plan would. Where memory is refused, all shows the same.
+/// Makes a statement that needs nothing more, as its plan would. If memory is refused, nothing visible changes.
 pub fn make_at_once(
     alloc: Global,
     schema: &Schema,

@@ -1,4 +1,4 @@
-//! A record in hand as a member of sets: its sort key; and edits of its slot.
+//! A held record as a member of sets: its sort key, and the edits of its slot.
 ghost use Rattle.std.specs.Prelude.{◌≡◌, [], ◌∷◌, IfOk};
 ghost use Rattle.dbtg_unit.specs.Database.State.Base.{key_item};
 ghost use Rattle.dbtg_unit.specs.Hands.EditsOf.{slot_edit};
@@ -32,7 +32,7 @@ pub(crate) fn change_slot(held: &mut Held, key: &DbKey, edit: Edit)
     edit_held(held, slot_edit(key, Edit::RaiseVersion));
 }
 
-/// A copy of the sort key in a set of a record with these items; none where the set is not sorted.
+/// A copy of the sort key that a record with these items has in a set; none if the set is not sorted.
 pub(crate) fn copy_sort_key(
     alloc: Global,
     schema: &Schema,
@@ -51,7 +51,7 @@ pub(crate) fn copy_sort_key(
     }
 }
 
-/// A copy of the sort key in a set of a record that is held.
+/// A copy of the sort key that a held record has in a set.
 pub(crate) fn sort_key_in(
     alloc: Global,
     schema: &Schema,

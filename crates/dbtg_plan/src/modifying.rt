@@ -235,7 +235,7 @@ fn takes_calc(
     names_calc(schema, key.rtype, changes) && calc_taken(schema, held, key.rtype, items, Some(*key))
 }
 
-// Why the record does not get these items, which it has after the changes.
+// Why the record may not have these items, which the changes give it.
 fn refusal(
     alloc: Global,
     schema: &Schema,
@@ -482,7 +482,7 @@ pub(crate) fn make_modify(
     ensures unit { OnErr result (unit.new ≡ unit.old) }
     ensures held { OnErr result (held.new ≡ held.old) }
 {
-    // Used by the contract alone.
+    // Unused here; the contract mentions them.
     let _ = (rtype, capacity);
     let Some(key) = unit.currency.run_unit else {
         return Ok(unit_alone::refusal(Cause::NoCurrentOfRunUnit));

@@ -60,7 +60,7 @@ fn next_cell(
 }
 
 /// What a statement other than DELETE needs next, on every database to which these cells may belong. It lies above what was
-/// taken in turn, and a cell in a held area.
+/// taken in turn; a cell also lies in a held area.
 pub fn next_need(
     schema: &Schema,
     capacity: u16,

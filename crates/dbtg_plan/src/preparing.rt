@@ -60,8 +60,8 @@ fn prepare_passed(
     }
 }
 
-/// Prepares a statement other than DELETE that needs nothing more: makes room for what it adds to the cells that it holds, which show
-/// what they did, and fixes its answer and its changes. If no memory is found, only room was made.
+/// Prepares a statement other than DELETE that needs nothing more: makes room for what it adds to the cells that it holds, which still show
+/// the same, and fixes its answer and its changes. If no memory is found, only room was made.
 #[tactic(auto, using(crate::proofs::Plans::PartByPart::makes_if_ok))]
 pub fn prepare(
     alloc: Global,

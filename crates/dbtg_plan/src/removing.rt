@@ -143,7 +143,7 @@ pub(crate) fn make_remove(
     requires passes { refused_at_once schema.now capacity unit.old (Remove set) ≡ None }
     ensures { IsMadeOnEach schema.now capacity unit.old held.old (Remove set) (seen result unit.new held.new) }
 {
-    // Used by the contract alone.
+    // Unused here; the contract mentions them.
     let _ = schema;
     let _ = capacity;
     let Some(key) = unit.currency.run_unit else {

@@ -141,8 +141,8 @@ pub(crate) fn need_of_guesses(
     }
 }
 
-/// The guesses with which a statement goes on that needs others: the true owner in each set where its guess is wrong, on every database
-/// of which these cells may be in hand.
+/// The guesses with which a statement that needs others goes on: the true owner in each set where its guess is wrong, on every database
+/// to which these cells may belong.
 pub fn true_guesses(schema: &Schema, unit: &Unit, statement: &Statement, held: &Held) -> Owners
     requires fits { fits schema.now statement.now ≡ true }
     requires count { length held.now.guesses ≡ length schema.now.sets }

@@ -342,7 +342,7 @@ fn edits_of(
     requires { owners.now ≡ first_owners schema.now unit.now key.now.rtype }
     ensures { IfOk result (λ edits. edits ≡ store_edits schema.now unit.now key.now items.now) }
 {
-    // Most records have a number, a set joined, one opened, and a slot.
+    // Most records need four edits: a number, a set joined, a set opened, and a slot.
     let mut edits = Vec::with_capacity(alloc, 4)?;
     edits.push(entering(alloc, schema, key, items.as_slice())?)?;
     push_joins(alloc, schema, unit, key, items.as_slice(), &mut edits)?;
@@ -447,7 +447,7 @@ fn open_occurrences(schema: &Schema, key: &DbKey, held: &mut Held)
     }
 }
 
-// Makes the edits of a STORE, of which those that take memory came to be before.
+// Makes the edits of a STORE; those that take memory were built before.
 fn change_cells(
     schema: &Schema,
     key: &DbKey,
@@ -516,7 +516,7 @@ pub(crate) fn make_store(
     ensures unit { OnErr result (unit.new ≡ unit.old) }
     ensures shows { OnErr result (ShowsTheSame held.old held.new) }
 {
-    // Used by the contract alone.
+    // Unused here; the contract mentions it.
     let _ = capacity;
     let judged = judged(alloc, schema, unit, held, rtype, items.as_slice())?;
     match judged {

@@ -38,13 +38,13 @@ use Rattle.dbtg_refusal.proofs.RefusedOnCells.{lost_at, on_cells}
 same_error : {X : Type 0} (c why : Cause) → ◌≡◌ {A = Result X Cause} (Err c) (Err why) → c ≡ why
 same_error c why h = cc (h)
 
--- of a search that can be refused: the conditions refuse it, or nothing is found
+-- a search that can be refused: the conditions refuse it, or nothing is found
 unless : (o : Option Cause) (key : Option DbKey) (none why : Cause) → found_unless o key none ≡ Err why → (o ≡ Some why) ⊎ (none ≡ why)
 unless (Some c) key none why h = inl (ap Some (same_error c why h))
 unless None (Some k) none why h = absurd (cc (h))
 unless None None none why h = inr (same_error none why h)
 
--- of a record that is looked at: it is not there
+-- a record that is looked at: it is not there
 not_live : (b : Bool) (k : DbKey) (c why : Cause) → cond b (Ok k) (Err c) ≡ Err why → c ≡ why
 not_live true k c why h = absurd (cc (h))
 not_live false k c why h = same_error c why h
@@ -59,7 +59,7 @@ module _ (schema : Lists) (capacity : ℕ) (db : Database) (unit : Unit) where
   has : (x : Statement) (why : Cause) {c : Cause} → c ≡ why → Has x c → Has x why
   has x why same h = subst (Has x) same h
 
-  -- of a current: there is none, or its record is deleted
+  -- a current: there is none, or its record is deleted
   of_current : (x : Statement) (why : Cause) (o : Option DbKey) → Has x cause.NoSuchCurrent → (is_some o ≡ true → Has x cause.Deleted) → with_current o (λ k. cond (is_live db k) (Ok k) (Err cause.Deleted)) ≡ Err why → Has x why
   of_current x why None lacking deleted h = has x why (same_error _ why h) lacking
   of_current x why (Some k) lacking deleted h = has x why (not_live (is_live db k) k cause.Deleted why h) (deleted refl)

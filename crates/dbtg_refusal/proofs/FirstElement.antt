@@ -11,6 +11,6 @@ left_next xs i x below is = drop_more xs i x below ∙ ap (λ y. y ∷ drop (i +
 pub find_at : {X : Type 0} (p : X → Bool) (xs : List X) (i : ℕ) (x : X) → i < length xs → x ≡ get_or xs i x → p x ≡ true → find p (drop i xs) ≡ Some x
 find_at p xs i x below is on = ap (find p) (left_next xs i x below is) ∙ ap (λ b. cond b (Some x) (find p (drop (i + 1) xs))) on
 
--- it is one behind
+-- it is a later one
 pub find_past : {X : Type 0} (p : X → Bool) (xs : List X) (i : ℕ) (x : X) → i < length xs → x ≡ get_or xs i x → p x ≡ false → find p (drop (i + 1) xs) ≡ find p (drop i xs)
 find_past p xs i x below is off = sym (ap (find p) (left_next xs i x below is) ∙ ap (λ b. cond b (Some x) (find p (drop (i + 1) xs))) off)

@@ -1,4 +1,4 @@
--- In a history just the refusals have a sentence.
+-- In a history exactly the refusals have a sentence.
 use Rattle.std.proofs.Common.{◌≡◌, refl, sym, ◌∙◌, ap, ℕ, suc, ◌+◌, Bool, true, false, List, [], ◌∷◌, ◌++◌, length, length-append, map, Option, Some, None, arith}
 use Rattle.std.specs.Prelude.{◌==◌, is_some, option_map, unwrap_or}
 use Rattle.std.specs.List.{list_all}

@@ -31,7 +31,7 @@ use Rattle.dbtg_refusal.proofs.FoundInLists.{any_is_found, found_kept}
 
 -- AREAS
 
--- what one of some numbers passes, some number passes
+-- if one of the numbers passes, some number passes
 any_of : (p : ℕ → Bool) (a : ℕ) (numbers : List ℕ) → p a ≡ true → list_any (λ b. eqb b a) numbers ≡ true → list_any p numbers ≡ true
 any_of p a [] h among = absurd (false≢true among)
 any_of p a (b ∷ bs) h among = ⊎_elim (λ e. or_left _ _ (subst (λ y. p y ≡ true) (sym (eqb-true b a e)) h)) (λ r. or_right _ _ (any_of p a bs h r)) (or_cases _ _ among)

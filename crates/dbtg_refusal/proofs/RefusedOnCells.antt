@@ -54,14 +54,14 @@ module _ (schema : Lists) (capacity : ℕ) (db : Database) (unit : Unit) where
   has : (x : Statement) (why : Cause) {c : Cause} → c ≡ why → Has x c → Has x why
   has x why same h = subst (Has x) same h
 
-  -- of a record whose CALC items are taken there is one that has them
+  -- if a record's CALC items are taken, some record has them
   calc_held : (t : ℕ) (items : List Value) (left : Option DbKey) → calc_taken schema view t items left ≡ true → is_some (holder t (calc_items schema t items) left) ≡ true
   calc_held t items left h = any_is_found (λ x. not (is_left_out left x)) (with_calc schema capacity db t (calc_items schema t items)) ∙ by (calc_of schema t) h where
     by : (o : Option CalcOf) → some_and (λ calc. not calc.duplicates_allowed && view.has_calc t (calc_items schema t items) left) o ≡ true → view.has_calc t (calc_items schema t items) left ≡ true
     by None h = absurd (false≢true h)
     by (Some calc) h = (and_parts _ _ h).1
 
-  -- of a sort key that is taken there is a member that has it
+  -- if a sort key is taken, some member has it
   key_held : (s : ℕ) (o : Owner) (left : Option DbKey) (v : Option Value) → view.has_sort_key s o left v ≡ true → is_some (member_with schema view s o left v) ≡ true
   key_held s o left v h = any_is_found (λ x. not (is_left_out left x) && option_value_eq (key_item schema s x.rtype (items_of db x)) v) (members_of db s o) ∙ h
 
@@ -77,7 +77,7 @@ module _ (schema : Lists) (capacity : ℕ) (db : Database) (unit : Unit) where
         ]
       ]
 
-  -- of a statement about the current of run-unit
+  -- a statement about the current of run-unit
   own_has : (x : Statement) (k : DbKey) (why : Cause) → unit.currency.run_unit ≡ Some k → Has x cause.Deleted → first_cause (own_checks view unit k) ≡ Some why → Has x why
   own_has x k why is deleted h =
       elim (own k why h) [

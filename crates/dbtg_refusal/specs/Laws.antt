@@ -21,7 +21,7 @@ EachRefusalHasAnObstacle =
     (schema : Lists) (capacity : ℕ) (db : Database) (unit : Unit) (statement : Statement) (why : Cause) → IsSound schema → fits schema statement ≡ true
     → (effect schema capacity db unit statement).answer.status ≡ Refused why → is_some (obstacle_of schema capacity db unit statement why) ≡ true
 
--- in a history just the statements that are done have no sentence
+-- in a history exactly the statements that are done have no sentence
 abbrev pub JustRefusalsAreExplained : Type 0
 JustRefusalsAreExplained =
     (schema : Lists) (capacity units : ℕ) (history : List Entry) → IsSound schema → IsHistoryOf schema capacity units history

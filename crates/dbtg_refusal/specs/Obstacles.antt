@@ -1,5 +1,5 @@
 -- What stands in the way of a statement that is refused: for each cause the unit, the area, the record type, the set or the record that
--- it is about. The conditions are those of the checks (`Checks`, `Conditions`, `Found` of dbtg_unit); here it is said for which they hold.
+-- it is about. The conditions are those of the checks (`Checks`, `Conditions`, `Found` of dbtg_unit); here it is said what they hold for.
 -- k is a key, s a set, o an owner, t and r record types, a an area, v a sort key, db a database.
 use Rattle.std.specs.Prelude.{ℕ, Bool, not, ◌&&◌, nat_lt, List, Option, Some, None, is_none, is_some, length, map, option_map, option_and_then, if◌then◌else◌}
 use Rattle.std.specs.List.{find}
@@ -126,7 +126,7 @@ lost_for schema view unit (Store t items suppress) = in_store schema view unit t
 lost_for schema view unit (Insert s) = at_place schema view s (joined_place schema unit s) None PositionLost
 lost_for schema view unit _ = None
 
--- the member of the list of set s in which k is that has the sort key which k would have with these items
+-- the member with the sort key that k would have with these items, in the list of set s in which k is
 abbrev pub rekeyed_member : Lists → StoredFacts → DbKey → List Value → ℕ → Option Obstacle
 rekeyed_member schema view k items s =
     option_and_then (λ o. option_map (obstacle.Member s o) (member_with schema view s o (Some k) (key_item schema s k.rtype items))) (view.owner s k)

@@ -76,7 +76,7 @@ pub(crate) fn list_in<'a>(image: &'a Image, set: SetNo, owner: &Owner) -> Option
     None
 }
 
-/// To whose list of a set a record belongs.
+/// The owner to whose list of a set a record belongs.
 pub(crate) fn owner_in(image: &Image, set: SetNo, key: &DbKey) -> Option<Owner>
     ensures { result ≡ owner_in image.now set key.now }
 {

@@ -6,7 +6,7 @@ pub fn each_refusal_has_an_obstacle()
     ensures { EachRefusalHasAnObstacle }
 {}
 
-/// In a history each refusal has a sentence, and no statement that is done.
+/// In a history each refusal has a sentence, and a statement that is done has none.
 pub fn just_refusals_are_explained()
     ensures { JustRefusalsAreExplained }
 {}

@@ -1,4 +1,4 @@
--- What may cross threads: for whoever calls, that a unit and its database may.
+-- What may cross threads: a unit and its database may, which callers need.
 use denote.RattleType.{RattleType}
 use denote.Struct.Struct.{Struct}
 use denote.Struct.Owning.{shape as owning_shape}
@@ -31,7 +31,7 @@ entry_send = search (sendable, crosses) depth 60 fits 20000
 pub held_send : IsSend Held.the_row
 held_send = search (sendable, crosses, cell_send) depth 60 fits 20000
 
--- as the library has it, which does not name it for others
+-- as in the library, which does not export it
 seat_send : (S V : RattleType) → IsSend S → IsSend (Seat.the_row S V)
 seat_send S V s = record { owned = λ d vs. ((λ vss. (tt, ((λ uss. (tt, tt)), tt))), seat_keyless S s V.coded.code d.table_id d.id d.me); leaving = λ k f vs. tt }
 
@@ -54,7 +54,7 @@ schema_sync = search (sendable, crosses) depth 60 fits 20000
 pub statement_sync : IsSync Statement.the_row
 statement_sync = search (sendable, crosses) depth 60 fits 20000
 
--- as the library has it, too
+-- also as in the library
 shared_sync : (S V K P : RattleType) (g : Ghosts P.Denot S.Denot V.Denot K.Denot) → IsSend S → IsSync (Shared.the_row S V K P g)
 shared_sync S V K P g s = let fields : IsSync (Struct (owning_shape (Shared.the_type S V K P g))) = search sendable depth 20 in
     record { shared = λ d b o ν. (fields.shared (d.words, (d.slots, (tt, tt))) b o ν, shares_keyless S s V.coded.code d.table_id (g.holds d.key) d.words d.slots ν) }

@@ -6,7 +6,7 @@
 //! | a look at an area's word, which changes nothing | `Steps.looks_at_area` | `Work::take_shared` |
 //! | an area is taken beside others | `Steps.takes_area_shared` | `Work::take_shared` |
 //! | an area is taken alone | `Steps.takes_area_alone` | `Work::take_alone` |
-//! | a cell is taken, and its slot comes into hand | `CellSteps.takes_cell` | `Work::take_cell` |
+//! | a cell is taken, with its slot | `CellSteps.takes_cell` | `Work::take_cell` |
 //! | a ticket is drawn: the one step that changes the history | `Tickets.draws` | `Work::commit` |
 //! | a cell is put back | `CellSteps.puts_cell` | `Work::put_cell` |
 //! | an area is left | `Steps.leaves_area` | `Work::leave_area` |

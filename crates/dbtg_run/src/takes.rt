@@ -348,7 +348,7 @@ impl Work {
         ensures free { IsReady self.old.about.schema.value self.old.about.capacity self.old.unit self.old.held statement.now → IfOk result (λ b. b ≡ true) }
         ensures alone { self.old.about.units ≡ 1 → 0 < tries.old.given → IfOk result (λ b. b ≡ true) }
     {
-        // LatchRule from need to need, so that nothing that is settled is asked again.
+        // Kept from need to need, so that nothing already settled is asked again.
         let mut course = None;
         let gathered = self.gather_along(alloc, db, statement, tries, &mut course);
         drop(course);

@@ -24,7 +24,7 @@ impl Tries {
         self.vain += 1;
     }
 
-    // Whether a look was in vain for which there was no try.
+    // Whether there was a look in vain without a try for it.
     pub(crate) fn are_used_up(&self) -> bool
         ensures { MatchBool result (self.now.given < self.now.vain) (Suffice self.now) }
     {

@@ -2,7 +2,7 @@
 
 -- THE READER
 
--- a line without fault after a script is read, and what it says is behind what the script says
+-- a line without fault after a script is read, and what it says comes after what the script says
 pub use Rattle.dbtg_script.proofs.Reading.LineBehind.{is_read_behind}
 -- an empty script says nothing
 pub use Rattle.dbtg_script.proofs.Reading.LineBehind.{nothing_read}
@@ -18,7 +18,7 @@ pub use Rattle.dbtg_script.proofs.Reading.AtOnce.{not_at_once}
 
 -- the line beside an answer says the statement that was answered
 pub use Rattle.dbtg_script.proofs.Printing.EchoedLines.{lines_say}
--- digits spell their number; what stands in front of a byte and behind it; the parts of a printed key, which is read back
+-- digits spell their number; what stands before a byte and after it; the parts of a printed key, which is read back
 pub use Rattle.dbtg_script.proofs.Printing.KeyText.{behind_of, front_of, no_digit, number_decimal, number_part, printed_key, there}
 -- the text of moves has no fault, and says these moves
 pub use Rattle.dbtg_script.proofs.Printing.ReadBack.{moves_read_back}

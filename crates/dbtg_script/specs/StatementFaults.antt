@@ -133,7 +133,7 @@ faults_from schema ws wanted (t ∷ rest) =
 abbrev pub statement_faults : Lists → List ℕ → List Cause
 statement_faults schema line = when (ends_in_text false line) cause.UnexpectedWord ++ faults_from schema [] statement (tokens false line)
 
--- the faults of a line behind `count` statements
+-- the faults of a line after `count` statements
 abbrev pub line_faults : Lists → ℕ → List ℕ → List Cause
 line_faults schema count line =
     when (is_statement line && nat_le MOST_STATEMENTS count) cause.TooMuch
@@ -144,7 +144,7 @@ line_faults schema count line =
 abbrev pub count_after : ℕ → List ℕ → ℕ
 count_after count line = if is_statement line then count + 1 else count
 
--- the faults of lines behind `count` statements; the first line has this number
+-- the faults of lines after `count` statements; the first line has this number
 abbrev pub lines_faults : Lists → ℕ → ℕ → List (List ℕ) → List Fault
 lines_faults schema count number [] = []
 lines_faults schema count number (l ∷ ls) =

@@ -173,7 +173,7 @@ fn differs_from(words: &Words, calc: Option<&Calc>) -> bool
     }
 }
 
-/// A FIND with other items than those of the CALC clause, or without a CALC clause.
+/// Does a FIND have other items than those of the CALC clause, or is there no CALC clause?
 fn has_other_calc(words: &Words) -> bool
     ensures { result ≡ ((has role.FindCalc words.now.words && differs_from (calc_of words.now.schema (type_in words.now.schema words.now.words)) (items_in words.now.schema words.now.words)) || (has role.FindDuplicate words.now.words && is_none (calc_of words.now.schema (type_in words.now.schema words.now.words)))) }
 {

@@ -139,7 +139,7 @@ fn push_note(out: &mut Vec<u8>, note: &[u8]) -> Result<(), AllocError>
     out.extend_from_slice(b"\n")
 }
 
-// The answer of an entry behind its statement, and below it the note of its ticket.
+// The answer of an entry after its statement, and below it the note of its ticket.
 fn push_row(
     out: &mut Vec<u8>,
     schema: &Schema,

@@ -99,7 +99,7 @@ pub fn is_printable(line: &[u8]) -> bool
     line.iter().all(|b| matches!(*b, b' '..=b'~'))
 }
 
-/// At most 1,000 bytes, all of them printable ASCII?
+/// Does the line have at most 1,000 bytes, all of them printable ASCII?
 pub fn is_allowed(line: &[u8]) -> bool
     ensures { result ≡ is_allowed line.now }
 {

@@ -17,14 +17,14 @@ fn all_digits(text: &[u8]) -> bool
     text.iter().all(|b| is_digit(*b))
 }
 
-/// One or more digits?
+/// Is the text one or more digits?
 pub fn is_number(text: &[u8]) -> bool
     ensures { result ≡ is_number text.now }
 {
     !text.is_empty() && all_digits(text)
 }
 
-/// The number that the digits spell; 10 to the 18th for each one above that.
+/// The number that the digits spell; 10 to the 18th if it is above that.
 pub fn number(text: &[u8]) -> u64
     ensures { result ≡ min (number text.now) (10 ^ 18) }
 {
@@ -51,7 +51,7 @@ fn number_with(n: u64, digit: u8) -> u64
     }
 }
 
-/// Digits, or a minus and digits?
+/// Is the text digits, or a minus and digits?
 pub fn is_signed(text: &[u8]) -> bool
     ensures { result ≡ is_signed text.now }
 {

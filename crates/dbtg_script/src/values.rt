@@ -10,7 +10,7 @@ use dbtg_cells::Value;
 use dbtg_schema::{Picture, Row};
 use std::alloc::{AllocError, Global};
 
-/// A number for a number item, a text for a text item?
+/// Is the word a number for a number item, or a text for a text item?
 pub fn is_of_kind(picture: Picture, token: Token) -> bool
     ensures { result ≡ is_of_kind picture (view token.entry) }
 {

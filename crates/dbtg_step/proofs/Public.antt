@@ -6,19 +6,19 @@
 pub use Rattle.dbtg_step.proofs.EachEvent.Events.{and_false}
 -- where no other unit passes a test, each unit of another number fails it
 pub use Rattle.dbtg_step.proofs.EachEvent.Events.{any_other_false}
--- that the newest cell in hand goes back is a safe update
+-- giving back the newest held cell is a safe update
 pub use Rattle.dbtg_step.proofs.EachEvent.Events.{back_is_safe}
--- where no cell is held, that the newest area is left is a safe update
+-- leaving the newest area is a safe update if no cell is held
 pub use Rattle.dbtg_step.proofs.EachEvent.Events.{leave_is_safe}
 -- where an element of a list passes a test, some element does
 pub use Rattle.dbtg_step.proofs.EachEvent.Events.{list_any_true}
--- to take a cell that is at home, in an area in hand and before the ticket, is a safe update
+-- taking a cell that is at home, in a held area and before the ticket, is a safe update
 pub use Rattle.dbtg_step.proofs.EachEvent.Events.{take_is_safe}
 -- a cell that is held by the unit is among its cells
 pub use Rattle.dbtg_step.proofs.EachEvent.UnitFacts.{holder_has_cell}
 -- the replay of the history has the unit as it is in the state
 pub use Rattle.dbtg_step.proofs.EachEvent.UnitFacts.{unit_found}
--- what is found in a list that was written: what was written, or what was there
+-- what is found in a list after a write: what was written, or what was there
 pub use Rattle.dbtg_step.proofs.EachEvent.UnitLists.{found_of}
 -- what a mapped list of units has at a number is made of what the list has there
 pub use Rattle.dbtg_step.proofs.EachEvent.UnitLists.{map_at}
@@ -60,7 +60,7 @@ pub use Rattle.dbtg_step.proofs.Runs.Opening.{opening_is_lawful}
 pub use Rattle.dbtg_step.proofs.Runs.Renewed.{Drawn}
 -- a unit whose script and guesses are free draws a ticket
 pub use Rattle.dbtg_step.proofs.Runs.Renewed.{draws}
--- one unit written anew, there are as many
+-- with one unit written anew, there are as many units
 pub use Rattle.dbtg_step.proofs.Runs.Renewed.{length_with}
 -- what a mapped list of units has at a number comes from what the list has there
 pub use Rattle.dbtg_step.proofs.Runs.Waiting.{came_from}
@@ -78,13 +78,13 @@ pub use Rattle.dbtg_step.proofs.Network.NeededCellsExist.{none_guessed}
 pub use Rattle.dbtg_step.proofs.Network.NeededCellsExist.{turned_have_rings}
 -- the network database of a sound schema is a sequential database for the machine
 pub use Rattle.dbtg_step.proofs.Network.NetworkFacts.{network_is_sequential}
--- a cell that is needed is one of the statement's, which is not refused at once, and is not in hand
+-- a cell that is needed is one of the statement's, which is not refused at once, and is not held
 pub use Rattle.dbtg_step.proofs.Network.NetworkNeeds.{cell_wanted}
 -- where an area is needed next, nothing was ready before, and the area is the one that was found
 pub use Rattle.dbtg_step.proofs.Network.NetworkNeeds.{chose_area}
--- a cell that is needed is not in hand
+-- a cell that is needed is not held
 pub use Rattle.dbtg_step.proofs.Network.NetworkNeeds.{needed_not_in_hand}
--- in the network database names that compare alike are one, and a cell that is needed is not in hand
+-- in the network database names that compare alike are one, and a cell that is needed is not held
 pub use Rattle.dbtg_step.proofs.Network.NetworkNeeds.{network_names_cells}
 -- no more pass than there are
 pub use Rattle.dbtg_step.proofs.Network.TurnsBack.{count_length}
@@ -96,7 +96,7 @@ pub use Rattle.dbtg_step.proofs.Network.TurnsBack.{needs_come_to_an_end}
 
 -- a history noted, and read again
 pub use Rattle.dbtg_step.proofs.TheCore.CellsFound.{entries_again}
--- what is kept of a statement's needs stays right while more comes to hand
+-- what is kept of a statement's needs stays right while more is taken
 pub use Rattle.dbtg_step.proofs.TheCore.CoursesMatch.{course_stays}
 -- hands with one area more have all that they had
 pub use Rattle.dbtg_step.proofs.TheCore.CoursesMatch.{more_by_area}
@@ -118,15 +118,15 @@ pub use Rattle.dbtg_step.proofs.TheCore.FollowsShown.{noted_length}
 pub use Rattle.dbtg_step.proofs.TheCore.NeedsShown.{any_reverse}
 -- what is made of an element is made of the list
 pub use Rattle.dbtg_step.proofs.TheCore.NeedsShown.{in_mapped}
--- an element is one of the list turned round
+-- an element of a list is one of the reversed list
 pub use Rattle.dbtg_step.proofs.TheCore.NeedsShown.{in_reverse}
--- the order in which areas and cells stand in hand, and what is in the cells, is nothing to the need
+-- the need depends neither on the order in which areas and cells are held nor on what is in the cells
 pub use Rattle.dbtg_step.proofs.TheCore.NeedsShown.{need_of_holding}
 -- what follows from what an Ok has
 pub use Rattle.dbtg_step.proofs.TheCore.NeedsShown.{ok_also}
--- cells in hand that are distinct have names of which none stands twice
+-- distinct held cells have names of which none appears twice
 pub use Rattle.dbtg_step.proofs.TheCore.NeedsShown.{once_of_distinct}
--- a cell put behind those in hand is the newest for the machine
+-- a cell put after the held ones is the newest for the machine
 pub use Rattle.dbtg_step.proofs.TheCore.PlacesOfCells.{held_behind}
 -- the number of a cell is below the count of cells
 pub use Rattle.dbtg_step.proofs.TheCore.PlacesOfCells.{number_within}

@@ -43,7 +43,7 @@ fn make_by_plan(
     Ok(finish(schema, prepared, held, unit))
 }
 
-/// Makes the statement on the cells in hand. Where memory is refused, all shows the same.
+/// Makes the statement on the held cells. If memory is refused, nothing visible changes.
 pub fn make(
     alloc: Global,
     schema: &Schema,

@@ -251,7 +251,7 @@ fn take_cell_event(
     }
 }
 
-// The guesses with which the unit's statement goes on that turns back.
+// The guesses with which the unit's statement goes on when it turns back.
 fn noted_guesses(schema: &Schema, runner: &UnitState) -> Owners
     requires left { runner.now.next < length runner.now.script }
     requires fits { (x : Statement) → slice_get runner.now.script runner.now.next ≡ Some x → fits schema.now x ≡ true }

@@ -199,7 +199,7 @@ pub fn need_unless_delete(
     }
 }
 
-/// The guesses with which a statement goes on that needs others: the true owner in each set where its guess is wrong.
+/// The guesses with which a statement that needs others goes on: the true owner in each set where its guess is wrong.
 pub fn true_guesses(schema: &Schema, unit: &Unit, statement: &Statement, held: &Held) -> Owners
     requires fits { fits schema.now statement.now ≡ true }
     requires count { length held.now.guesses ≡ length schema.now.sets }

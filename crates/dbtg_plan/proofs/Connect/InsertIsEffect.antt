@@ -1,4 +1,4 @@
--- What is prepared of an INSERT is its effect.
+-- What an INSERT prepares is its effect.
 -- k is a key, s a set, o an owner, db a database.
 use Rattle.std.proofs.Common.{◌≡◌, refl, sym, ◌∙◌, ap, subst, ℕ, ◌+◌, Bool, true, false, cond, not, List, [], ◌∷◌, ◌++◌, length, Option, Some, None}
 use Rattle.std.specs.Prelude.{is_none, is_some, option_map, unwrap_or, slice_set}
@@ -125,7 +125,7 @@ module _ (schema : Lists) (capacity : ℕ) (unit : Unit) (hands : Hands) (s : �
         (inserted schema db unit s) refl refl
         (λ k is free done. record { is_done = refl; answer = refl; unit_is = unit_is k is free; guesses_are = guesses_are k is free done })
 
-  -- what is prepared changes held cells alone
+  -- what is prepared changes only held cells
   all_held : (db : Database) → Agrees schema capacity db hands unit → list_all (λ (e : CellEdit). holds hands.cells e.name) (plan_of schema (in_hand hands) unit (Insert s)).cells ≡ true
   all_held db agrees =
       planned_cells unit.currency.run_unit (insert_checks schema (in_hand hands) unit s) (inserting schema (in_hand hands) unit s) (λ es. list_all (λ (e : CellEdit). holds hands.cells e.name) es ≡ true) refl

@@ -1,4 +1,4 @@
--- What is read off the ring of the current owner decides a placing as the database does, and where it does not refuse, the
+-- What is read from the ring of the current owner decides a placing as the database does, and where it does not refuse, the
 -- new member can be placed.
 use Rattle.std.proofs.Common.{◌≡◌, refl, ◌∙◌, ap, ℕ, Bool, true, false, ◌&&◌, List, [], ◌∷◌, Option, Some, None, map}
 use Rattle.std.specs.Prelude.{is_none, is_some}
@@ -76,7 +76,7 @@ members_compare schema capacity db legal sound s t o items clause fit =
 
 module _ (schema : Lists) (capacity : ℕ) (db : Database) (hands : Hands) (unit : Unit) (agrees : Agrees schema capacity db hands unit) (s : ℕ)
     (held : holds hands.cells (Ring s (place_of (joined_place schema unit s).owner)) ≡ true) where
-  -- the checks of the ring in hand are those of the database
+  -- the checks on the held ring are those of the database
   pub place_checks_in_hand : (key : Option Value) → place_checks schema (in_hand hands) unit s key ≡ place_checks schema (whole schema capacity db) unit s key
   place_checks_in_hand =
       checks_at_agree (in_hand hands) (whole schema capacity db) unit schema s (joined_place schema unit s) (same_occurrence schema capacity db hands unit agrees s (joined_place schema unit s).owner held)

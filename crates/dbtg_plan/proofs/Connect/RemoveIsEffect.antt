@@ -1,4 +1,4 @@
--- What is prepared of a REMOVE is its effect.
+-- What a REMOVE prepares is its effect.
 -- k is a key, s a set, o an owner, db a database.
 use Rattle.std.proofs.Common.{◌≡◌, refl, sym, ◌∙◌, ap, subst, ℕ, ◌+◌, Bool, true, false, cond, ◌&&◌, ◌||◌, List, [], ◌∷◌, ◌++◌, length, Option, Some, None, eqb, inl}
 use Rattle.std.specs.Prelude.{is_none, option_map}
@@ -82,7 +82,7 @@ module _ (schema : Lists) (capacity : ℕ) (unit : Unit) (hands : Hands) (s : �
               let raised = version_raised (record db { lists = λ t o. cond (eqb t s) (option_map (without k) (db.lists t o)) (db.lists t o) }) k live in
               λ i. record unit { kept = noted_renoted k (version_of db k + 1) (removed db unit s k).database raised unit.kept i }
 
-  -- what is prepared changes held cells alone
+  -- what is prepared changes only held cells
   all_held : (db : Database) → Agrees schema capacity db hands unit → list_all (λ (e : CellEdit). holds hands.cells e.name) (plan_of schema (in_hand hands) unit (Remove s)).cells ≡ true
   all_held db agrees = planned_cells unit.currency.run_unit (remove_checks (in_hand hands) unit s) (removing (in_hand hands) s) (λ es. list_all (λ (e : CellEdit). holds hands.cells e.name) es ≡ true) refl by_key where
     ring_held_by : (k : DbKey) → unit.currency.run_unit ≡ Some k → (q : Option Owner) → owner_in hands s k ≡ q → list_all (λ (e : CellEdit). holds hands.cells e.name) (ring_edits s q (TakeOut k ∷ [])) ≡ true
@@ -116,7 +116,7 @@ module _ (schema : Lists) (capacity : ℕ) (unit : Unit) (hands : Hands) (s : �
           )
           (λ x there. free_owner s None x) (owner_leaves_version s None) versions
 
--- a REMOVE can be finished by what is planned off the cells in hand, done or refused
+-- a REMOVE, done or refused, can be finished by what is planned from the held cells
 pub remove_finishes : (schema : Lists) (capacity : ℕ) (unit : Unit) (hands : Hands) (s : ℕ) → refused_at_once schema capacity unit (Remove s) ≡ None → MayPrepare schema capacity unit hands (Remove s)
     → CanFinish schema capacity unit hands (Remove s) (plan_of schema (in_hand hands) unit (Remove s))
 remove_finishes schema capacity unit hands s passes may = record {

@@ -1,4 +1,4 @@
--- What a FIND finds off the cells in hand is what it finds in each database that agrees with them.
+-- What a FIND finds from the held cells is what it finds in each database that agrees with them.
 -- k is a key, s a set, r and t record types, a an area, v a value, c the name of a cell, db a database.
 use Rattle.std.proofs.Common.{◌≡◌, refl, sym, ◌∙◌, ap, subst, ℕ, zero, suc, ◌+◌, ◌<◌, ◌≤◌, ◌≢◌, Bool, true, false, cond, not, ◌&&◌, List, [], ◌∷◌, ◌++◌, length, Option, Some, None, eqb, map, arith, inl, inr}
 use Rattle.std.specs.Prelude.{◌==◌, nat_lt, is_none, is_some, option_and_then, option_map, unwrap_or, filter, Result, Ok, Err, if◌then◌else◌}

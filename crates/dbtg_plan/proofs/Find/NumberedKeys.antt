@@ -15,7 +15,7 @@ use Rattle.dbtg_unit.specs.Inside.InHand.{key_of}
 use Rattle.dbtg_unit.proofs.Public.{filter_all, filter_map, first_map}
 use Rattle.dbtg_plan.specs.Inside.Finding.{is_below, keys_of_type, number_above, number_below}
 
--- a number with a generation behind another is not 0
+-- a number with a generation after another is not 0
 numbered : (g n : ℕ) (numbers : List Number) → nat_lt g (last_of n numbers) ≡ true → 0 < n
 numbered g zero numbers h = let none : nat_lt g 0 ≡ true = h in absurd (grind (arith, nat_tests))
 numbered g (suc n) numbers h = omega arith
@@ -38,7 +38,7 @@ module _ (t : ℕ) (numbers : List Number) (k : DbKey) where
   abbrev live : List ℕ
   live = numbers_where is_used numbers
 
-  -- of the bound's own type
+  -- keys of the bound's own type
   pub above_own : k.rtype ≡ t → (n : ℕ) → key_below k (key_of numbers t n) ≡ nat_lt (number_above numbers k) n
   above_own is_t n =
       split is_t n ∙ above_tests k.number n k.generation (last_of k.number numbers) (last_of n numbers) (numbered k.generation k.number numbers) (λ e. ap (λ m. last_of m numbers) e) where
@@ -63,7 +63,7 @@ module _ (t : ℕ) (numbers : List Number) (k : DbKey) where
   abbrev before : DbKey → Bool
   before x = key_below x k
 
-  -- the keys of a type before the bound's, of its own, and of one behind it
+  -- the keys of a type before the bound's, of the bound's own, and of a later one
   pub none_above : t < k.rtype → None ≡ first (filter (key_below k) keys)
   none_above h = ap first (sym (filter_map (key_below k) (key_of numbers t) live ∙ ap (map (key_of numbers t)) (filter_agree (λ n. key_below k (key_of numbers t n)) (λ n. false) (λ n. (earlier h n).0) live ∙ none_kept live)))
 

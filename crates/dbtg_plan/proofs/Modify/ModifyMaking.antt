@@ -1,4 +1,4 @@
--- What is prepared of a MODIFY changes held cells alone, and can be made of them.
+-- What a MODIFY prepares changes only held cells, and can be made of them.
 use Rattle.std.proofs.Common.{◌≡◌, refl, sym, ◌∙◌, ap, subst, ℕ, Bool, true, false, cond, not, ◌&&◌, List, [], ◌∷◌, ◌++◌, Option, Some, None, eqb, map, length, append_assoc, ⊎_elim}
 use Rattle.std.specs.Prelude.{is_none, is_some, option_map, option_and_then, unwrap_or, slice_get}
 use Rattle.std.specs.List.{find, flat_map, list_all, list_any, position_or_len}
@@ -122,7 +122,7 @@ module _ (schema : Lists) (hands : Hands) (unit : Unit) (changes : List Change) 
       ap (λ (rings : List CellEdit). calc_edits schema changes k items ++ (rings ++ slot_edits))
       (flat_map_if (replacing_edits schema (in_hand hands) unit k items) (λ s. is_rekeyed schema changes k.rtype s) (set_numbers schema))
 
-  -- THEIR CELLS ARE IN HAND
+  -- THEIR CELLS ARE HELD
 
   pub edits_held : holds hands.cells (slot_name k) ≡ true → (names_calc schema k.rtype changes ≡ true → holds hands.cells (Extent k.rtype) ≡ true)
       → ((s : ℕ) (o : Owner) → is_rekeyed schema changes k.rtype s ≡ true → owner_in hands s k ≡ Some o → holds hands.cells (Ring s (place_of o)) ≡ true)
@@ -179,7 +179,7 @@ module _ (schema : Lists) (capacity : ℕ) (db : Database) (hands : Hands) (unit
   abbrev CanReplace : ℕ → Option Occurrence → Type 0
   CanReplace s occurrence = (is_member k (keys_in occurrence) ≡ true) × CanPlace (order_of schema s) (position_at s) (key_item schema s k.rtype items) (with_members (without_key k) occurrence)
 
-  -- the occurrence of its owner is in hand
+  -- the occurrence of its owner is held
   occurrence_there : (s : ℕ) (o : Owner) → is_rekeyed schema changes k.rtype s ≡ true → owner_of schema capacity db s k ≡ Some o → is_some (occurrence_in hands s o) ≡ true
   occurrence_there s o named is =
       sym (listed_in_hand schema capacity db hands unit agrees s o (rings s o named is)) ∙ member_there k (db.lists s o) (member_of_owner schema capacity db agrees.legal s o k is)

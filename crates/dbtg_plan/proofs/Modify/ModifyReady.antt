@@ -1,4 +1,4 @@
--- What is planned of a MODIFY is its effect, and can be made once it is ready.
+-- What a MODIFY plans is its effect, and can be made once it is ready.
 use Rattle.std.proofs.Common.{◌≡◌, refl, sym, ◌∙◌, ap, subst, ℕ, ◌+◌, Bool, true, false, cond, not, ◌&&◌, List, [], ◌∷◌, Option, Some, None, eqb}
 use Rattle.std.specs.Prelude.{is_some, option_and_then, option_map, unwrap_or}
 use Rattle.std.specs.List.{list_all}
@@ -65,7 +65,7 @@ module _ (schema : Lists) (capacity : ℕ) (unit : Unit) (hands : Hands) (t : �
         (modified schema capacity db unit changes) refl refl
         (λ k is free done. record { is_done = refl; answer = refl; unit_is = unit_is k (not-false _ (passes_check (not (is_live db k)) Deleted _ free).0); guesses_are = refl })
 
-    -- WHAT IS IN HAND
+    -- WHAT IS HELD
 
     module _ (k : DbKey) (current : unit.currency.run_unit ≡ Some k) where
       typed : k.rtype ≡ t
@@ -112,7 +112,7 @@ module _ (schema : Lists) (capacity : ℕ) (unit : Unit) (hands : Hands) (t : �
         can_make : HaveNextVersions hands.cells → CanMake (modifying schema (in_hand hands) unit changes k).cells hands.cells
         can_make versions = edits_can schema capacity db hands unit agrees changes k items_now may.sound items_fit slot rings versions numbered
 
--- a MODIFY can be finished by what is planned off the cells in hand, done or refused
+-- a MODIFY, done or refused, can be finished by what is planned from the held cells
 pub modify_finishes : (schema : Lists) (capacity : ℕ) (unit : Unit) (hands : Hands) (t : ℕ) (changes : List Change) → refused_at_once schema capacity unit (Modify t changes) ≡ None
     → MayPrepare schema capacity unit hands (Modify t changes) → CanFinish schema capacity unit hands (Modify t changes) (plan_of schema (in_hand hands) unit (Modify t changes))
 modify_finishes schema capacity unit hands t changes passes may = record {

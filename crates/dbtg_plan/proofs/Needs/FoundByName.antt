@@ -1,4 +1,4 @@
--- A cell is in hand where its name is found.
+-- A cell is held where its name is found.
 use Rattle.std.proofs.Common.{◌≡◌, refl, sym, ◌∙◌, ap, true, false, cond, not, ◌||◌, List, [], ◌∷◌, Option, Some}
 use Rattle.std.specs.Prelude.{is_some}
 use Rattle.std.specs.List.{list_any}

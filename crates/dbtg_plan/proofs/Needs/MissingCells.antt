@@ -1,4 +1,4 @@
--- The first of some cells that is not in hand.
+-- The first of some cells that is not held.
 use Rattle.std.proofs.Common.{◌≡◌, refl, ◌∙◌, ap, true, false, cond, not, List, [], ◌∷◌, ◌++◌, Some, None, inl, inr}
 use Rattle.std.specs.List.{list_any}
 use Rattle.std.specs.Option.{option_or}
@@ -16,7 +16,7 @@ missing_append hands (x ∷ xs) ys =
     elim (not (list_any (λ e. name_eq x e.0) hands.cells)) as (λ b. cond b (Some x) (first_missing hands (xs ++ ys)) ≡ option_or (cond b (Some x) (first_missing hands xs)) (first_missing hands ys))
     [ true ↦ refl | false ↦ missing_append hands xs ys ]
 
--- where each cell is in hand none is missing
+-- where each cell is held none is missing
 pub none_missing : (hands : Hands) (names : List CellName) → ((c : CellName) → In c names → holds hands.cells c ≡ true) → first_missing hands names ≡ None
 none_missing hands [] h = refl
 none_missing hands (c ∷ names) h =

@@ -1,4 +1,4 @@
--- Guesses are wrong by the record in hand where they are wrong by each database that agrees.
+-- Guesses are wrong by the held record where they are wrong by each database that agrees.
 -- k is a key, s a set.
 use Rattle.std.proofs.Common.{◌≡◌, refl, sym, ◌∙◌, ap, subst, ℕ, ◌<◌, Bool, true, false, cond, not, ◌&&◌, List, [], ◌∷◌, ◌++◌, length, Option, Some, None, inl, inr, map, arith}
 use Rattle.std.specs.Prelude.{◌==◌, filter, is_some, option_map, unwrap_or, if◌then◌else◌}
@@ -164,7 +164,7 @@ module _ (schema : Lists) (capacity : ℕ) (db : Database) (hands : Hands) (unit
           | false ↦ refl
         ]
 
--- of a choice that was stale, what decided it
+-- what decided a choice that was stale
 chose_stale : (b : Bool) (oa : Option ℕ) (oc : Option CellName) (stale : Bool) → (if b then Ready else next_of oa oc stale) ≡ Stale → (oc ≡ None) × (stale ≡ true)
 chose_stale true oa oc stale e = absurd (cc (e))
 chose_stale false (Some a) oc stale e = absurd (cc (e))

@@ -1,4 +1,4 @@
--- What is planned over a view is a statement's effect: on each database that agrees with the cells in hand, by those cells.
+-- What is planned over a view is a statement's effect: on each database that agrees with the held cells, by those cells.
 -- k is a key, s a set, db a database.
 use Rattle.std.proofs.Common.{◌≡◌, refl, sym, ◌∙◌, ap, subst, ℕ, ◌+◌, Bool, true, false, List, [], ◌∷◌, ◌++◌, Option, Some, None}
 use Rattle.std.specs.Prelude.{◌==◌}
@@ -70,7 +70,7 @@ module _ (schema : Lists) (capacity : ℕ) (unit : Unit) (hands : Hands) (statem
           behind_checks (plan k) (outcome k) (first_cause (checks k)) (there (Some k) e)
           (λ free done. tells_effect (plan k) (outcome k) done (ap (λ (r : Option DbKey). (planned_on_current r plan).cells) (sym e) ∙ edits) (tells k e free done))
 
-  -- where what is planned by each database that agrees is the effect on it, so is what is planned by the cells in hand
+  -- where what is planned by each database that agrees is the effect on it, so is what is planned by the held cells
   pub effect_in_hand : is_planned statement ≡ true
       → ((db : Database) → Agrees schema capacity db hands unit → IsEffect schema capacity db unit hands.guesses statement (plan_of schema (whole schema capacity db) unit statement))
       → (db : Database) → Agrees schema capacity db hands unit → IsEffect schema capacity db unit hands.guesses statement (plan_of schema (in_hand hands) unit statement)

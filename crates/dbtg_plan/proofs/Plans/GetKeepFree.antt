@@ -1,4 +1,4 @@
--- GET, KEEP and FREE by the cells in hand are those of each database that agrees.
+-- GET, KEEP and FREE by the held cells are those of each database that agrees.
 -- k is a key.
 use Rattle.std.proofs.Common.{◌≡◌, refl, ℕ, Bool, true, false, List, [], Option, Some, None}
 use Rattle.dbtg_schema.specs.Lists.{Lists}

@@ -52,7 +52,7 @@ module _ (checks : DbKey → List (Bool × Cause)) (plan : DbKey → Plan) where
 -- MADE
 
 module _ (schema : Lists) (unit : Unit) (hands : Hands) where
-  -- where plans about the current of run-unit make their answers alone, so does what is planned behind the checks
+  -- where plans about the current of run-unit only make their answers, so does what is planned after the checks
   planned_answers : (current : Option DbKey) (checks : DbKey → List (Bool × Cause)) (plan : DbKey → Plan) → ((k : DbKey) → made_by schema unit hands (plan k) ≡ seen (plan k).answer unit hands)
       → made_by schema unit hands (unless_refusal (first_cause (about current checks)) (planned_on_current current plan)) ≡ seen (unless_refusal (first_cause (about current checks)) (planned_on_current current plan)).answer unit hands
   planned_answers None checks plan h = refl
@@ -75,7 +75,7 @@ module _ (schema : Lists) (unit : Unit) (hands : Hands) where
     refused_is_made statement plan cause answer made is answers =
         subst (IsMadeOnEach schema capacity unit hands statement) (ap (made_by schema unit hands) is ∙ ap (λ (a : Answer). seen a unit hands) (sym answers)) made
 
-    -- and so does what another plan makes that is the same
+    -- and so does what an equal plan makes
     pub done_is_made : (statement : Statement) (plan plan' : Plan) (made : Made) → IsMadeOnEach schema capacity unit hands statement (made_by schema unit hands plan) → plan ≡ plan' → made ≡ made_by schema unit hands plan'
         → IsMadeOnEach schema capacity unit hands statement made
     done_is_made statement plan plan' made makes same is = subst (IsMadeOnEach schema capacity unit hands statement) (ap (made_by schema unit hands) same ∙ sym is) makes

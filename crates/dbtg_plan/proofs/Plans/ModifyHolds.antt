@@ -38,7 +38,7 @@ rekeyed_number schema changes t s h =
     let e = any_element (λ r. eqb r s) (set_numbers schema) (set_has_number schema s t (rekeyed_clause schema changes t s h)) in
     subst (λ r. In r (set_numbers schema)) (eqb-true e.0 s e.2) e.1
 
--- WHAT IS IN HAND
+-- WHAT IS HELD
 
 module _ (schema : Lists) (capacity : ℕ) (db : Database) (hands : Hands) (unit : Unit) (agrees : Agrees schema capacity db hands unit)
     (changes : List Change) (k : DbKey) (current : unit.currency.run_unit ≡ Some k)

@@ -1,4 +1,4 @@
--- OPEN and CLOSE by the cells in hand are those of each database that agrees.
+-- OPEN and CLOSE by the held cells are those of each database that agrees.
 -- a is an area, c the name of a cell, x and y cells.
 use Rattle.std.proofs.Common.{◌≡◌, refl, ◌∙◌, ap, subst, ℕ, Bool, true, false, List, [], ◌∷◌, ◌++◌, Some, None, inl}
 use Rattle.std.specs.Prelude.{◌==◌, if◌then◌else◌}
@@ -75,7 +75,7 @@ module _ (schema : Lists) (capacity : ℕ) (unit : Unit) (a : ℕ) where
     open_refused h = no_cells_can_finish schema capacity unit hands (OpenArea a mode) (refusal UsageConflict) refl (open_by true h)
 
   module _ (mode : Mode) (passes : refused_at_once schema capacity unit (OpenArea a mode) ≡ None) where
-    -- else done, once there is room for its entry
+    -- otherwise done, once there is room for its entry
     pub open_finishes : (old new : Hands) → MayPrepare schema capacity unit old (OpenArea a mode) → list_any (λ e. conflict e.1 mode) (users_in old a) ≡ false
         → ShowsTheSame old new → OfHeld (Usage a) new.cells CanTakeUser → CanFinish schema capacity unit new (OpenArea a mode) (mode_plan a (EnterUser unit.number mode) (Some mode))
     open_finishes old new may h same room =
@@ -103,7 +103,7 @@ module _ (schema : Lists) (capacity : ℕ) (unit : Unit) (a : ℕ) where
       can_make = λ db agrees. (λ x cell_is. can_leave unit.number x, λ y shows. tt);
     }
 
--- a CLOSE can be finished by what is planned off the cells in hand
+-- a CLOSE can be finished by what is planned from the held cells
 pub close_can_finish : (schema : Lists) (capacity : ℕ) (unit : Unit) (hands : Hands) (a : ℕ) → refused_at_once schema capacity unit (CloseArea a) ≡ None → MayPrepare schema capacity unit hands (CloseArea a)
     → CanFinish schema capacity unit hands (CloseArea a) (plan_of schema (in_hand hands) unit (CloseArea a))
 close_can_finish schema capacity unit hands a passes may = close_finishes schema capacity unit a hands passes (may_plan may)

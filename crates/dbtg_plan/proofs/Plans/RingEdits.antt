@@ -1,4 +1,4 @@
--- Edits of cells in hand, by what is read off them.
+-- Edits of held cells, by what is read from them.
 -- c is the name of a cell, x a cell, k a key, s a set, o an owner.
 use Rattle.std.proofs.Common.{◌≡◌, refl, sym, ◌∙◌, ap, subst, ℕ, true, false, cond, Option, Some, None}
 use Rattle.std.specs.Prelude.{is_some}
@@ -24,7 +24,7 @@ ring_is o None h = absurd (false≢true h)
 ring_is o (Some r) h =
     elim (owner_eq r.owner o) as (λ b. is_some (cond b (Some r) None) ≡ true → Some r ≡ cond b (Some r) None) [ true ↦ λ h. refl | false ↦ λ h. absurd (false≢true h) ] h
 
--- an edit can be made of the ring of an occurrence in hand, where it can be made of a ring with that occurrence
+-- an edit can be made of the held ring of an occurrence, where it can be made of a ring with that occurrence
 pub can_edit_ring : (hands : Hands) (s : ℕ) (o : Owner) (edit : Edit) → is_some (occurrence_in hands s o) ≡ true
     → ((v : RingView) → cell_of (Ring s (place_of o)) hands.cells ≡ Some (RingCell v) → v.occurrence ≡ occurrence_in hands s o → CanEdit edit (RingCell v))
     → CanEditHeld (record { name = Ring s (place_of o); edit = edit }) hands.cells

@@ -1,5 +1,5 @@
--- Two views that answer alike where a statement asks have one plan; and the cells in hand of a ready statement answer as each
--- database does that agrees with them.
+-- Two views that answer alike where a statement asks have the same plan; and the held cells of a ready statement answer as each
+-- database that agrees with them does.
 -- k is a key, s a set, v and w views.
 use Rattle.std.proofs.Common.{◌≡◌, refl, sym, ◌∙◌, ap, subst, ℕ, ◌<◌, ◌+◌, Bool, true, false, not, List, [], ◌∷◌, ◌++◌, length, map, Option, Some, None, inl, arith}
 use Rattle.std.specs.Prelude.{⊤, option_and_then, option_map, unwrap_or}
@@ -102,7 +102,7 @@ modifying_agrees schema v w unit changes k all =
           ∙ (let items = changed_items changes (w.items k) in
           ap (λ (edits : List CellEdit). calc_edits schema changes k items ++ (edits ++ slot_edit k (ChangeItems items) ∷ (slot_edit k RaiseVersion ∷ []))) (rings items))
 
--- two views that answer alike where a statement asks have one plan
+-- two views that answer alike where a statement asks have the same plan
 pub plan_agrees : (schema : Lists) (v w : StoredFacts) (unit : Unit) (statement : Statement) → is_planned statement ≡ true → SameFor schema v w unit statement
     → plan_of schema v unit statement ≡ plan_of schema w unit statement
 plan_agrees schema v w unit (OpenArea a mode) planned same = λ i. unless_refusal (first_cause ((list_any (λ e. conflict e.1 mode) (same i), UsageConflict) ∷ [])) (mode_plan a (EnterUser unit.number mode) (Some mode))
@@ -179,7 +179,7 @@ module _ (schema : Lists) (capacity : ℕ) (unit : Unit) (hands : Hands) (db : D
         (prepared_has_all schema capacity unit hands (Remove s) passes may.ready db agrees).cells (slot_name k)
         (in_right _ (ring_names s (at hands.guesses s)) (slot_names unit.currency.run_unit) (current_slot unit.currency.run_unit k is))
 
-  -- the cells in hand answer as the database does, where a ready statement asks
+  -- the held cells answer as the database does, where a ready statement asks
   pub alike_in_hand : (statement : Statement) → MayPlan schema capacity unit hands statement → refused_at_once schema capacity unit statement ≡ None
       → SameFor schema (in_hand hands) (whole schema capacity db) unit statement
   alike_in_hand (OpenArea a mode) may passes =

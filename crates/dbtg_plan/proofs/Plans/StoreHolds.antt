@@ -1,4 +1,4 @@
--- STORE, read off the cells in hand, is STORE on each database that agrees with them.
+-- STORE, read from the held cells, is STORE on each database that agrees with them.
 use Rattle.std.proofs.Common.{◌≡◌, refl, sym, ◌∙◌, ap, subst, ℕ, true, false, cond, not, List, [], ◌∷◌, ◌++◌, Option, Some, None, eqb, inl, inr}
 use Rattle.std.specs.Prelude.{is_none, if◌then◌else◌, option_map, unwrap_or}
 use Rattle.std.specs.List.{list_any}
@@ -36,7 +36,7 @@ use Rattle.dbtg_plan.specs.Inside.Store.{missing_of_store, store_cells_in}
 
 -- CELLS
 
--- where the first is not in hand, it is missing, whatever the others
+-- where the first is not held, it is missing, whatever the others
 missing_first : (hands : Hands) (c : CellName) (xs ys : List CellName) → holds hands.cells c ≡ false → first_missing hands (c ∷ xs) ≡ first_missing hands (c ∷ ys)
 missing_first hands c xs ys free =
     let h : list_any (λ e. name_eq c e.0) hands.cells ≡ false = holds_any hands.cells c ∙ free in
@@ -53,7 +53,7 @@ module _ (schema : Lists) (capacity : ℕ) (unit : Unit) (hands : Hands) (t : �
     cells_in_hand guesses suppress =
         λ i. Extent t ∷ store_cells schema unit (fresh_in_hand i) (sym (calc_taken_agrees (in_hand hands) (whole schema capacity db) unit schema t items None (same_numbers schema capacity db hands unit agrees t extent).has_calc) i)
 
-  -- what is missing is the first cell of the statement that is not in hand
+  -- what is missing is the first cell of the statement that is not held
   pub missing_in_hand : (db : Database) → Agrees schema capacity db hands unit → (guesses : List (Option Owner)) (suppress : Suppress)
       → missing_of_store schema unit hands t items ≡ first_missing hands (cells_of schema capacity db unit guesses (Store t items suppress))
   missing_in_hand db agrees guesses suppress =
@@ -85,7 +85,7 @@ module _ (schema : Lists) (capacity : ℕ) (unit : Unit) (hands : Hands) (t : �
         sym (new_key_in_hand schema capacity db agrees.legal t (numbers_in hands t) are (unwrap_or (first (numbers_where is_free (numbers_in hands t))) 0))
         ∙ ap (λ (o : Option ℕ). new_key db t (unwrap_or o 0)) (sym (free_in_hand schema capacity db agrees.legal t (numbers_in hands t) are))
 
-    -- once the first two checks pass, all its cells are in hand
+    -- once the first two checks pass, all its cells are held
     all_held : is_none (free_number capacity db t) ≡ false → calc_taken schema (whole schema capacity db) t items None ≡ false → (c : CellName) → In c (Extent t ∷ (store_rings schema unit k ++ slot_name k ∷ [])) → holds hands.cells c ≡ true
     all_held room untaken c i =
         let n = some_from_not_none (free_number capacity db t) room in
@@ -112,7 +112,7 @@ module _ (schema : Lists) (capacity : ℕ) (unit : Unit) (hands : Hands) (t : �
         store_checks_agree (in_hand hands) (whole schema capacity db) unit schema t items (same_numbers schema capacity db hands unit agrees t extent)
         (λ room untaken s i. same_occurrence schema capacity db hands unit agrees s (joined_place schema unit s).owner (joined_held room untaken s i))
 
-    -- what a STORE has that no check refuses
+    -- what a STORE that no check refuses has
     pub passed_held : first_cause (store_checks schema (in_hand hands) unit t items) ≡ None
         → (is_none (free_number capacity db t) ≡ false) × ((c : CellName) → In c (Extent t ∷ (store_rings schema unit k ++ slot_name k ∷ [])) → holds hands.cells c ≡ true)
     passed_held e =

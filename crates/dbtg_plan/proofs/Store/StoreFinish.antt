@@ -55,7 +55,7 @@ module _ (schema : Lists) (capacity : ℕ) (unit : Unit) (old new : Hands) (t : 
     key : (in_hand old).fresh t ≡ k
     key = key_in_hand schema capacity unit old t items suppress (may_plan may) passes db agrees_old
 
-    -- the plan changes cells in hand alone
+    -- the plan changes only held cells
     all_held : list_all (λ (e : CellEdit). holds old.cells e.name) (plan_of schema (in_hand old) unit (Store t items suppress)).cells ≡ true
     all_held =
         by_cause (λ (plan : Plan). list_all (λ (e : CellEdit). holds old.cells e.name) plan.cells ≡ true) k key (λ cause. refl)

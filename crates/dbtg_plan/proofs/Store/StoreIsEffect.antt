@@ -1,4 +1,4 @@
--- What STORE plans on a database is its effect there, and so is what it plans by the cells in hand.
+-- What STORE plans on a database is its effect there, and so is what it plans by the held cells.
 -- k is the key of the new record, t its record type.
 use Rattle.std.proofs.Common.{◌≡◌, refl, sym, ap, subst, ℕ, List, Option, None}
 use Rattle.std.specs.Prelude.{unwrap_or}

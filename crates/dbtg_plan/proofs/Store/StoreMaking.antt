@@ -1,4 +1,4 @@
--- The edits of a STORE can be made of the cells in hand.
+-- The edits of a STORE can be made of the held cells.
 -- e and f are edits, s a set, o an owner, x a cell.
 use Rattle.std.proofs.Common.{◌≡◌, ◌≢◌, refl, sym, ◌∙◌, ap, subst, ℕ, ◌≤◌, true, false, cond, not, ◌&&◌, List, [], ◌∷◌, ◌++◌, Option, Some, None, eqb, inl, inr, length, map, ⊎_elim}
 use Rattle.std.specs.Prelude.{filter, is_none, is_some, IsTrue, option_map, unwrap_or}
@@ -174,11 +174,11 @@ module _ (schema : Lists) (unit : Unit) (k : DbKey) (items : List Value) where
     of_filling : In e filling → In e.name (store_rings schema unit k ++ slot_name k ∷ [])
     of_filling j = in_right e.name (store_rings schema unit k) (slot_name k ∷ []) (inl (sym (filling_name e j)))
 
-  -- where no cell is missing, each edit is of a cell in hand
+  -- where no cell is missing, each edit is of a held cell
   pub edits_held : (hands : Hands) → ((c : CellName) → In c (Extent k.rtype ∷ (store_rings schema unit k ++ slot_name k ∷ [])) → holds hands.cells c ≡ true) → list_all (λ (e : CellEdit). holds hands.cells e.name) (store_edits schema unit k items) ≡ true
   edits_held hands held = all_in (λ (e : CellEdit). holds hands.cells e.name) (store_edits schema unit k items) (λ e i. held e.name (edit_needed e i))
 
--- CELLS IN HAND
+-- HELD CELLS
 
 -- a cell of which there is one is held
 there_held : (c : CellName) (cells : List (CellName × Cell)) (x : Cell) → cell_of c cells ≡ Some x → holds cells c ≡ true

@@ -1,5 +1,5 @@
 -- The steps of a STORE over the sets of a schema.
--- s is a set, t a record type, i how many sets are behind.
+-- s is a set, t a record type, i the number of sets that were passed.
 use Rattle.std.proofs.Common.{◌≡◌, refl, sym, ◌∙◌, ap, subst, ℕ, zero, suc, ◌+◌, ◌<◌, Bool, true, false, cond, ◌&&◌, ◌||◌, List, [], ◌∷◌, ◌++◌, Option, Some, None, eqb, inl, inr, map, drop, get_or, length, append_assoc, arith}
 use Rattle.std.specs.Prelude.{is_some, option_and_then, replicate, slice_get, slice_set}
 use Rattle.std.specs.List.{enumerate_from, find, flat_map, list_any, range_with_len}
@@ -164,7 +164,7 @@ first_owners_noted schema unit t =
 
 -- ROOMS
 
--- there is room in each set in which STORE connects, but those that are left
+-- there is room in each set in which STORE connects, except those that are left
 abbrev pub RoomsBut : Lists → Unit → Hands → DbKey → List ℕ → Type 0
 RoomsBut schema unit hands k left = (s : ℕ) → list_any (λ s'. eqb s' s) left ≡ false → HasRoom schema unit hands k s
 

@@ -1,4 +1,4 @@
--- How a record joins the current occurrence of a set, read off the cells in hand.
+-- How a record joins the current occurrence of a set, read from the held cells.
 -- s is a set, k a record, m a new member, e a member with its sort key.
 use Rattle.std.specs.Prelude.{ℕ, [], ◌∷◌, Option, Some}
 use Rattle.dbtg_schema.specs.Lists.{Lists}

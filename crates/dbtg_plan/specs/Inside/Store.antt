@@ -1,4 +1,4 @@
--- STORE, read off the cells in hand: the cells that it needs; what it plans; and then, as the code goes, some of its edits and its room.
+-- STORE, read from the held cells: the cells that it needs; what it plans; and then, as the code goes, some of its edits and its room.
 -- k is the key of the new record, s a set, t its record type, c the name of a cell.
 use Rattle.std.specs.Prelude.{◌≡◌, ℕ, ◌==◌, true, List, [], ◌∷◌, Option, Some, None, Result, Ok, Err, filter}
 use Rattle.std.specs.List.{flat_map, list_any}
@@ -37,7 +37,7 @@ missing_of_store schema unit hands t items = first_missing hands (store_cells_in
 
 -- WHAT IT DOES
 
--- what is planned for the key that the record gets, or for the cause why it is not stored
+-- what is planned for the key that the record gets, or for the cause for which it is not stored
 abbrev pub plan_of_judged : Lists → Unit → List Value → Suppress → Result DbKey Cause → Plan
 plan_of_judged schema unit items suppress (Ok k) = storing schema unit items suppress k
 plan_of_judged schema unit items suppress (Err cause) = refusal cause

@@ -70,7 +70,7 @@ side_is_closed : refused shop 100 1 (by 1 (stored ++ CloseArea side ∷ [])) 1 (
 unfolding effect
 side_is_closed = refl
 
--- of two closed areas the first in the schema
+-- the first of two closed areas in the schema
 main_is_closed : refused shop 100 1 (by 1 (stored ++ CloseArea side ∷ CloseArea main ∷ [])) 1 (store items (text "BOLT" ∷ Num 6 ∷ [])) ≡ Some (cause.AreaNotOpen, Some (obstacle.Area main))
 unfolding effect
 main_is_closed = refl

@@ -57,7 +57,7 @@ done = record {
   entries = refl;
 }
 
--- where the journal has no entry more, nothing is done
+-- nothing is done if the journal has no new entry
 not_done : IsDone about (not_found ∷ []) (not_found ∷ []) second (OpenArea main Update) fine → ⊥
 not_done d = true≢false (ap (λ (journal : List Entry). length journal == 1) d.journal)
 
@@ -67,7 +67,7 @@ not_done d = true≢false (ap (λ (journal : List Entry). length journal == 1) d
 abbrev seen : TableId → Unit → List Entry → UnitView
 seen table u journal = record { table = table; about = about; unit = u; journal = journal }
 
--- of three statements the second unit has made two
+-- the second unit has made two of three statements
 abbrev three : List Statement
 three = find (Key (customer_key 1)) ∷ OpenArea main Update ∷ Keep ∷ []
 
@@ -92,7 +92,7 @@ ran table = record {
 not_whole : (table : TableId) → IsWhole three (opening_view table about 2) (seen table second (not_found ∷ opened 3 2 ∷ [])) → ⊥
 not_whole table = ⊎_elim (λ (all : 2 ≡ 3). absurd (omega arith)) (λ (full : 65535 ≤ 2). absurd (omega arith))
 
--- the first two alone it has made all
+-- it has made all of the first two alone
 whole : (table : TableId) → IsWhole (find (Key (customer_key 1)) ∷ OpenArea main Update ∷ []) (opening_view table about 2) (seen table second (not_found ∷ opened 3 2 ∷ []))
 whole table = inl refl
 

@@ -84,6 +84,6 @@ puts_cells = refl
 leaves_area : at_word (area_word main) (λ n. bit_and n (bit_not w64 (1 * 2 ^ 1 % 2 ^ 64))) cells_back ≡ area_left
 leaves_area = refl
 
--- alone, the unit would have had bit 9
+-- with the area for itself, the unit would have had bit 9
 takes_area_alone : at_word (area_word main) (λ _. 1 * 2 ^ (8 + 1) % 2 ^ 64) free ≡ 1 ∷ 512 ∷ 0 ∷ 0 ∷ 0 ∷ 0 ∷ 0 ∷ 0 ∷ 0 ∷ 0 ∷ 0 ∷ 0 ∷ 0 ∷ 0 ∷ []
 takes_area_alone = refl

@@ -9,7 +9,7 @@ use native.Mathlib.Decide.{ℕ_discrete, dec_lt}
 use Rattle.dbtg_run.specs.Inside.Views.{put}
 use Rattle.dbtg_run.specs.Inside.LatchRule.{AreaOk}
 
--- who has the area so, where the one at place u has it as h says
+-- who has the area in which way, if the one at place u has it as h says
 abbrev pub had : (Bool → ℕ → ℕ) → ℕ → (Bool → ℕ) → Bool → ℕ → ℕ
 had has u h x v = put (has x) u (h x) v
 

@@ -105,7 +105,7 @@ module _ (about : About) (machine : Machine (net about)) (lawful : Lawful (net a
     pub may_now : (x : Statement) → fits about.schema.value x ≡ true → MayMake (net about) database_now (replay (net about) (opens about) machine.history).units (suc u) m.unit x
     may_now x fit = record { legal = lawful.legal; found = unit_here; fits = fit }
 
-    -- what the statement needs on every database that agrees with what is held, the machine's unit needs
+    -- the machine's unit needs what the statement needs on every database that agrees with what is held
     pub needs_now : (x : Statement) (g : List (Option Owner)) (n : Need) → ((db : Database) → Agrees about.schema.value about.capacity db (hands_of m) m.unit → n ≡ need about.schema.value about.capacity db m.unit (record { areas = m.areas; cells = m.held; guesses = g }) x) →
         (net about).need database_now m.unit x g (progress_of about m).areas (progress_of about m).cells ≡ next_need_of (noted_owners about.schema.value about.capacity database_now m.unit x g) n
     needs_now x g n all = ap (next_need_of (noted_owners about.schema.value about.capacity database_now m.unit x g)) (need_of_holding about.schema.value about.capacity database_now m.unit x (record { areas = m.areas; cells = m.held; guesses = g }) ∙ sym (all database_now agrees_now))

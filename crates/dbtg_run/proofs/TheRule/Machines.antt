@@ -1,4 +1,4 @@
--- An area is taken so or so, by a unit of a lawful machine that has no ticket.
+-- A unit of a lawful machine that has no ticket takes an area, shared or exclusively.
 use Rattle.std.proofs.Common.{◌≡◌, ◌≢◌, ◌⊎◌, ℕ, zero, suc, Bool, true, false, ◌||◌, eqb, eq-eqb, List, [], ◌∷◌, Some, slice_get, inl, inr, refl, sym, ◌∙◌, subst}
 use Rattle.std.specs.List.{list_any}
 use Rattle.std.proofs.lemmas.Bool.{or_parts}

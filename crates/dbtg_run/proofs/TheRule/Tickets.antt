@@ -43,7 +43,7 @@ use Rattle.dbtg_run.proofs.TheRule.Facts.{database_now, agrees_now, needs_now}
 use Rattle.dbtg_run.proofs.TheRule.History.{is_history, unit_is}
 use Rattle.dbtg_run.proofs.TheRule.Moves.{laws, sits, is_known, mine}
 
--- what the statement comes to on a database
+-- the outcome of the statement on a database
 pub record Comes (about : About) (m : SeatUnit) (x : Statement) (answer : Answer) (unit' : Unit) (held' : List (CellName × Cell)) (db : Database) : Type 0 where
   pub answer_is : answer ≡ (effect about.schema.value about.capacity db m.unit x).answer
   pub unit_is : unit' ≡ (effect about.schema.value about.capacity db m.unit x).unit

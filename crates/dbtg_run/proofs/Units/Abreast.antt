@@ -24,7 +24,7 @@ all_more P xs x all last k d below = ⊎_elim
     (λ (is : k ≡ length xs). subst P (sym (at_last xs x d k is)) last)
     (last_or_not k (length xs) (let l = length-append xs (x ∷ []) in omega arith))
 
--- and of one script more, with its unit
+-- and with one more script and its unit
 pub at_more : {S : Type 0} (P : S → UnitView → UnitView → Type 0) (scripts : List S) (before after : List UnitView) (s : S) (u v : UnitView)
     → ((d : S) → get_or scripts (length before) d ≡ s) → AtEach P scripts before after → P s u v → AtEach P scripts (before ++ u ∷ []) (after ++ v ∷ [])
 at_more {S} P scripts before after s u v at A last = record {

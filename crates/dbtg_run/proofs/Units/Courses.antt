@@ -12,12 +12,12 @@ use Rattle.dbtg_step.specs.Inside.Courses.{HasMore}
 use Rattle.dbtg_step.specs.Core.Courses.{CourseMatches}
 use Rattle.dbtg_step.proofs.Public.{course_stays, more_by_area, more_by_cell}
 
--- of the same unit, with more in hand
+-- what is kept matches the same unit with more held
 pub course_goes_on : (schema : Lists) (capacity : ℕ) (hands hands' : Hands) (unit unit' : Unit) (x : Statement) (course : Option Course) → unit' ≡ unit → HasMore hands hands' → CourseMatches schema capacity hands unit x course → CourseMatches schema capacity hands' unit' x course
 course_goes_on schema capacity hands hands' unit unit' x course same more kept =
     subst (λ (u : Unit). CourseMatches schema capacity hands' u x course) (sym same) (course_stays schema capacity hands unit hands' more x course kept)
 
--- where an area was taken, all is still in hand
+-- where an area was taken, all is still held
 pub all_with_area : (taken : Bool) (old new : Hands) (a : ℕ) (P Q : Type 0) → MatchBool taken ((new ≡ record old { areas = old.areas ++ a ∷ [] }) × P) Q → taken ≡ true → HasMore old new
 all_with_area true old new a P Q is e = more_by_area old new a is.0
 all_with_area false old new a P Q is e = absurd (cc (e))

@@ -171,6 +171,6 @@ views_belong db (n ∷ numbers) (suc k) d below = views_belong db numbers k d (o
 pub opened_belong : (db : Database) (units : List UnitView) (count : ℕ) → units ≡ opening_views db.board.shared.table_id db.about count → All (BelongsTo db) units
 opened_belong db units count is = subst (All (BelongsTo db)) (sym is) (views_belong db (range_with_len 1 count))
 
--- and are as many
+-- and there are as many
 pub opened_count : (table : TableId) (about : About) (units : List UnitView) (count : ℕ) → units ≡ opening_views table about count → length units ≡ count
 opened_count table about units count is = ap length is ∙ (length-map (range_with_len 1 count) (opening_view table about) ∙ length-range_with_len 1 count)

@@ -1,4 +1,4 @@
--- What shows the same in hand is the same to all that a unit at work knows.
+-- Hands that show the same are the same to all that a unit at work knows.
 use Rattle.std.proofs.Common.{◌≡◌, Bool, true, false, not, ◌&&◌, nat_lt, cond, List, [], ◌∷◌, length, Some, refl, sym, ap, ◌∙◌}
 use Rattle.std.specs.Prelude.{is_some}
 use Rattle.std.specs.List.{list_all}

@@ -1,4 +1,4 @@
--- The steps, at a seat and a key that are known by equations; and what is held where a cell less is.
+-- The steps, at a seat and a key that are known by equations; and what is held with one cell less.
 use Rattle.std.proofs.Common.{◌≡◌, ◌⊎◌, ◌||◌, cond, ℕ, suc, ◌-◌, ◌+◌, ◌*◌, ◌%◌, ◌^◌, ◌<◌, arith, Bool, true, false, not, ◌&&◌, List, [], ◌∷◌, ◌++◌, map, reverse, Option, Some, None, refl, sym, ap, ◌∙◌, subst}
 use Rattle.std.specs.Int.{bit_not, w64}
 use Rattle.std.specs.Int.RustNames.{bit_and, bit_or}
@@ -205,7 +205,7 @@ took_it about k word me after unit journal exclusive hands c o y is at named too
     let same : t.0 ≡ y = cc (p) in
     t.1 ∙ (λ i. let z : Sat = (lone about (with_cell c (bare (shown (same i))) (member_of unit journal exclusive hands)), (k, Some (same i)) ∷ empty_slots about hands.cells) in z)
 
--- the cell of slot k came into hand
+-- the cell of slot k was taken
 pub taken_as : (about : About) (k : ℕ) (me after : Sat) (unit : Unit) (journal : List Entry) (exclusive : Bool) (old new : Hands) (c : CellName) (x : Cell)
     → me ≡ (lone about (with_cell c (bare (shown x)) (member_of unit journal exclusive old)), (k, Some x) ∷ empty_slots about old.cells) → after ≡ (me.0, (k, None) ∷ rest me.1) → new ≡ record old { cells = old.cells ++ (c, x) ∷ [] } → cell_number about.schema.value about.capacity c ≡ Some k
     → after ≡ posed about unit journal exclusive new

@@ -178,7 +178,7 @@ LeavesArea st me found after = after ≡ (changed less_area me.0, me.1)
 abbrev pub slot_of_word : SeatKnowledge → ℕ → ℕ
 slot_of_word v word = word - (1 + area_count v.about)
 
--- slot k came into the hands, with the cell of that number
+-- slot k was taken, with the cell of that number
 abbrev pub TookAt : ℕ → Sat → Sat → Type 0
 TookAt k me after =
     (c : CellName) × (x : Cell) × (slot_name me.0.about k ≡ Some c)

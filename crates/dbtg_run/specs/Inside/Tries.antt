@@ -14,10 +14,10 @@ IsVain (Area a) old new = new ≡ old
 IsVain (Take c) old new = new ≡ old
 IsVain Stale old new = new ≡ record old { cells = []; guesses = new.guesses }
 
--- no look was in vain for which there was no try
+-- there was a try for each look in vain
 abbrev pub Suffice : Tries → Type 0
 Suffice tries = tries.vain ≤ tries.given
 
--- the first look was in vain for which there was no try
+-- this was the first look in vain without a try for it
 abbrev pub AreUsedUp : Tries → Type 0
 AreUsedUp tries = tries.vain ≡ tries.given + 1

@@ -83,7 +83,7 @@ at_end schema ws h =
     let b = both_nil (when (is_outside schema ws) NotThere) (when (is_misused schema ws) NotThisWay) a.0 in
     (not_when (is_outside schema ws) NotThere b.0, not_when (is_misused schema ws) NotThisWay b.1)
 
--- of four tests none holds
+-- none of four tests holds
 none_of_four : (a b c d : Bool) → (a || b || c || d) ≡ false → (a ≡ false) × (b ≡ false) × (c ≡ false) × (d ≡ false)
 none_of_four true b c d h = absurd cc
 none_of_four false true c d h = absurd cc

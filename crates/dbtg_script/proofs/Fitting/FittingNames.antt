@@ -1,4 +1,4 @@
--- In a line without faults names are known, and with their numbers the statement fits.
+-- The names in a line without faults are known, and the statement with their numbers fits.
 use Rattle.std.proofs.Common.{◌≡◌, ℕ, suc, ◌+◌, ◌<◌, Bool, true, false, cond, List, [], ◌∷◌, ◌++◌, length, map, Option, Some, None, refl, sym, ap, subst, ◌∙◌, append_assoc, arith}
 use Rattle.std.specs.Prelude.{is_none, is_some, nat_lt, unwrap_or}
 use Rattle.std.specs.List.{position_from}

@@ -23,7 +23,7 @@ use Rattle.dbtg_script.specs.Tokens.{Token, plain, equals, literal, tokens, into
 use Rattle.dbtg_script.specs.Values.{blank, filled, spelled, value_for}
 use Rattle.std.specs.Str.{bytes_eq}
 
--- a literal has bytes of texts alone
+-- a literal has only bytes of texts
 abbrev pub is_sound_token : Token → Bool
 is_sound_token (plain t) = true
 is_sound_token equals = true

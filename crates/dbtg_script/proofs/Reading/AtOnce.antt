@@ -1,4 +1,4 @@
--- Faults that are found before anything is kept are told, and not a refusal of memory.
+-- Faults that are found before anything is kept are reported, and not a refusal of memory.
 use Rattle.std.proofs.Common.{◌≡◌, ℕ, ◌+◌, ◌<◌, ◌≤◌, Bool, true, false, not, ◌&&◌, List, [], ◌∷◌, ◌++◌, length, map, Option, Some, None, refl, sym, ap, subst, ◌∙◌, arith}
 use Rattle.std.specs.Prelude.{nat_le, nat_lt, is_err, OnErr, Result, Ok, Err, if◌then◌else◌}
 use Rattle.std.proofs.lemmas.Bool.Decides.{nat_tests}
@@ -135,7 +135,7 @@ first_numbered : (number : ℕ) (c : Cause) (cs : List Cause) (fs : List Fault) 
     → script.Refused number c ≡ script.Refused f.line f.cause
 first_numbered number c cs fs f h = let e : record { line = number; cause = c } ≡ f = cc in ap (λ (x : Fault). script.Refused x.line x.cause) e
 
--- the fault at once of a line, or of the lines after it, is told where the line is refused
+-- the fault at once of a line, or of the lines after it, is reported if the line is refused
 pub line_told : (schema : Lists) (number : ℕ) (l : List ℕ) (ls : List (List ℕ)) (e : LineFault) (f : Fault)
     → ((c : Cause) → first (faults_at_once schema 0 (trimmed l)) ≡ Some c → e ≡ line.Refused c)
     → (is_statement (trimmed l) ≡ false → e ≡ line.Memory → ⊥)

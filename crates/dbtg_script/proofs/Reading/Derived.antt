@@ -9,7 +9,7 @@ use Rattle.dbtg_script.specs.StatementGrammar.{Form, Labelled, fits}
 use Rattle.dbtg_script.specs.Inside.StatementGrammar.{Start}
 use Rattle.dbtg_script.proofs.Reading.Kinds.{are_named, before, named_start, some_words, told}
 
--- of the kinds with which the form can go on, those of keywords come before those of names
+-- among the kinds with which the form can go on, keywords come before names
 abbrev pub KeywordsFirst : Form → Type 0
 KeywordsFirst f = Ranked (λ j k. before j k ≡ true) f × (are_named f ≡ true)
 
@@ -50,7 +50,7 @@ keywords_behind f l left s k a same h = λ before x behind r e is c.
       subst (λ (q : Role). Derives fits f (labelled q l.word ∷ (before ++ labelled r x.word ∷ c.0))) same (starts_derive fits f s l.word (before ++ labelled r x.word ∷ c.0) a h c.1),
     )
 
--- what a word that is derived comes to: a start is found for it, by which what is behind it is derived
+-- what follows from a derived word: a start is found for it, by which what comes after it is derived
 pub record Found (f : Form) (l : Labelled) (left : List Labelled) : Type 0 where
   pub start : Start
   pub found : start_with fits l.word (starts f) ≡ Some start

@@ -13,17 +13,17 @@ no_statement : faulty_word bare (codes "OPN AREA SIDE") ≡ Some (plain (codes "
 unfolding tokens onto into
 no_statement = refl
 
--- a name of no area
+-- the name of an unknown area
 no_area : faulty_word bare (codes "OPEN AREA SIED USAGE-MODE IS UPDATE") ≡ Some (plain (codes "SIED"))
 unfolding tokens onto into
 no_area = refl
 
--- a name of no set is told, and not the word SET, at which its kind is known
+-- the name of an unknown set is reported, and not the word SET, at which its kind is known
 no_set : faulty_word bare (codes "FIND CURRENT OF HSA SET") ≡ Some (plain (codes "HSA"))
 unfolding tokens onto into
 no_set = refl
 
--- so is a name of no record type, and not the word RECORD
+-- so is the name of an unknown record type, and not the word RECORD
 no_type : faulty_word bare (codes "FIND CALC CUSTOMR RECORD USING CNO = 7") ≡ Some (plain (codes "CUSTOMR"))
 unfolding tokens onto into
 no_type = refl

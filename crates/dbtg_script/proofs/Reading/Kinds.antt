@@ -108,7 +108,7 @@ named_followed (both a b) g h k = rw (h, k) refl
 named_followed (either a b) g h k = rw (h, k) refl
 named_followed (many a) g h k = rw (h, k) refl
 
--- a start whose role is a name's just where any word fits, and so what is left behind it
+-- a start whose role is a name's just where any word fits, and so what is left after it
 abbrev pub IsNamed : Start → Type 0
 IsNamed s = (is_name s.role ≡ is_any s.kind) × (are_named s.rest ≡ true)
 

@@ -1,4 +1,4 @@
--- Items that stand in their order, with their values, say the statement that they are read ps.
+-- Items that stand in their order, with their values, say the statement that they are read as.
 use Rattle.std.proofs.Common.{◌≡◌, ℕ, zero, suc, ◌+◌, ◌<◌, ◌≤◌, true, false, eqb, List, [], ◌∷◌, ◌++◌, length, get_or, drop, Some, None, refl, sym, ap, subst, ◌∙◌, inl, inr, arith, codes, append_assoc}
 use Rattle.std.specs.Prelude.{option_and_then, option_map, slice_get, unwrap_or}
 use Rattle.std.specs.Str.{bytes_eq}
@@ -99,7 +99,7 @@ next_item (x ∷ xs) is (suc k) i h =
     (r.0, ap (λ n. drop n (x ∷ xs)) e ∙ r.1)
 
 module _ (schema : Lists) (r : ℕ) where
-  -- each of these names is an item's, whose number is ps it is said
+  -- each of these names is an item's, and P holds of the item's number
   abbrev pub Numbered : (ℕ → Type 0) → List Pair → Type 0
   Numbered P [] = Unit {0}
   Numbered P (a ∷ ps) = (j : ℕ) × (item_named schema r a.0 ≡ Some j) × P j × Numbered P ps
@@ -139,7 +139,7 @@ module _ (schema : Lists) (r : ℕ) where
     pub named_is : (xs : List Labelled) → named role.ItemName (front xs) ≡ named role.ItemName xs
     pub typed : (xs : List Labelled) → has role.TypeName xs ≡ false → has role.RecordName xs ≡ false → type_in schema (front xs) ≡ r
 
-  -- forms that go on with an assignment, its sign, its value, and then ps the first
+  -- forms that go on with an assignment, its sign, its value, and then as the first
   pub record GoRound (f e v : Form) : Type 0 where
     pub kinds : Kind × Kind × Kind
     pub with_item : (n : List ℕ) → bytes_eq n (codes "SUPPRESS") ≡ false → start_with fits (plain n) (starts f) ≡ Some (record { kind = kinds.0; role = role.ItemName; rest = e })

@@ -30,7 +30,7 @@ too_short : wanted_in_line one_type (codes "OPEN AREA") ≡ codes "an area" ∷ 
 unfolding tokens onto into
 too_short = refl
 
--- a line that could end is told so too
+-- a line that could end here: the end is wanted too
 could_end : wanted_in_line one_type (codes "GET =") ≡ codes "a record type" ∷ codes "the line's end" ∷ []
 unfolding tokens onto into
 could_end = refl
@@ -40,7 +40,7 @@ left_over : wanted_in_line one_type (codes "KEEP ALL") ≡ codes "the line's end
 unfolding tokens onto into
 left_over = refl
 
--- where the item is not known yet either is wanted
+-- if the item is not known yet, either is wanted
 a_value : wanted_in_line one_type (codes "FIND SORTED KEY") ≡ codes "a number or a text in double quotes" ∷ []
 unfolding tokens onto into
 a_value = refl

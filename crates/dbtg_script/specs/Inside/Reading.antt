@@ -12,7 +12,7 @@ use Rattle.dbtg_script.specs.Lines.{is_statement}
 use Rattle.dbtg_script.specs.Reading.{faults_at_once}
 use Rattle.dbtg_script.specs.StatementFaults.{lines_faults}
 
--- the first fault of lines behind `count` statements; the first line has this number
+-- the first fault of lines after `count` statements; the first line has this number
 unfoldable pub lines_verdict : Lists → ℕ → ℕ → List (List ℕ) → Option Fault
 lines_verdict schema count number ls = first (lines_faults schema count number ls)
 

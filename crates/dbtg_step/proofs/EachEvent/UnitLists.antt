@@ -10,7 +10,7 @@ use Rattle.dbtg_step.specs.Machine.Machine.{CellLocation, relocated}
 
 -- BY INDEX
 
--- what is found in a list that was written: what was written, or what was there
+-- what is found in a list after a write: what was written, or what was there
 pub found_of : {X : Type 0} (xs : List X) (i j : ℕ) (y z : X) → slice_get (slice_set xs i y) j ≡ Some z → ((j ≡ i) × (y ≡ z)) ⊎ ((j ≢ i) × (slice_get xs j ≡ Some z))
 found_of [] i j y z e = absurd (cc)
 found_of (x ∷ xs) zero zero y z e = inl (refl, cc)
@@ -79,7 +79,7 @@ unfolding unit_at
 map_at f xs zero = refl
 map_at f xs (suc u) = slice_get-map f xs u
 
--- who is written twice has what was written last
+-- a unit that is written twice has what was written last
 pub set_again : {X : Type 0} (xs : List X) (u : ℕ) (y z : X) → with_unit_at (with_unit_at xs u y) u z ≡ with_unit_at xs u z
 unfolding with_unit_at
 set_again xs zero y z = refl

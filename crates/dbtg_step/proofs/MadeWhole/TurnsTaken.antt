@@ -97,7 +97,7 @@ module _ (D : SequentialDatabase) (opening : SequentialState D) where
     ];
   }
 
-  -- a unit that has no statement left, or is not there, has no turn
+  -- a unit that has no statement left, or does not exist, has no turn
   pub no_turn : (u : ℕ) (s : State D) (more : List ℕ) → unwrap_or (unit_at (lefts_of D s) u) 0 ≡ 0 → turns_ahead D s (u ∷ more) ≡ turns_ahead D s more
   unfolding made_turns
   no_turn u s more e = ap (λ k. map (λ (h : HistoryEntry D). h.unit) s.history ++ cond (nat_lt 0 k) (u ∷ made_turns (with_unit_at (lefts_of D s) u (unwrap_or (unit_at (lefts_of D s) u) 0 - 1)) more) (made_turns (lefts_of D s) more)) e
@@ -150,7 +150,7 @@ notes_append a b c ms ns p q = record { limit = q.limit ∙ p.limit; noted = λ 
 
 -- THE PARTS IN A TURN
 
--- unit u is on its way from old to now, through a statement behind which it has n left
+-- unit u is on its way from old to now, through a statement after which it has n left
 pub record OnTheWay (schema : Lists) (capacity u n : ℕ) (old now : Parts) (before after : Noted) : Type 0 where
   pub well : IsWell schema capacity now
   pub count : length now.runners.items ≡ length old.runners.items

@@ -1,4 +1,4 @@
--- With every area and every cell in hand a statement needs nothing more, and what it makes of its cells is its effect on the whole database.
+-- With every area and every cell held, a statement needs nothing more, and what it makes of its cells is its effect on the whole database.
 use Rattle.std.proofs.Common.{ℕ, zero, suc, ◌+◌, ◌-◌, ◌<◌, ◌≡◌, ◌≢◌, ◌^◌, Bool, true, false, cond, not, ◌&&◌, ◌||◌, List, [], ◌∷◌, ◌++◌, length, map, replicate, Option, Some, None, ◌⊎◌, inl, inr, slice_get, slice_set, refl, sym, ap, ◌∙◌, subst, arith}
 use Rattle.std.specs.Prelude.{IfOk, OnErr, Result, Ok, Err, is_some, option_map, if◌then◌else◌, ◌==◌}
 use Rattle.std.specs.List.{list_any, list_all, find, range_with_len}
@@ -66,7 +66,7 @@ none_same : (c : CellName) (cs : List CellName) → ((j : ℕ) (d : CellName) �
 none_same c [] h = refl
 none_same c (d ∷ cs) h = and_from _ _ (same_once c d (name_eq c d) refl (h 0 d refl)) (none_same c cs (λ j e. h (suc j) e))
 
--- where each name stands at one place alone, no two are the same
+-- if each name is at only one place, no two are the same
 pub apart : (cs : List CellName) → ((i j : ℕ) (c : CellName) → slice_get cs i ≡ Some c → slice_get cs j ≡ Some c → i ≡ j) → pairwise (λ c d. not (name_eq c d)) cs ≡ true
 apart [] h = refl
 apart (c ∷ cs) h =
@@ -93,12 +93,12 @@ module _ (schema : Lists) (capacity : ℕ) (hands : Hands) (all : HoldsAll schem
       named_apart hands.cells ∙ ap (pairwise (λ c d. not (name_eq c d))) all.names
       ∙ apart (cells_in_order schema capacity) (λ i j c e f. same_Some i j (sym (numbered_at schema capacity i c e) ∙ numbered_at schema capacity j c f))
 
-  -- every cell of the schema is in hand
+  -- every cell of the schema is held
   cell_held : (c : CellName) → is_cell schema capacity c ≡ true → list_any (λ (e : CellName × Cell). name_eq c e.0) hands.cells ≡ true
   cell_held c h =
       sym (any_mapped (name_eq c) (λ (e : CellName × Cell). e.0) hands.cells) ∙ ap (list_any (name_eq c)) all.names ∙ cell_in_order schema capacity c ∙ h
 
--- one area more is in hand
+-- one area more is held
 pub area_more : (first held more : Hands) (n j : ℕ) → n ≡ j → held ≡ record { areas = first.areas ++ range_with_len 0 n; cells = first.cells; guesses = first.guesses } → more ≡ record { areas = held.areas ++ j ∷ []; cells = held.cells; guesses = held.guesses }
     → more ≡ record { areas = first.areas ++ range_with_len 0 (n + 1); cells = first.cells; guesses = first.guesses }
 area_more first held more n j at e g =
@@ -170,7 +170,7 @@ no_guessed_sets schema unit (Delete option) e = refl
 no_guessed_sets schema unit Keep e = refl
 no_guessed_sets schema unit (Free all) e = refl
 
--- what a statement needs that goes by no guesses does not depend on them
+-- what a statement that goes by no guesses needs does not depend on them
 guesses_apart : (schema : Lists) (capacity : ℕ) (db : Database) (unit : Unit) (areas : List ℕ) (cells : List (CellName × Cell)) (g h : List (Option Owner)) (x : Statement) → goes_by_guesses x ≡ false
     → need schema capacity db unit (record { areas = areas; cells = cells; guesses = g }) x ≡ need schema capacity db unit (record { areas = areas; cells = cells; guesses = h }) x
 unfolding need
@@ -276,7 +276,7 @@ module _ (schema : Lists) (capacity : ℕ) where
     pub made_effect : (db : Database) → IsMadeOn schema capacity db unit mid x (seen answer unit' new) → IsEffect schema capacity db x unit unit' new answer
     made_effect db m = record { answer_is = m.answer_is; unit_is = m.unit_is; cells = agree_made (effect schema capacity db unit x).database new.cells mid.cells m.cells_are }
 
-  -- whether it is made or not, all areas and cells are in hand
+  -- whether it is made or not, all areas and cells are held
   module _ (unit unit' : Unit) (x : Statement) (old mid new : Hands) (guessed : IsGuessed schema capacity unit x old mid) (all : HoldsAll schema capacity old) (db : Database) (agrees : Agrees schema capacity db old unit) where
     mid_all : HoldsAll schema capacity mid
     mid_all = record { areas = ap (λ (h : Hands). h.areas) guessed.rest ∙ all.areas; names = ap (λ (h : Hands). names_of h.cells) guessed.rest ∙ all.names }
@@ -285,7 +285,7 @@ module _ (schema : Lists) (capacity : ℕ) where
     still_all (Ok answer) h g = made_all unit unit' x old mid new answer guessed all db (h db (also_guessed unit unit' x old mid new answer guessed db agrees))
     still_all (Err e) h g = same_names mid new g.cells g.areas mid_all
 
--- the cell in hand of a name shows what the database has of it
+-- the held cell of a name shows what the database has for it
 found_in_hand : (schema : Lists) (capacity : ℕ) (db : Database) (c : CellName) (es : List (CellName × Cell)) → AllAgree schema capacity db es → list_any (λ (e : CellName × Cell). name_eq c e.0) es ≡ true → ShowsCell schema capacity db (λ d. cell_of d es) c
 found_in_hand schema capacity db c [] a h = absurd (false≢true h)
 found_in_hand schema capacity db c (e ∷ es) a h = by (name_eq c e.0) refl (found_in_hand schema capacity db c es a.1)
@@ -329,7 +329,7 @@ module _ (schema : Lists) (capacity : ℕ) (hands : Hands) (units : List Unit) (
   legal : LegalWith schema capacity now.database now.units
   legal = replay_keeps_legal schema capacity (opening_state schema (length units)) history w.sound (opening_is_legal schema capacity (length units)) w.history_of.fitting
 
-  -- the image that is read off the cells in hand
+  -- the image that is read from the held cells
   pub whole_image : image_from schema capacity (λ c. cell_of c hands.cells) ≡ image_of schema capacity now.database
   whole_image = read_is_image schema capacity now.database legal.legal (λ c. cell_of c hands.cells) (λ c h. found_in_hand schema capacity now.database c hands.cells w.cells (cell_held schema capacity hands w.all c h))
 

@@ -52,7 +52,7 @@ at_written P (x ∷ xs) zero v h w (suc j) = w (suc j)
 at_written P (x ∷ xs) (suc i) v h w zero = w zero
 at_written P (x ∷ xs) (suc i) v h w (suc j) = at_written (λ n. P (suc n)) xs i v h (λ n. w (suc n)) j
 
--- an entry for each number, and none behind
+-- an entry for each number, and none after them
 at_number_from : {X : Type 0} (P : ℕ → Option X → Type 0) (f : ℕ → Option X) (a n : ℕ) → ((s : ℕ) → P s (f s)) → ((s : ℕ) → P s None) → (s : ℕ) → P (a + s) (at (map f (range_with_len a n)) s)
 at_number_from P f a zero each none s = none (a + s)
 at_number_from P f a (suc n) each none zero = let e : a ≡ a + 0 = omega arith in subst (λ m. P m (f a)) e (each a)

@@ -1,4 +1,4 @@
--- What the need of a statement says: of the areas and cells of the statement it is the first that isn't held.
+-- What the need of a statement says: it is the first of the statement's areas and cells that isn't held.
 use Rattle.std.proofs.Common.{ℕ, ◌≡◌, Bool, true, false, not, eqb, List, [], ◌∷◌, Option, Some, None, refl, sym, ap, ◌∙◌, subst, inl, inr}
 use Rattle.std.specs.Prelude.{is_some, ◌==◌, if◌then◌else◌}
 use Rattle.std.specs.List.{list_any, find}
@@ -36,7 +36,7 @@ takes_cell g (Take d) c e = let q : d ≡ c = cc in ap Take q
 takes_cell g Stale c e = absurd (cc (e))
 takes_cell g Ready c e = absurd (cc (e))
 
--- of a choice that was made, what decided it
+-- what decided a choice that was made
 pub chose_cell : (g : List (Option Owner)) (r : Bool) (oa : Option ℕ) (oc : Option CellName) (stale : Bool) (c : CellName) →
     next_need_of g (if r then Ready else next_of oa oc stale) ≡ NeedsCell c → (r ≡ false) × (oa ≡ None) × (oc ≡ Some c)
 chose_cell g r oa oc stale c e = chose_take r oa oc stale c (takes_cell g (if r then Ready else next_of oa oc stale) c e)
@@ -75,9 +75,9 @@ module _ (schema : Lists) (capacity : ℕ) (db : Database) (unit : Unit) (x : St
 pub network_names_cells : (schema : Lists) (capacity : ℕ) → NamesCells (network schema capacity)
 network_names_cells schema capacity = record { same_is = same_name; same_self = name_eq_refl; fresh = needed_is_fresh schema capacity }
 
--- the same of what is in hand
+-- the same of what is held
 module _ (schema : Lists) (capacity : ℕ) (db : Database) (unit : Unit) (hands : Hands) (x : Statement) where
-  -- a cell that is needed is one of the statement's, which isn't refused at once, and isn't in hand
+  -- a cell that is needed is one of the statement's, which isn't refused at once, and isn't held
   pub cell_wanted : (c : CellName) → Take c ≡ need schema capacity db unit hands x →
       (is_some (refused_at_once schema capacity unit x) ≡ false) × InKeys c (cells_of schema capacity db unit hands.guesses x) × (list_any (λ (e : CellName × Cell). name_eq c e.0) hands.cells ≡ false)
   unfolding need

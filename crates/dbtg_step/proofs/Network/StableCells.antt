@@ -1,4 +1,4 @@
--- What a statement holds settles which of its cells it takes next, whatever else the database has: all statements but DELETE.
+-- What a statement other than DELETE holds settles which of its cells it takes next, whatever else the database has.
 use Rattle.std.proofs.Common.{◌≡◌, refl, sym, ◌∙◌, ap, subst, ℕ, Bool, true, false, not, ◌&&◌, List, [], ◌∷◌, ◌++◌, map, Option, Some, None, ◌⊎◌, inl, inr}
 use Rattle.std.specs.Prelude.{Result, Err, filter, is_none, option_map, unwrap_or, ◌==◌}
 use Rattle.std.specs.List.{find}
@@ -37,7 +37,7 @@ use Rattle.dbtg_unit.proofs.Public.{find_none_of}
 use Rattle.dbtg_step.specs.Machine.Network.{is_delete}
 use Rattle.dbtg_step.proofs.Network.SameCells.{area_keys_same, free_same, items_same, keyed_same, lists_same, live_same, new_same, taken_same, with_calc_same, with_key}
 
--- where none of the first list passes, what is found behind it counts
+-- if none of the first list passes, what is found after it counts
 find_join : {X : Type 0} (p : X → Bool) (xs ys zs : List X) → (find p xs ≡ None → find p ys ≡ find p zs) → find p (xs ++ ys) ≡ find p (xs ++ zs)
 find_join p [] ys zs h = h refl
 find_join p (x ∷ xs) ys zs h = elim (cases_Bool (p x)) [ inl e ↦ rw e refl | inr e ↦ rw e (find_join p xs ys zs (λ n. h (rw e n))) ]
@@ -57,7 +57,7 @@ module _ (schema : Lists) (capacity : ℕ) (db eb : Database) (ldb : Legal schem
   found_stable : (names : List CellName) (r q : Result DbKey Cause) → (find p names ≡ None → r ≡ q) → find p (names ++ found_slot r) ≡ find p (names ++ found_slot q)
   found_stable names r q h = find_join p names (found_slot r) (found_slot q) (λ n. ap (λ x. find p (found_slot x)) (h n))
 
-  -- of names none of which passes, each cell is alike
+  -- if none of the names passes, each cell is alike
   alike : (names : List CellName) → find p names ≡ None → (c : CellName) → In c names → cell schema capacity db c ≡ cell schema capacity eb c
   alike names n c i = same c (find_none_of p names n c i)
 

@@ -1,4 +1,4 @@
--- A statement that needs nothing more leaves a legal database and changes none but the cells that it holds.
+-- A statement that needs nothing more leaves a legal database and changes only the cells that it holds.
 use Rattle.std.proofs.Common.{◌≡◌, refl, sym, ◌∙◌, subst, ℕ, zero, suc, true, false, not, eqb, ◌||◌, List, [], ◌∷◌, map, Option, Some, None, inl, inr}
 use Rattle.std.specs.Prelude.{is_some, if◌then◌else◌, cond}
 use Rattle.std.specs.List.{list_any, find}
@@ -28,7 +28,7 @@ use Rattle.dbtg_step.specs.Inside.SequentialDatabase.{IsLocal}
 use Rattle.dbtg_step.specs.Machine.Network.{network, holding, next_need_of, noted_owners}
 use Rattle.dbtg_step.proofs.EachEvent.Premises.{StatementsAreLocal}
 
--- CELLS IN HAND
+-- HELD CELLS
 
 -- a cell, without room, that shows a value
 abbrev cell_showing : CellValue → Cell
@@ -55,7 +55,7 @@ all_agree : (schema : Lists) (capacity : ℕ) (db : Database) (cells : List (Hel
 all_agree schema capacity db [] agrees = tt
 all_agree schema capacity db (h ∷ hs) agrees = (shows h.value ∙ agrees h (inl refl), all_agree schema capacity db hs (λ k i. agrees k (inr i)))
 
--- a cell that none of them is called is not in hand
+-- a cell whose name none of them has is not held
 not_in_hand : (schema : Lists) (capacity : ℕ) (cells : List (HeldCell CellName CellValue)) (c : CellName) → NotAmong (network schema capacity) c cells → holds (cells_showing cells) c ≡ false
 not_in_hand schema capacity [] c free = refl
 not_in_hand schema capacity (h ∷ hs) c free =
@@ -73,7 +73,7 @@ needs_nothing guesses Ready e = refl
 -- A STATEMENT THAT NEEDS NOTHING MORE
 
 module _ (schema : Lists) (capacity : ℕ) (sound : IsSound schema) (db : Database) (units : List Unit) (unit : Unit) (x : Statement) where
-  -- of what is held `need` sees names alone
+  -- `need` sees only the names of what is held
   same_need : (guesses : List (Option Owner)) (areas : List ℕ) (cells : List (HeldCell CellName CellValue)) → need schema capacity db unit (record { areas = areas; cells = cells_showing cells; guesses = guesses }) x ≡ need schema capacity db unit (holding guesses areas cells) x
   unfolding need
   same_need guesses areas cells = λ i.

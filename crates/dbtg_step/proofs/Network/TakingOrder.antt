@@ -84,7 +84,7 @@ module _ (schema : Lists) (capacity : ℕ) (unit : Unit) (x : Statement) where
 abbrev has_cell : List (HeldCell CellName CellValue) → CellName → Bool
 has_cell cells c = list_any (λ (e : CellName × Cell). name_eq c e.0) (holding [] [] cells).cells
 
--- of two databases in which the held cells are as they are held, each held cell is alike
+-- each held cell is alike in two databases that have the held cells as they are held
 held_alike : (schema : Lists) (capacity : ℕ) (db eb : Database) (cells : List (HeldCell CellName CellValue)) → Agrees (network schema capacity) db cells → Agrees (network schema capacity) eb cells → (c : CellName) → has_cell cells c ≡ true → cell schema capacity db c ≡ cell schema capacity eb c
 held_alike schema capacity db eb [] a b c h = absurd (false≢true h)
 held_alike schema capacity db eb (k ∷ ks) a b c h = elim (or_cases _ _ h) [

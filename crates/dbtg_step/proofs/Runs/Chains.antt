@@ -1,4 +1,4 @@
--- Who waits for a thing waits below what its holder waits for: among finitely many somebody doesn't wait.
+-- Whoever waits for something waits below what its holder waits for: among finitely many, one doesn't wait.
 use Rattle.dbtg_step.specs.Machine.SequentialDatabase.{unit_at}
 use Rattle.std.proofs.Common.{ℕ, zero, suc, ◌+◌, ◌≡◌, ◌<◌, ◌≤◌, Bool, true, false, List, [], ◌∷◌, Option, Some, None, slice_get, ◌⊎◌, inl, inr, refl, arith}
 

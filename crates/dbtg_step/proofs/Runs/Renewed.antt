@@ -17,7 +17,7 @@ in_either x [] ys i = inr i
 in_either x (y ∷ xs) ys (inl e) = inl (inl e)
 in_either x (y ∷ xs) ys (inr i) = elim (in_either x xs ys i) [ inl j ↦ inl (inr j) | inr j ↦ inr j ]
 
--- one unit written anew, there are as many
+-- with one unit written anew, there are as many units
 pub length_with : {X : Type 0} (xs : List X) (u : ℕ) (x : X) → length (with_unit_at xs u x) ≡ length xs
 unfolding with_unit_at
 length_with xs zero x = refl

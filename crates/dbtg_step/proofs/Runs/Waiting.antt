@@ -225,7 +225,7 @@ module _ (D : SequentialDatabase) (laws : IsSequentialDatabase D) (opening : Seq
   past_cell_of c v state at None is h = absurd h.is_in
   past_cell_of c v state at (Some w) is h = past_cell c v state w at is h.which h.is_in h.name
 
-  -- who waits finds somebody that moves, or waits for more
+  -- a unit that waits finds one that moves, or one that waits for more
   next_unit : (u : ℕ) (state : UnitState D) (r : Wanted D.Cell) → unit_at s.units u ≡ Some state → wanted D below opening s state ≡ Some r → (x : Option (StatementProgress D)) → state.progress ≡ x → SomeUnitMoves D opening s ⊎ Higher (Wanted D.Cell) (is_below D below) AllWanted r
   next_unit u state r at e None is = absurd (wanted_nothing u state r is e)
   next_unit u state r at e (Some w) is = elim (moves_or_waits u state w at is) [

@@ -1,4 +1,4 @@
--- A step of a unit changes that unit alone, and draws at most the ticket of its next statement.
+-- A step of a unit changes only that unit, and draws at most the ticket of its next statement.
 use Rattle.std.proofs.Common.{ℕ, suc, ◌≡◌, Bool, true, false, List, [], ◌∷◌, ◌++◌, Option, Some, None, ◌⊎◌, inl, inr, length, refl, sym, ap, subst, arith}
 use Rattle.std.proofs.lemmas.Option.{same_Some}
 use Rattle.dbtg_step.specs.Machine.SequentialDatabase.{HeldCell, NextNeed, NeedsArea, NeedsCell, StaleGuesses, NeedsNothing, SequentialDatabase, unit_at, with_unit_at}
@@ -22,13 +22,13 @@ module _ (D : SequentialDatabase) (opening : SequentialState D) (s : State D) (u
     pub unit : entry.unit ≡ u
     pub statement : entry.statement ≡ x
 
-  -- the unit alone is changed
+  -- only the unit is changed
   pub record StepsAlone (t : State D) : Type 0 where
     pub new : UnitState D
     pub units : t.units ≡ with_unit_at s.units u new
     pub drawn : ((t.history ≡ s.history) × (new.remaining ≡ state.remaining)) ⊎ DrawsNext new t
 
-  -- by one step, which draws only in mid-statement without a ticket; and who is so after it drew nothing, and was so before it or between statements
+  -- by one step, which draws only in mid-statement without a ticket; a unit in that state after the step drew nothing, and was in it before or between statements
   pub record OneStep (t : State D) : Type 0 where
     pub alone : StepsAlone t
     pub drew : DrawsNext alone.new t → Unticketed D state.progress

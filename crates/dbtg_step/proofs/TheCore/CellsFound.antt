@@ -51,7 +51,7 @@ unfolding unit_at
 numbered xs zero x e = absurd (cc (e))
 numbered xs (suc n) x e = let i : suc n - 1 ≡ n = omega arith in (omega arith, ap (slice_get xs) i ∙ e)
 
--- one of a list is one of it reversed
+-- an element of a list is one of the reversed list
 flipped : {X : Type 0} (x : X) (xs : List X) → In x xs → AmongKeys x xs
 flipped x [] i = i
 flipped x (y ∷ ys) (inl e) = inl (sym e)
@@ -65,7 +65,7 @@ flipped_back x (y ∷ ys) (inr i) = inr (flipped_back x ys i)
 pub in_reversed : {X : Type 0} (x : X) (xs : List X) → In x (reverse xs) → In x xs
 in_reversed x xs i = flipped_back x xs (of_reverse x xs (flipped x (reverse xs) i))
 
--- a held cell is in hand
+-- a held cell is held
 in_hand : (cells : List (CellName × Cell)) (h : HeldCell CellName CellValue) → In h (map held_of cells) → holds cells h.name ≡ true
 in_hand [] h i = absurd i
 in_hand (e ∷ es) h (inl q) =

@@ -37,7 +37,7 @@ use Rattle.dbtg_step.proofs.EachEvent.UnitLists.{map_at}
 abbrev pub core_with : Lists → ℕ → Parts → CoreParts
 core_with schema capacity parts = record { schema = schema; capacity = capacity; table = parts.table.items; history = parts.history.items; runners = parts.runners.items }
 
--- a held cell of the machine is one in hand
+-- a held cell of the machine is one that the core's unit holds
 record FromHand (cells : List (CellName × Cell)) (c : CellName) : Type 0 where
   what : CellName × Cell
   there : In what cells
@@ -116,7 +116,7 @@ module _ (schema : Lists) (capacity : ℕ) (parts : Parts) (well : IsWell schema
         ap (λ es. map (λ (e : Entry). e.statement) (entries_of u es) ++ drop r.next r.script) (sym (entries_again schema capacity parts.history.items))
         ∙ ap (λ xs. xs ++ drop r.next r.script) (statements_same schema capacity u (map note_of parts.history.items)) ∙ lawful_unit.script
 
-    -- a cell in hand is one that the machine's unit holds
+    -- a held cell is one that the machine's unit holds
     held_there : (e : CellName × Cell) → In e r.held.cells → In (held_of e) (held_cells (network schema capacity) (progress_of schema capacity r.held r.progress))
     unfolding held_cells
     held_there e i = by r.progress refl

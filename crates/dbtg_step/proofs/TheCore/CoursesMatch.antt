@@ -1,4 +1,4 @@
--- What is kept of a statement's needs is right: nothing kept always is, and what is kept stays so while more comes to hand.
+-- What is kept of a statement's needs is right: nothing kept always is, and what is kept stays so while more is taken.
 use Rattle.std.proofs.Common.{ℕ, ◌≡◌, Bool, true, false, not, cond, List, [], ◌∷◌, ◌++◌, Option, Some, None, refl, sym, ap, ◌∙◌, true≢false}
 use Rattle.std.specs.Prelude.{is_some, ◌==◌, ◌||◌, if◌then◌else◌}
 use Rattle.std.specs.List.{find, list_any}
@@ -51,7 +51,7 @@ none_left areas areas' more (a ∷ wanted) e = by (list_any (λ b. b == a) areas
         ∙ rest (sym (ap (λ t. cond (not t) (Some a) (find (λ c. not (list_any (λ b. b == c) areas)) wanted)) there) ∙ e)
     by false gone rest = let first : Some a ≡ None = sym (ap (λ t. cond (not t) (Some a) (find (λ c. not (list_any (λ b. b == c) areas)) wanted)) gone) ∙ e in absurd (cc (first))
 
--- what is not in hand now was not before
+-- what is not held now was not before
 not_before : (areas areas' : List ℕ) → ((a : ℕ) → list_any (λ b. b == a) areas ≡ true → list_any (λ b. b == a) areas' ≡ true) → (a : ℕ) → list_any (λ b. b == a) areas' ≡ false → list_any (λ b. b == a) areas ≡ false
 not_before areas areas' more a gone = by (list_any (λ b. b == a) areas) refl
   where
@@ -59,7 +59,7 @@ not_before areas areas' more a gone = by (list_any (λ b. b == a) areas) refl
     by true there = absurd (true≢false (sym (more a there) ∙ gone))
     by false gone = gone
 
--- the first that was left is so still, as long as it is not in hand
+-- the first that was left is so still, as long as it is not held
 next_still : (areas areas' : List ℕ) → ((a : ℕ) → list_any (λ b. b == a) areas ≡ true → list_any (λ b. b == a) areas' ≡ true) → (a : ℕ) → list_any (λ b. b == a) areas' ≡ false → (wanted : List ℕ) → find (λ c. not (list_any (λ b. b == c) areas)) wanted ≡ Some a → find (λ c. not (list_any (λ b. b == c) areas')) wanted ≡ Some a
 next_still areas areas' more a gone [] e = e
 next_still areas areas' more a gone (c ∷ wanted) e = by (list_any (λ b. b == c) areas) refl (next_still areas areas' more a gone wanted)
@@ -88,7 +88,7 @@ module _ (schema : Lists) (capacity : ℕ) (hands : Hands) (unit : Unit) where
     cells_stay (Delete option) course kept = kept_stays schema capacity hands hands' unit option course more.cells kept
     cells_stay _ course kept = tt
 
-    -- more is in hand
+    -- more is held
     pub course_stays : (x : Statement) (course : Option Course) → CourseMatches schema capacity hands unit x course → CourseMatches schema capacity hands' unit x course
     course_stays x None kept = tt
     course_stays x (Some Refused) kept = kept
@@ -103,7 +103,7 @@ module _ (schema : Lists) (capacity : ℕ) (db : Database) (hands : Hands) (unit
   unfolding need
   refused_needs e = sym (ap (λ b. if b then Ready else need_of_cells schema capacity db unit hands x) e)
 
-  -- else the first area
+  -- otherwise the first area
   pub area_needed : (a : ℕ) → refused_at_once schema capacity unit x ≡ None → find (λ b. not (list_any (λ c. c == b) hands.areas)) (areas_in_order schema unit x) ≡ Some a → Area a ≡ need schema capacity db unit hands x
   unfolding need
   area_needed a passes areas =

@@ -108,7 +108,7 @@ over_none : (schema : Lists) (capacity : ℕ) (w : StatementProgress (network sc
 unfolding unless_over
 over_none schema capacity w = refl
 
--- a progress that is over with nothing in hand
+-- a progress that is over with nothing held
 pub while_held_is : (schema : Lists) (capacity : ℕ) (hands : Hands) (w : CoreProgress) → progress_of schema capacity hands (progress_while_held hands.areas hands.cells (Some w)) ≡ unless_over (network schema capacity) (shown_progress schema capacity hands w) (reverse hands.areas) (held_cells_of hands.cells)
 while_held_is schema capacity hands w = by hands.areas hands.cells
   where
@@ -309,7 +309,7 @@ module _ (schema : Lists) (capacity u : ℕ) (old : Parts) (well : IsWell schema
   pub has_statement : (r : CoreUnit) → 0 < u → slice_get old.runners.items (u - 1) ≡ Some r → HasStatement r
   has_statement r numbered at w e t = let m = well.in_turn.each u (unit_state_of schema capacity r) (shown_progress schema capacity r.held w) (found schema capacity u old r well numbered at) (ap (progress_of schema capacity r.held) e) t in left_of_drop r.script r.next m.x m.xs m.remaining
 
--- a unit that stands so stands so with the progress that it has
+-- a unit in this position is in it with the progress that it has
 pub stands_so : {old r : CoreUnit} {p : CoreProgress} (Stands : CoreUnit → CoreProgress → Type 0) → ((x : CoreUnit) (w : CoreProgress) → Stands x w → x.progress ≡ Some w) → old ≡ r
     → (w : CoreProgress) × Stands old w → old.progress ≡ Some p → Stands r p
 stands_so {old} {r} {p} Stands its same stands is =

@@ -142,7 +142,7 @@ module _ (schema : Lists) (capacity u : ℕ) (old : Parts) (r : UnitState) (well
         onward others (sym is ∙ ap (next_need (network schema capacity) (opening_for schema capacity old) (state_of schema capacity old) (unit_state_of schema capacity r) (shown_progress schema capacity r.held w)) (sym same) ∙ stale);
   }
 
-  -- what is kept of its course stays right while more comes to hand
+  -- what is kept of its course stays right while more is taken
   goes_on : (held : Hands) → HasMore r.held held → w.ticket ≡ None → (x : Statement) → slice_get r.script r.next ≡ Some x → CourseMatches schema capacity held r.unit x r.course
   goes_on held more t x is = course_stays schema capacity r.held r.unit held more x r.course ((well.runners (u - 1) r at).course w s.before.progress t x is)
 

@@ -1,4 +1,4 @@
--- The image that is read off the cells of a legal database is the database's.
+-- The image that is read from the cells of a legal database is the database's.
 use Rattle.std.proofs.Common.{◌≡◌, refl, sym, ◌∙◌, ap, ℕ, zero, suc, ◌+◌, ◌<◌, ◌≤◌, Bool, true, false, cond, ◌&&◌, List, [], ◌∷◌, ◌++◌, length, map, Option, Some, None, arith, eqb, inl, inr, append-nil}
 use Rattle.std.specs.Prelude.{filter, is_some, nat_le, nat_lt, option_map, unwrap_or}
 use Rattle.std.specs.List.{flat_map, range_with_len}

@@ -1,4 +1,4 @@
--- What a statement needs next is above what it has in hand, where that was taken in turn.
+-- What a statement needs next is above what it holds, if that was taken in turn.
 use Rattle.std.proofs.Common.{ℕ, ◌≡◌, List, [], ◌∷◌, map, reverse, refl, sym, ap, ◌∙◌, subst, inl}
 use Rattle.std.specs.Prelude.{Result, IfOk}
 use Rattle.std.proofs.lemmas.List.{reverse-reverse}

@@ -47,7 +47,7 @@ use Rattle.dbtg_step.proofs.Runs.Ordered.{ordered}
 use Rattle.dbtg_step.proofs.Runs.Waiting.{exclusive_moves}
 use Rattle.dbtg_step.proofs.EachEvent.UnitLists.{set_same_at}
 
--- with all areas in hand none is needed
+-- with all areas held none is needed
 no_area_needed : (schema : Lists) (capacity : ℕ) (db : Database) (unit : Unit) (hands : Hands) (x : Statement) → HasItsAreas schema unit hands x → (others : List (Option Owner)) (a : ℕ) → next_need_of others (need schema capacity db unit hands x) ≡ NeedsArea a → ⊥
 unfolding need
 no_area_needed schema capacity db unit hands x has others a e =
@@ -136,7 +136,7 @@ module _ (schema : Lists) (capacity u : ℕ) (old : Parts) (r : UnitState) (well
       let exists = needed_is_cell schema capacity well.sound (opening_for schema capacity old) (state_of schema capacity old) well.lawful u (unit_state_of schema capacity r) (shown_progress schema capacity r.held w) x.0 (drop (suc r.next) r.script) c here (well.guesses u (unit_state_of schema capacity r) here) (drop_found r.script r.next x.0 x.1) (needs r x.0 at x.1).is in
       false≢true (sym (ap is_some e) ∙ (has_number schema capacity c ∙ exists))
 
-  -- and isn't in hand
+  -- and isn't held
   pub needed_is_free : (c : CellName) → NeedsNext schema capacity old u w (Take c) → list_any (λ (e : CellName × Cell). name_eq c e.0) r.held.cells ≡ false
   needed_is_free c needs =
       let x = statement schema capacity u old r well numbered at w s in

@@ -69,7 +69,7 @@ pub in_back : {X : Type 0} (x : X) (xs : List X) → In x (xs ++ x ∷ [])
 in_back x [] = inl refl
 in_back x (y ∷ xs) = inr (in_back x xs)
 
--- an element is one of the list turned round
+-- an element of a list is one of the reversed list
 pub in_reverse : {X : Type 0} (x : X) (xs : List X) → In x xs → In x (reverse xs)
 in_reverse x [] i = absurd i
 in_reverse {X} x (y ∷ xs) (inl e) = subst (λ (z : List X). In x z) (sym (reverse-append (y ∷ []) xs)) (subst (λ (z : X). In x (reverse xs ++ z ∷ [])) e (in_back x (reverse xs)))
@@ -93,7 +93,7 @@ module _ (schema : Lists) (capacity : ℕ) (db : Database) (unit : Unit) (x : St
       ∙ any_reverse (λ (h : HeldCell CellName CellValue). name_eq c h.name) (map held_of hands.cells)
       ∙ any_mapped (λ (h : HeldCell CellName CellValue). name_eq c h.name) held_of hands.cells
 
-  -- the order in which areas and cells stand in hand, and what is in the cells, is nothing to the need
+  -- the need depends neither on the order in which areas and cells are held nor on what is in the cells
   pub need_of_holding : need schema capacity db unit (holding hands.guesses (reverse hands.areas) (held_cells_of hands.cells)) x ≡ need schema capacity db unit hands x
   unfolding need
   need_of_holding = λ i.
@@ -155,7 +155,7 @@ module _ (schema : Lists) (capacity u : ℕ) (parts : Parts) (r : UnitState) (we
   pub unit_in : IsUnitIn schema capacity database_now u r.unit
   unit_in = each_unit (replay (network schema capacity) (opening_for schema capacity parts) (state_of schema capacity parts).history).units well.lawful.legal u here_is
 
-  -- the cells in hand are the database's
+  -- the held cells are the database's
   pub agrees_now : Agrees schema capacity database_now r.held r.unit
   unfolding held_cells state_from
   agrees_now = record {
@@ -178,7 +178,7 @@ module _ (schema : Lists) (capacity u : ℕ) (parts : Parts) (r : UnitState) (we
       by None e = ap (pairwise (λ (e f : CellName × Cell). not (name_eq e.0 f.0))) ((well.runners (u - 1) r there).settled e).1
       by (Some w) e = once_of_distinct schema capacity r.held.cells (subst (λ o. AreDistinct (network schema capacity) (held_cells (network schema capacity) (progress_of schema capacity r.held o))) e (well.lawful.each u (unit_state_of schema capacity r) (found schema capacity u parts r well numbered there)).holding.distinct)
 
-  -- the table has a place for each cell in hand
+  -- the table has a place for each held cell
   pub have_places : HavePlaces schema capacity r.held.cells parts.table.items
   unfolding held_cells state_from
   have_places f i = by r.progress refl

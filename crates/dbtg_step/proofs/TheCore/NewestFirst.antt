@@ -25,7 +25,7 @@ first_of_reverse (x ∷ xs) =
 abbrev pub newest : Option ℕ → Option CellName → Newest
 newest area cell = record { area = area; cell = cell }
 
--- the last of the cells in hand is the machine's first, under its name
+-- the last of the held cells is the machine's first, under its name
 pub newest_cell : (cells : List (CellName × Cell))
     → option_map (λ (e : CellName × Cell). e.0) (slice_get cells (length cells - 1)) ≡ option_map (λ (h : HeldCell CellName CellValue). h.name) (slice_get (held_cells_of cells) 0)
 newest_cell cells =

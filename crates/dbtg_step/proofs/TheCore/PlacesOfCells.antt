@@ -96,7 +96,7 @@ module _ (schema : Lists) (capacity : ℕ) where
       let units = map_set (unit_state_of schema capacity) runners u new ∙ ap (with_unit_at (map (unit_state_of schema capacity) runners) u) e in
       λ i. record { location = p i; history = map note_of history; counter = length history; units = units i }
 
--- a list with one behind, reversed
+-- a list with one more at the end, reversed
 pub held_behind : (es : List (CellName × Cell)) (e : CellName × Cell) → held_cells_of (es ++ e ∷ []) ≡ held_of e ∷ held_cells_of es
 held_behind es e = ap reverse (mapped es) ∙ reverse-append (map held_of es) (held_of e ∷ [])
   where

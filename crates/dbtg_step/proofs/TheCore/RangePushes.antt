@@ -26,7 +26,7 @@ pub map_pushed : {X : Type 0} (f : ℕ → X) (a n j : ℕ) → a + n ≡ j → 
 map_pushed f a n j at x old new e g is =
     g ∙ (λ i. e i ++ is i ∷ []) ∙ sym (ap (map f) (range_push a n j at) ∙ map-append f (range_with_len a n) (j ∷ []))
 
--- one more element, behind what was there
+-- one more element, after what was there
 pub map_pushed_behind : {X : Type 0} (f : ℕ → X) (a n j : ℕ) → a + n ≡ j → (x : X) (before old new : List X) → old ≡ before ++ map f (range_with_len a n) → new ≡ old ++ x ∷ [] → x ≡ f j → new ≡ before ++ map f (range_with_len a (n + 1))
 map_pushed_behind f a n j at x before old new e g is =
     g ∙ (λ i. e i ++ is i ∷ []) ∙ append_assoc before (map f (range_with_len a n)) (f j ∷ [])

@@ -59,7 +59,7 @@ quit_made old new u NoMemory h = absurd h
 
 -- ONE MOVE AFTER ANOTHER
 
--- from the first state on, of all moves these are left, and those before them came to these results
+-- from the first state on, these moves are left, and those before them came to these results
 pub record IsUnderWay (first now : CoreState) (before : List Stepped) (left moves : List Move) : Type 0 where
   pub state : State (network first.schema first.capacity)
   pub now_is : now ≡ with_state first state

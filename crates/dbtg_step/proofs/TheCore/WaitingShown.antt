@@ -1,4 +1,4 @@
--- What a unit waits for, and who has it in hand, is what the machine says.
+-- What a unit waits for, and who holds it, is what the machine says.
 use Rattle.std.proofs.Common.{ℕ, zero, suc, ◌+◌, ◌≡◌, ◌≢◌, ◌<◌, ◌-◌, cond, Bool, true, false, not, ◌&&◌, ◌||◌, List, [], ◌∷◌, Option, Some, None, drop, take, map, length, slice_get, refl, sym, ap, ◌∙◌, inl, inr, arith}
 use Rattle.std.specs.Prelude.{◌⊎◌, ◌==◌, if◌then◌else◌, is_some, option_map}
 use Rattle.std.specs.List.{list_any}

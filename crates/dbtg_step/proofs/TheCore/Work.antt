@@ -52,7 +52,7 @@ pub record Rests (schema : Lists) (capacity : ℕ) (state : UnitState (network s
   pub between : state.progress ≡ None
   pub ended : state.remaining ≡ []
 
--- unit u is at work on its next statement, behind which it has n left
+-- unit u is at work on its next statement, after which it has n left
 pub record IsAlone (schema : Lists) (capacity u n : ℕ) (s : State (network schema capacity)) : Type 0 where
   pub work : IsAtWork schema capacity u s
   pub few : length work.state.remaining ≤ suc n
@@ -86,7 +86,7 @@ module _ (schema : Lists) (capacity : ℕ) where
   -- HOW MUCH IS LEFT, until the unit is between statements with n of them left
 
   module _ (n : ℕ) where
-    -- of a statement that has not begun, where it is to be made
+    -- a statement that has not begun, if it is to be made
     abbrev to_begin : Database → Unit → Guesses → List Statement → ℕ
     to_begin db unit g [] = 0
     to_begin db unit g (x ∷ xs) = cond (leb n (length xs)) (4 + 3 * needs_left schema capacity db unit x g [] []) 0
@@ -103,7 +103,7 @@ module _ (schema : Lists) (capacity : ℕ) where
     behind true [] = 5
     behind _ cells = 0
 
-    -- of a statement before its ticket: its needs, and then the links and the ways back of what is held
+    -- a statement before its ticket: its needs, then the links of held cells, and giving back what is held
     abbrev to_draw : Database → Unit → Guesses → Statement → List ℕ → Bool → Held → ℕ
     to_draw db unit g x areas turning cells = 3 + 3 * needs_left schema capacity db unit x g areas (cond turning [] cells) + 2 * length cells + length areas + behind turning cells
 
@@ -192,7 +192,7 @@ module _ (schema : Lists) (capacity : ℕ) where
           now_ends : work_of db a.state ≡ to_end w.linked w.areas w.cells + rest
           now_ends = now_in ∙ ap (λ o. in_work db a.state.unit a.state.guesses w o a.state.remaining) has
 
-          -- of a progress with the ticket
+          -- a progress with the ticket
           staged : (v : W) → v.ticket ≡ Some t → work_by db a.state.unit a.state.guesses (Some v) a.state.remaining ≡ to_end v.linked v.areas v.cells + rest
           staged v e = ap (λ o. in_work db a.state.unit a.state.guesses v o a.state.remaining) e
 
@@ -362,7 +362,7 @@ module _ (schema : Lists) (capacity : ℕ) where
   work_left opening s u = turn_left (statements_left s u - 1) opening s u
 
   module _ (sound : IsSound schema) (opening : SequentialState (network schema capacity)) (s : M) (l : Lawful (network schema capacity) opening s) (u : ℕ) (a : IsAtWork schema capacity u s) where
-    -- an event of the unit, after which fewer statements are left, or as many and less of them
+    -- an event of the unit, after which fewer statements are left, or as many with less to do
     pub record GoesOn : Type 0 where
       pub after : M
       pub moves : step (network schema capacity) opening s u ≡ MovedTo after

@@ -77,7 +77,7 @@ machine_need schema capacity parts r x w =
     let D = network schema capacity in
     next_need D (opening_for schema capacity parts) (state_of schema capacity parts) (unit_state_of schema capacity r) (shown_progress schema capacity r.held w) x
 
--- the guesses with which this runner goes on that turns back with the statement x
+-- the guesses with which this runner goes on when it turns back with the statement x
 abbrev pub noted_now : (schema : Lists) (capacity : ℕ) → Parts → CoreUnit → Statement → List (Option Owner)
 noted_now schema capacity parts r x = noted_owners schema capacity (database_of schema capacity parts) r.unit x r.held.guesses
 

@@ -2,7 +2,7 @@
 use Rattle.std.specs.Prelude.{ℕ, ◌≡◌, List}
 use Rattle.dbtg_step.specs.Machine.SequentialDatabase.{Agrees, HeldCells, In, MayMake, NamesCells, NeedsCell, NeedsNothing, NotAmong, SequentialDatabase, with_unit_at}
 
--- a statement leaves the database legal and changes held cells alone
+-- a statement leaves the database legal and changes only held cells
 pub record IsLocal (D : SequentialDatabase) (db : D.Db) (units : List D.Unit) (u : ℕ) (unit : D.Unit) (x : D.Statement) (cells : HeldCells D) : Type 0 where
   pub legal : D.Legal (D.effect db unit x).database (with_unit_at units u (D.effect db unit x).unit)
   pub others : (c : D.Cell) → NotAmong D c cells → D.cell (D.effect db unit x).database c ≡ D.cell db c

@@ -23,7 +23,7 @@ use Rattle.dbtg_unit.specs.Database.State.LegalWith.{LegalWith}
 use Rattle.dbtg_unit.specs.Hands.Needs.{need, stale_owners}
 use Rattle.dbtg_step.specs.Machine.SequentialDatabase.{HeldCell, NextNeed, NeedsArea, NeedsCell, StaleGuesses, NeedsNothing, Effect, SequentialDatabase}
 
--- what a unit holds, for `need`, which looks at the names of cells alone
+-- what a unit holds, for `need`, which looks only at the names of cells
 abbrev pub holding : List (Option Owner) → List ℕ → List (HeldCell CellName CellValue) → Hands
 holding guesses areas cells = record { areas = areas; cells = map (λ h. (h.name, SlotCell None)) cells; guesses = guesses }
 
