@@ -21,11 +21,11 @@ use Rattle.dbtg_command.proofs.Public.{all_accepted, read_texts}
 pub stands_for : (lists : Lists) (capacity : ℕ) (scripts : List (List Statement)) (turns : List ℕ) (moves said : List Move) (given : Run) → said ≡ moves → IsRunByTurns lists capacity scripts turns moves given → StandFor lists capacity scripts turns said
 stands_for lists capacity scripts turns moves said given e run = (given, subst (λ ms. IsRunByTurns lists capacity scripts turns ms given) (sym e) run)
 
-pictures : (holds : TextPlace → List ℕ → Type 0) (lists : Lists) (count : ℕ) (order : Order (List ℕ)) (first : Bool) (form : Form) (capacity : ℕ) (out : List ℕ)
+picture_is_made : (holds : TextPlace → List ℕ → Type 0) (lists : Lists) (count : ℕ) (order : Order (List ℕ)) (first : Bool) (form : Form) (capacity : ℕ) (out : List ℕ)
     → is_count count ≡ true → ReadSchema holds lists → (scripts : ReadScripts holds lists count) → HoldsOrder holds order → AcceptsOrder order
     → IsPictured lists capacity (map (script lists) scripts.texts) scripts.texts form (AreInOrder first lists capacity (map (script lists) scripts.texts) order) out
     → TimelineHeld holds count (kind_of order) first capacity form out
-pictures holds lists count order first form capacity out right read scripts held accepted pictured = (
+picture_is_made holds lists count order first form capacity out right read scripts held accepted pictured = (
   read_texts holds lists count read scripts order held,
   record {
     count = ap is_count scripts.many ∙ right;
@@ -41,7 +41,7 @@ module _ (holds : TextPlace → List ℕ → Type 0) (lists : Lists) (count capa
   pictures_in : (order : Order (List ℕ)) → HoldsOrder holds order → AcceptsOrder order → IsPictured lists capacity statements texts form (AreInOrder first lists capacity statements order) out → TimelineHeld holds count (kind_of order) first capacity form out
   pictures_in order held accepted pictured =
       let of_all = subst (λ ss. IsPictured lists capacity ss texts form (AreInOrder first lists capacity ss order) out) same pictured in
-      pictures holds lists count order first form capacity out right read scripts held accepted
+      picture_is_made holds lists count order first form capacity out right read scripts held accepted
       (subst (λ ts. IsPictured lists capacity (map (script lists) scripts.texts) ts form (AreInOrder first lists capacity (map (script lists) scripts.texts) order) out) are of_all)
 
   pub pictures_serially : (turns : List ℕ) → turns ≡ first_turns first statements ++ serial_turns 1 statements → IsPictured lists capacity statements texts form (StandFor lists capacity statements turns) out

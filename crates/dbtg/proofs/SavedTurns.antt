@@ -21,11 +21,11 @@ use Rattle.dbtg_replay.proofs.Public.{made_again_behind}
 use Rattle.dbtg.specs.Threading.{IsHistoryOfAll, IsPrintedOnThreads, ThreadsHeld}
 use Rattle.dbtg_running.specs.Threading.{audit_line}
 
-begins : (lists : Lists) (capacity : ℕ) (scripts : List (List Statement)) (history : List Entry) (image : Image) (units : List Unit) → IsHistoryOfAll lists capacity scripts history image units
+history_begins : (lists : Lists) (capacity : ℕ) (scripts : List (List Statement)) (history : List Entry) (image : Image) (units : List Unit) → IsHistoryOfAll lists capacity scripts history image units
     → (u : ℕ) (script : List Statement) → unit_at scripts u ≡ Some script → (left : List Statement) × (map (λ (e : Entry). e.statement) (entries_of u history) ++ left ≡ script)
 unfolding unit_at
-begins lists capacity scripts history image units all zero script at = absurd (cc (at))
-begins lists capacity scripts history image units all (suc k) script at =
+history_begins lists capacity scripts history image units all zero script at = absurd (cc (at))
+history_begins lists capacity scripts history image units all (suc k) script at =
     let own = all.own k script at in
     let number : k + 1 ≡ suc k = omega arith in
     (own.left, ap (λ n. map (λ (e : Entry). e.statement) (entries_of n history) ++ own.left) (sym number) ∙ sym own.script_is)
@@ -36,7 +36,7 @@ sequential lists capacity scripts history image units all = record {
   answers = all.leads.history_of.answers_hold;
   image_is = all.leads.image_is;
   units_are = all.leads.units_are;
-  scripts_begin = begins lists capacity scripts history image units all;
+  scripts_begin = history_begins lists capacity scripts history image units all;
 }
 
 saved_again : (first : Bool) (form : AnswerForm) (text : List ℕ) (scripts : List (List ℕ)) (capacity : ℕ) (out turns : List ℕ) → is_count (length scripts) ≡ true → AcceptsTexts text scripts

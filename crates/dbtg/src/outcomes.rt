@@ -13,7 +13,7 @@ ghost use Rattle.dbtg_command.specs.Sources.{ReadSchema};
 ghost use Rattle.dbtg_command.specs.declared.fault.Fault.TheVariants.{Memory, MovesOver};
 ghost use Rattle.dbtg_command.specs.declared.order.OrderKind.TheVariants.{Serial};
 
-use dbtg_command::{Fault, Source, copy_scripts};
+use dbtg_command::{Fault, Source, copy_each_script};
 use dbtg_outcomes::{
     Answered, Meeting, OneResult, Outcomes, Stop, Told, Watch, all_outcomes, none_before,
     push_shown,
@@ -225,7 +225,7 @@ fn push_result(
     ensures done { OnOk result (IsShown meeting.now number one.now out.old.items out.new.items showing.old showing.new) }
     ensures refused { IfErr result (λ fault. (fault ≡ Memory) ⊎ ((fault ≡ MovesOver) × IsLong meeting.now one.now)) }
 {
-    let copies = copy_scripts(alloc, meeting.scripts)?;
+    let copies = copy_each_script(alloc, meeting.scripts)?;
     let mut turned = run_turns(
         alloc,
         meeting.schema,

@@ -16,7 +16,7 @@ ghost use Rattle.dbtg_command.specs.Sources.{ReadSchema, ToldOfRun};
 ghost use Rattle.dbtg_command.specs.declared.order.Order.TheVariants as by;
 ghost use Rattle.dbtg_command.specs.declared.order.OrderKind.TheVariants.{Serial};
 
-use dbtg_command::{AtHand, Fault, Order, Source, copy_scripts};
+use dbtg_command::{AtHand, Fault, Order, Source, copy_each_script};
 use dbtg_replay::replay::{AnswerForm, Shown, push_given, schema_for_run};
 use dbtg_replay::{Scripts, first_turns, read_scripts_with_texts, units_in_turn};
 use dbtg_run::{Database, NoGate, RunUnit, Settled, Unsettled, run_script, run_units};
@@ -143,7 +143,7 @@ fn make_first<R: Wait>(
     let ran = run_script(rt, alloc, db, &mut unit, script.as_slice(), &NoGate);
     units.push_reserved(unit);
     ran?;
-    let mut left = copy_scripts(alloc, others)?.into_vec();
+    let mut left = copy_each_script(alloc, others)?.into_vec();
     left.push(Row::of(Vec::new(alloc)))?;
     Ok(left)
 }

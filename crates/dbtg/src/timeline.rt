@@ -9,7 +9,7 @@ ghost use Rattle.dbtg_command.specs.Refusals.{is_count};
 ghost use Rattle.dbtg_command.specs.Sources.{ReadSchema, ToldOfRun};
 
 use dbtg_command::explain::CAUSES;
-use dbtg_command::{Fault, OrderKind, Source, copy_scripts, read_moves, read_turns};
+use dbtg_command::{Fault, OrderKind, Source, copy_each_script, read_moves, read_turns};
 use dbtg_page::{Told, page_text};
 use dbtg_replay::replay::schema_for_run;
 use dbtg_replay::{
@@ -128,7 +128,7 @@ fn picture_of_turns(
     requires fit { scripts_fit schema.now scripts.statements ≡ true }
     ensures { IfOk result (λ out. IsPictured schema.now capacity scripts.statements scripts.texts form (StandFor schema.now capacity scripts.statements turns.now) out.items) }
 {
-    let copies = copy_scripts(alloc, scripts.statements.as_slice())?;
+    let copies = copy_each_script(alloc, scripts.statements.as_slice())?;
     let moves = moves_of_turns(alloc, schema, capacity, copies, turns)?;
     picture_of_moves(alloc, schema, capacity, scripts, form, moves.as_slice())
 }

@@ -180,7 +180,7 @@ module _ (schema : Lists) (capacity : ℕ) where
 -- a layout with the numbers of the first cells of each kind puts each cell at its number
 pub laid_out : (schema : Lists) (capacity : ℕ) (layout : Layout) → layout.areas ≡ length schema.areas → layout.capacity ≡ capacity
     → layout.first_slot ≡ length schema.areas + length schema.types + length (rings schema capacity)
-    → ((s : ℕ) → s < length schema.sets → get_or layout.first_rings s 0 ≡ length schema.areas + length schema.types + length (flat_map (rings_of schema capacity) (range_with_len 0 s)))
+    → ((s : ℕ) → s < length schema.sets → get_or layout.ring_starts s 0 ≡ length schema.areas + length schema.types + length (flat_map (rings_of schema capacity) (range_with_len 0 s)))
     → IsLayoutOf schema capacity layout
 laid_out schema capacity layout areas wide slot firsts c n e = at c (sym (has_number schema capacity c) ∙ ap is_some e) e
   where

@@ -119,10 +119,10 @@ in_front_is ns zero = refl
 in_front_is ns (suc n) = refl
 
 -- a ring after a node came in at a place or went from it, and the list that is read then
-pub record Stands (find : DbKey → Option ℕ) (s : Slots) (first last : Option ℕ) (len : ℕ) (list : List Entry) (order : OrderView) (known : SortFacts) : Type 0 where
+pub record Stands (find : DbKey → Option ℕ) (s : Slots) (first last : Option ℕ) (len : ℕ) (list : List Entry) (order : OrderView) (noted : SortFacts) : Type 0 where
   pub ring : IsRing find s first last len
   pub list_is : follow len s first ≡ list
-  pub ordered : IsOrderOf find ring.chain order known
+  pub ordered : IsOrderOf find ring.chain order noted
 
 first_place : (es : List Link) → slice_get (places es) 0 ≡ head_at es None
 first_place [] = refl
@@ -137,18 +137,18 @@ last_place p (e ∷ es) = beside (length es) ∙ last_place (Some e.at) es
     beside (suc n) = refl
 
 -- the ends of the list are those of the order, and it has as many members
-pub by_order : (find : DbKey → Option ℕ) (s : Slots) (first last : Option ℕ) (len : ℕ) (list : List Entry) (order : OrderView) (known : SortFacts) → Stands find s first last len list order known → Stands find s (slice_get order.nodes 0) (last_node order.nodes) (length order.nodes) list order known
-by_order find s first last len list order known S =
+pub by_order : (find : DbKey → Option ℕ) (s : Slots) (first last : Option ℕ) (len : ℕ) (list : List Entry) (order : OrderView) (noted : SortFacts) → Stands find s first last len list order noted → Stands find s (slice_get order.nodes 0) (last_node order.nodes) (length order.nodes) list order noted
+by_order find s first last len list order noted S =
     let es = S.ring.chain in
     let is = sym S.ordered.listed in
     let starts : first ≡ slice_get order.nodes 0 = S.ring.starts ∙ sym (first_place es) ∙ ap (λ ns. slice_get ns 0) is in
     let ends : last ≡ last_node order.nodes = S.ring.ends ∙ sym (last_place None es) ∙ ap (before_place None (places es)) (sym (length-map es (λ e. e.at))) ∙ sym (in_front_is (places es) (length (places es))) ∙ ap last_node is in
     let count : len ≡ length order.nodes = S.ring.counted ∙ sym (length-map es (λ e. e.at)) ∙ ap length is in
-    subst (λ n. Stands find s (slice_get order.nodes 0) (last_node order.nodes) n list order known) count
-    (subst (λ l. Stands find s (slice_get order.nodes 0) l len list order known) ends
-    (subst (λ f. Stands find s f last len list order known) starts S))
+    subst (λ n. Stands find s (slice_get order.nodes 0) (last_node order.nodes) n list order noted) count
+    (subst (λ l. Stands find s (slice_get order.nodes 0) l len list order noted) ends
+    (subst (λ f. Stands find s f last len list order noted) starts S))
 
-module _ (find : DbKey → Option ℕ) (s : Slots) (first last : Option ℕ) (len : ℕ) (R : IsRing find s first last len) (order : OrderView) (known : SortFacts) (O : IsOrderOf find R.chain order known) where
+module _ (find : DbKey → Option ℕ) (s : Slots) (first last : Option ℕ) (len : ℕ) (R : IsRing find s first last len) (order : OrderView) (noted : SortFacts) (O : IsOrderOf find R.chain order noted) where
   pub count_of_places : length order.nodes ≡ length (members R.chain)
   count_of_places = ap length O.listed ∙ length-map R.chain (λ e. e.at) ∙ sym (length-map R.chain (λ e. e.member))
 
@@ -179,9 +179,9 @@ module _ (find : DbKey → Option ℕ) (s : Slots) (first last : Option ℕ) (le
 
       pub come_in : (p q : Option ℕ) → p ≡ node_in_front order.nodes n → q ≡ slice_get order.nodes n
           → (s' : Slots) → s' ≡ linked_in at m p q s → (order' : OrderView) → order'.nodes ≡ insert order.nodes n at → order'.room ≡ order.room
-          → (known' : SortFacts) → Holds known' (insert (members R.chain) n m)
-          → Stands find s' (slice_get order'.nodes 0) (last_node order'.nodes) (length order'.nodes) (insert (members R.chain) n m) order' known'
-      come_in p q is_p is_q s' is_s order' is_nodes is_room known' holds =
+          → (noted' : SortFacts) → Holds noted' (insert (members R.chain) n m)
+          → Stands find s' (slice_get order'.nodes 0) (last_node order'.nodes) (length order'.nodes) (insert (members R.chain) n m) order' noted'
+      come_in p q is_p is_q s' is_s order' is_nodes is_room noted' holds =
           let r = reserved_at find s first last len R m.0 room at found in
           let c = cut_here in
           let e : Link = record { at = at; member = m } in
@@ -191,16 +191,16 @@ module _ (find : DbKey → Option ℕ) (s : Slots) (first last : Option ℕ) (le
           ∙ ap (λ ms. insert ms n m) (map-append (λ e. e.member) c.front c.back)
           ∙ insert_at (members c.front) (members c.back) m n (c.count ∙ sym (length-map c.front (λ e. e.member)))
           ∙ sym (map-append (λ e. e.member) c.front (e ∷ c.back)) in
-          let placed : Stands find (linked_in at m (last_at None c.front) (head_at c.back None) s) (end_or (last_at None c.front) (Some at) first) (end_or (head_at c.back None) (Some at) last) (len + 1) (insert (members R.chain) n m) order' known' = record {
+          let placed : Stands find (linked_in at m (last_at None c.front) (head_at c.back None) s) (end_or (last_at None c.front) (Some at) first) (end_or (head_at c.back None) (Some at) last) (len + 1) (insert (members R.chain) n m) order' noted' = record {
             ring = j.0;
             list_is = listed find _ _ _ _ j.0 ∙ ap members j.1 ∙ sym here;
             ordered = record {
               listed = is_nodes ∙ ap (λ ns. insert ns n at) (O.listed ∙ ap places c.whole) ∙ places_with c.front e c.back n c.count ∙ ap places (sym j.1);
               room = λ k i h. subst (λ more. i < more) (sym is_room) (O.room k i h);
-              keeps = subst (Holds known') (here ∙ ap members (sym j.1)) holds;
+              keeps = subst (Holds noted') (here ∙ ap members (sym j.1)) holds;
             };
           } in
-          rw (is_s, is_p ∙ prior_is, is_q ∙ next_is) (by_order find _ _ _ _ _ order' known' placed)
+          rw (is_s, is_p ∙ prior_is, is_q ∙ next_is) (by_order find _ _ _ _ _ order' noted' placed)
 
   -- a node goes out
   module _ (a : List Link) (e : Link) (b : List Link) (split : R.chain ≡ a ++ e ∷ b) where
@@ -213,22 +213,22 @@ module _ (find : DbKey → Option ℕ) (s : Slots) (first last : Option ℕ) (le
     pub go_out : (p q : Option ℕ) → p ≡ last_at None a → q ≡ head_at b None → (x : ℕ) → x ≡ e.at
         → (s' : Slots) → s' ≡ linked_out x p q s
         → (n : ℕ) → slice_get order.nodes n ≡ Some x → (order' : OrderView) → order'.nodes ≡ remove order.nodes n → order'.room ≡ order.room
-        → Holds known (members (a ++ b))
-        → Stands find s' (slice_get order'.nodes 0) (last_node order'.nodes) (length order'.nodes) (members a ++ members b) order' known
+        → Holds noted (members (a ++ b))
+        → Stands find s' (slice_get order'.nodes 0) (last_node order'.nodes) (length order'.nodes) (members a ++ members b) order' noted
     go_out p q is_p is_q x is_x s' is_s n at order' is_nodes is_room keeps =
         let fewer : length (a ++ b) + 1 ≡ len = omega (arith, R.counted, ap length split, length-append a b, length-append a (e ∷ b)) in
         let j = parted find s first last len R a e b split (length (a ++ b)) fewer in
         let place = place_there n (at ∙ ap Some is_x) in
-        let less : Stands find (linked_out e.at (last_at None a) (head_at b None) s) (end_or (last_at None a) (head_at b None) first) (end_or (head_at b None) (last_at None a) last) (length (a ++ b)) (members a ++ members b) order' known = record {
+        let less : Stands find (linked_out e.at (last_at None a) (head_at b None) s) (end_or (last_at None a) (head_at b None) first) (end_or (head_at b None) (last_at None a) last) (length (a ++ b)) (members a ++ members b) order' noted = record {
           ring = j.0;
           list_is = listed find _ _ _ _ j.0 ∙ ap members j.1 ∙ map-append (λ e. e.member) a b;
           ordered = record {
             listed = is_nodes ∙ ap (λ ns. remove ns n) (O.listed ∙ ap places split) ∙ ap (remove (places (a ++ e ∷ b))) place ∙ places_without a e b ∙ ap places (sym j.1);
             room = λ k i h. subst (λ more. i < more) (sym is_room) (O.room k i h);
-            keeps = subst (λ es. Holds known (members es)) (sym j.1) keeps;
+            keeps = subst (λ es. Holds noted (members es)) (sym j.1) keeps;
           };
         } in
-        rw (is_s, is_p, is_q, is_x) (by_order find _ _ _ _ _ order' known less)
+        rw (is_s, is_p, is_q, is_x) (by_order find _ _ _ _ _ order' noted less)
 
 -- where no type is named, all count
 pub all_of_any_type : (ks : List DbKey) → ks ≡ filter (has_type None) ks
@@ -257,10 +257,10 @@ all_of_type t (e ∷ ms) h =
     rw here (ap (λ l. e.0 ∷ l) (all_of_type t ms (and_parts _ _ h).1))
 
 -- what is known holds of fewer
-pub holds_around : (known : SortFacts) (m : Entry) (front back : List Entry) → Holds known (front ++ m ∷ back) → Holds known (front ++ back)
-holds_around known m front back h = record {
-  sorted = keeps_around known.sorted m front back h.sorted;
-  types = all_around (λ e. has_type known.rtype e.0) front m back h.types;
+pub holds_around : (noted : SortFacts) (m : Entry) (front back : List Entry) → Holds noted (front ++ m ∷ back) → Holds noted (front ++ back)
+holds_around noted m front back h = record {
+  sorted = keeps_around noted.sorted m front back h.sorted;
+  types = all_around (λ e. has_type noted.rtype e.0) front m back h.types;
 }
 
 -- counted from the end
@@ -307,15 +307,15 @@ empty find s order is_s none is_nodes = by_order find s None None 0 [] order not
     clash : {A : Type 0} (x : A) → Some x ≡ None → ⊥
     clash x h = cc
 
-pub listing : (find : DbKey → Option ℕ) (s : Slots) (first last : Option ℕ) (len : ℕ) (R : IsRing find s first last len) (order : OrderView) (known : SortFacts) → IsOrderOf find R.chain order known → Stands find s first last len (follow len s first) order known
-listing find s first last len R order known O = record { ring = R; list_is = refl; ordered = O }
+pub listing : (find : DbKey → Option ℕ) (s : Slots) (first last : Option ℕ) (len : ℕ) (R : IsRing find s first last len) (order : OrderView) (noted : SortFacts) → IsOrderOf find R.chain order noted → Stands find s first last len (follow len s first) order noted
+listing find s first last len R order noted O = record { ring = R; list_is = refl; ordered = O }
 
 -- a ring whose parts are written again as they were, except for room in its order
-pub as_it_was : (find find' : DbKey → Option ℕ) (s s' : Slots) (first last : Option ℕ) (len : ℕ) (R : IsRing find s first last len) (order order' : OrderView) (known : SortFacts) (O : IsOrderOf find R.chain order known)
+pub as_it_was : (find find' : DbKey → Option ℕ) (s s' : Slots) (first last : Option ℕ) (len : ℕ) (R : IsRing find s first last len) (order order' : OrderView) (noted : SortFacts) (O : IsOrderOf find R.chain order noted)
     → ((k : DbKey) → find' k ≡ find k) → s' ≡ s → order'.nodes ≡ order.nodes → order.room ≤ order'.room
-    → Stands find' s' (slice_get order'.nodes 0) (last_node order'.nodes) (length order'.nodes) (follow len s first) order' known
-as_it_was find find' s s' first last len R order order' known O same is_s nodes more =
-    let anew : Stands find' s first last len (follow len s first) order' known = record {
+    → Stands find' s' (slice_get order'.nodes 0) (last_node order'.nodes) (length order'.nodes) (follow len s first) order' noted
+as_it_was find find' s s' first last len R order order' noted O same is_s nodes more =
+    let anew : Stands find' s first last len (follow len s first) order' noted = record {
       ring = record {
         chain = R.chain;
         links = R.links;
@@ -334,7 +334,7 @@ as_it_was find find' s s' first last len R order order' known O same is_s nodes 
         keeps = O.keeps;
       };
     } in
-    rw is_s (by_order find' s first last len _ order' known anew)
+    rw is_s (by_order find' s first last len _ order' noted anew)
 
 -- a node that comes in for a key has room
 pub room_for_new : (find find' : DbKey → Option ℕ) (k : DbKey) (at room more : ℕ) → ((q : DbKey) → find' q ≡ cond (key_eq k q) (Some at) (find q)) → ((q : DbKey) (i : ℕ) → find q ≡ Some i → i < room) → room ≤ more → at < more → (q : DbKey) (i : ℕ) → find' q ≡ Some i → i < more

@@ -90,8 +90,8 @@ out_keys s x p q i =
     ∙ kept_put_if (λ k. k.member.0) q i (with_prior p) s1 (λ _. refl)
     ∙ kept_put_if (λ k. k.member.0) p i (with_next q) s (λ _. refl)
 
-out_marks : (s : Slots) (x : ℕ) (p q : Option ℕ) (i : ℕ) → i ≢ x → linked_at (linked_out x p q s) i ≡ linked_at s i
-out_marks s x p q i ne =
+out_mark_elsewhere : (s : Slots) (x : ℕ) (p q : Option ℕ) (i : ℕ) → i ≢ x → linked_at (linked_out x p q s) i ≡ linked_at s i
+out_mark_elsewhere s x p q i ne =
     let s1 = put_if p (with_next q) s in
     let s2 = put_if q (with_prior p) s1 in
     linked_at_map (linked_out x p q s) i ∙ ap (λ o. option_map_or (λ b. b) o false) (
@@ -216,7 +216,7 @@ module _ (find : DbKey → Option ℕ) (s : Slots) (first last : Option ℕ) (le
             apart = parts.0;
             marked = λ i on. elim (cases_eq i e.at) [
               | inl same ↦ absurd (true≢false (sym on ∙ gone i same))
-              | inr ne ↦ LiesAt_without i a e b (λ h. ne (sym h)) (rw split at (R.marked i (sym (out_marks s e.at p q i ne) ∙ on)))
+              | inr ne ↦ LiesAt_without i a e b (λ h. ne (sym h)) (rw split at (R.marked i (sym (out_mark_elsewhere s e.at p q i ne) ∙ on)))
             ];
             found = λ k i h. keys i ∙ R.found k i h;
             keyed = λ k i h. R.keyed k i (sym (keys i) ∙ h);
@@ -460,7 +460,7 @@ out_earlier s x p q s' is k kept =
     let r = reserved_node s k kept in
     let off : linked_at s r.0 ≡ false → linked_at (linked_out x p q s) r.0 ≡ false = λ was. elim (cases_eq r.0 x) [
       | inl same ↦ ap (linked_at (linked_out x p q s)) same ∙ out_mark s x p q
-      | inr ne ↦ out_marks s x p q r.0 ne ∙ was
+      | inr ne ↦ out_mark_elsewhere s x p q r.0 ne ∙ was
     ] in
     rw is (still_reserved s (linked_out x p q s) k r.0 r.1 (out_keys s x p q r.0) off)
 

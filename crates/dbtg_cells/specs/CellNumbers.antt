@@ -50,8 +50,8 @@ is_cell schema capacity (Slot t n) = nat_lt t (length schema.types) && (nat_lt 0
 abbrev pub place_in : Layout → CellName → ℕ
 place_in layout (Usage a) = a
 place_in layout (Extent t) = layout.areas + t
-place_in layout (Ring s None) = get_or layout.first_rings s 0
-place_in layout (Ring s (Some owner)) = get_or layout.first_rings s 0 + (owner.1 - 1)
+place_in layout (Ring s None) = get_or layout.ring_starts s 0
+place_in layout (Ring s (Some owner)) = get_or layout.ring_starts s 0 + (owner.1 - 1)
 place_in layout (Slot t n) = layout.first_slot + t * layout.capacity + (n - 1)
 
 -- a layout puts each cell of the schema at its number

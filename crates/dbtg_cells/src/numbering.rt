@@ -136,11 +136,11 @@ pub struct Layout {
     areas: u8,
     capacity: u16,
     first_slot: u32,
-    first_rings: [u32; MOST_SETS],
+    ring_starts: [u32; MOST_SETS],
 }
 
 // The numbers of the first rings of all sets.
-fn first_rings(schema: &Schema, capacity: u16) -> [u32; MOST_SETS]
+fn ring_starts(schema: &Schema, capacity: u16) -> [u32; MOST_SETS]
     ensures { (s : ℕ) → s < length schema.now.sets → get_or result s 0 ≡ length schema.now.areas + length schema.now.types + length (flat_map (rings_of schema.now capacity) (range_with_len 0 s)) }
 {
     let mut firsts = [0; MOST_SETS];
@@ -160,16 +160,16 @@ impl Layout {
             areas: schema.areas().len() as u8,
             capacity,
             first_slot: first_slot(schema, capacity) as u32,
-            first_rings: first_rings(schema, capacity),
+            ring_starts: ring_starts(schema, capacity),
         }
     }
 
     // The number of a set's first ring.
     fn first_ring(&self, set: SetNo) -> usize
-        ensures value { result ≡ get_or self.now.first_rings set 0 }
+        ensures value { result ≡ get_or self.now.ring_starts set 0 }
         ensures limit { result < 4294967296 }
     {
-        match self.first_rings.get(set.index() as usize) {
+        match self.ring_starts.get(set.index() as usize) {
             Some(first) => *first as usize,
             None => 0,
         }

@@ -16,7 +16,7 @@ use Rattle.dbtg_command.specs.declared.order.OrderKind.TheVariants as kind
 use Rattle.dbtg_command.specs.declared.place.TextPlace.{TextPlace}
 use Rattle.dbtg_command.specs.declared.place.TextPlace.TheVariants.{Script}
 use Rattle.dbtg_command.specs.Checking.{ChecksHeld, IsCheck}
-use Rattle.dbtg_command.specs.Refusals.{AcceptsTexts, RefusesReplay, RefusesSchema, RefusesScript, RefusesScriptText, RefusesScripts, RefusesOrder, RefusesTexts, schema_in}
+use Rattle.dbtg_command.specs.Refusals.{AcceptsTexts, RefusesReplay, RefusesSchema, RefusesScript, RefusesScriptText, RefusesOneScript, RefusesOrder, RefusesTexts, schema_in}
 use Rattle.dbtg_command.specs.Sources.{HoldsOrder, HoldsScripts, ToldOfOrder, ToldOfRun, ToldOfSchema, ToldOfScripts, ToldOfTexts, kind_of, order_map}
 use Rattle.dbtg_command.specs.Inside.Sources.{StandsIn}
 use Rattle.dbtg_command.proofs.InTurn.{memory_refuses, refused_behind}
@@ -72,20 +72,20 @@ schema_told fault schema scripts order (inl memory) = subst (λ (f : Fault). Ref
 schema_told fault schema scripts order (inr told) = subst (λ (text : List ℕ). RefusesSchema fault (schema_refusal text)) told.1 told.2.0
 
 scripts_told : (fault : Fault) (lists : Lists) (schema : List ℕ) (scripts : List (List ℕ)) (order : Order (List ℕ))
-    → ToldOfScripts (StandsIn schema scripts order) OnlyMemory fault lists (length scripts) → RefusesScripts fault lists 1 scripts
+    → ToldOfScripts (StandsIn schema scripts order) OnlyMemory fault lists (length scripts) → RefusesOneScript fault lists 1 scripts
 scripts_told fault lists schema scripts order told = ⊎_elim
-    (λ (memory : fault ≡ Memory). subst (λ (f : Fault). RefusesScripts f lists 1 scripts) (sym memory) (memory_refuses lists 1 scripts))
+    (λ (memory : fault ≡ Memory). subst (λ (f : Fault). RefusesOneScript f lists 1 scripts) (sym memory) (memory_refuses lists 1 scripts))
     (λ (here : (text : List ℕ) × StandsIn schema scripts order (Script (told.before + 1)) text × RefusesScriptText fault (told.before + 1) lists text). refused here)
     told.told
   where
-    refused : (text : List ℕ) × StandsIn schema scripts order (Script (told.before + 1)) text × RefusesScriptText fault (told.before + 1) lists text → RefusesScripts fault lists 1 scripts
+    refused : (text : List ℕ) × StandsIn schema scripts order (Script (told.before + 1)) text × RefusesScriptText fault (told.before + 1) lists text → RefusesOneScript fault lists 1 scripts
     refused here =
         let before = told.read.texts in
         let number : told.before + 1 ≡ 1 + length before = omega (arith, told.read.many) in
         let held = held_behind (StandsIn schema scripts order) 1 before here.0 told.read.held (subst (λ (k : ℕ). StandsIn schema scripts order (Script k) here.0) number here.1) in
         let first = first_are schema order [] scripts (before ++ here.0 ∷ []) held in
         let split : scripts ≡ before ++ here.0 ∷ first.0 = first.1 ∙ append_assoc before (here.0 ∷ []) first.0 in
-        subst (λ (ss : List (List ℕ)). RefusesScripts fault lists 1 ss) (sym split)
+        subst (λ (ss : List (List ℕ)). RefusesOneScript fault lists 1 ss) (sym split)
         (refused_behind fault lists 1 before (here.0 ∷ first.0) told.read.accepted
         (inl (subst (λ (k : ℕ). RefusesScript fault k (script_refusal lists here.0)) number here.2.0)))
 
@@ -97,7 +97,7 @@ texts_told fault schema scripts order (inr told) =
     let says : told.0 ≡ schema_in schema = read.says ∙ ap schema_in read.held in
     inr (
       subst (λ (text : List ℕ). schema_refusal text ≡ None) read.held read.accepted,
-      subst (λ (lists : Lists). RefusesScripts fault lists 1 scripts) says (scripts_told fault told.0 schema scripts order told.2),
+      subst (λ (lists : Lists). RefusesOneScript fault lists 1 scripts) says (scripts_told fault told.0 schema scripts order told.2),
     )
 
 memory_of_order : (fault : Fault) (order : Order (List ℕ)) → fault ≡ Memory → RefusesOrder fault order

@@ -86,8 +86,8 @@ read_texts holds lists count read scripts order held = record {
   holds_order = held;
 }
 
-pub checks : (holds : TextPlace → List ℕ → Type 0) (lists : Lists) (count : ℕ) (out : List ℕ) → ReadSchema holds lists → (scripts : ReadScripts holds lists count) → out ≡ check_text lists scripts.texts → ChecksHeld holds count out
-checks holds lists count out read scripts e = (
+pub check_tells : (holds : TextPlace → List ℕ → Type 0) (lists : Lists) (count : ℕ) (out : List ℕ) → ReadSchema holds lists → (scripts : ReadScripts holds lists count) → out ≡ check_text lists scripts.texts → ChecksHeld holds count out
+check_tells holds lists count out read scripts e = (
   read_texts holds lists count read scripts Serial tt,
   record {
     texts = all_accepted holds lists count read scripts;

@@ -48,13 +48,13 @@ TellsOfScript holds fails programs lists n (fault ∷ []) = ToldIn holds fails f
 TellsOfScript holds fails programs lists n (fault ∷ other ∷ more) = ⊥
 
 -- what is said of the first of them, this many, one after another
-abbrev pub TellsOfScripts : (TextPlace → List ℕ → Type 0) → (TextPlace → Fault → Type 0) → Bool → Lists → ℕ → List Fault → Type 0
-TellsOfScripts holds fails programs lists zero faults = faults ≡ []
-TellsOfScripts holds fails programs lists (suc n) faults =
-    (before : List Fault) × (here : List Fault) × TellsOfScripts holds fails programs lists n before × TellsOfScript holds fails programs lists (n + 1) here × (faults ≡ before ++ here)
+abbrev pub TellsOfEachScript : (TextPlace → List ℕ → Type 0) → (TextPlace → Fault → Type 0) → Bool → Lists → ℕ → List Fault → Type 0
+TellsOfEachScript holds fails programs lists zero faults = faults ≡ []
+TellsOfEachScript holds fails programs lists (suc n) faults =
+    (before : List Fault) × (here : List Fault) × TellsOfEachScript holds fails programs lists n before × TellsOfScript holds fails programs lists (n + 1) here × (faults ≡ before ++ here)
 
 -- what is said of each text: only of the schema if it is not accepted, otherwise of each script, or of each program
 abbrev pub TellsEach : (TextPlace → List ℕ → Type 0) → (TextPlace → Fault → Type 0) → Bool → ℕ → List Fault → Type 0
 TellsEach holds fails programs count faults =
     ((fault : Fault) × ToldOfSchema holds fails fault × (fault ≡ Memory → ⊥) × (faults ≡ fault ∷ []))
-    ⊎ ((lists : Lists) × ReadSchema holds lists × TellsOfScripts holds fails programs lists count faults)
+    ⊎ ((lists : Lists) × ReadSchema holds lists × TellsOfEachScript holds fails programs lists count faults)

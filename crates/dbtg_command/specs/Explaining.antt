@@ -135,14 +135,14 @@ abbrev pub fault_line : Kind → List ℕ → List ℕ
 fault_line which fault = line_text (field 0 (kind_row which)) (field 0 fault) (field 1 fault)
 
 -- the lines of the faults of a kind
-abbrev pub fault_lines : Kind → List ℕ
-fault_lines which = flat_map (fault_line which) (lines (faults_of which))
+abbrev pub fault_table : Kind → List ℕ
+fault_table which = flat_map (fault_line which) (lines (faults_of which))
 
 -- the list of all
 abbrev pub all_text : List ℕ
 all_text =
-    ((((((codes "0000: done\n" ++ flat_map status_line (lines STATUSES.now)) ++ fault_lines kind.Schema) ++ fault_lines kind.Script) ++ fault_lines kind.Program) ++ fault_lines kind.Moves) ++ fault_lines kind.Turns)
-    ++ fault_lines kind.Trace
+    ((((((codes "0000: done\n" ++ flat_map status_line (lines STATUSES.now)) ++ fault_table kind.Schema) ++ fault_table kind.Script) ++ fault_table kind.Program) ++ fault_table kind.Moves) ++ fault_table kind.Turns)
+    ++ fault_table kind.Trace
 
 -- what is said of a topic
 abbrev pub topic_text : Topic → List ℕ

@@ -49,9 +49,9 @@ abbrev pub entry_name : List ℕ → List ℕ → List (List ℕ) → List (List
 entry_name first word more = if bytes_eq word first then option_to_list (name_behind more) else []
 
 -- the names of the entries that begin with `first`
-abbrev pub entry_names : List ℕ → List (List ℕ) → List (List ℕ)
-entry_names first [] = []
-entry_names first (word ∷ more) = entry_name first word more ++ entry_names first more
+abbrev pub names_of_entries : List ℕ → List (List ℕ) → List (List ℕ)
+names_of_entries first [] = []
+names_of_entries first (word ∷ more) = entry_name first word more ++ names_of_entries first more
 
 -- the entry of a record type begins with this word, followed by these
 abbrev pub begins_type : List ℕ → List ℕ → List (List ℕ) → Bool
@@ -77,13 +77,13 @@ last_of words = unwrap_or (slice_get words (length words - 1)) []
 
 -- the record type of which an item is wanted after these words: after KEY that of the last member, otherwise the last one declared
 abbrev pub type_wanted : List (List ℕ) → List ℕ
-type_wanted front = last_of (if bytes_eq (last_of front) (codes "KEY") then words_behind (codes "MEMBER") front else entry_names (codes "RECORD") front)
+type_wanted front = last_of (if bytes_eq (last_of front) (codes "KEY") then words_behind (codes "MEMBER") front else names_of_entries (codes "RECORD") front)
 
 -- the names that a fault with this number asks for: of the areas or record types before the word; of the items of a record type, each
 -- after its level; or of all sets
 abbrev pub names_in : ℕ → List ℕ → List (List ℕ) → List (List ℕ) → List (List ℕ)
 names_in number rtype words front =
-    if number == 7 then entry_names (codes "AREA") front
-    else (if number == 8 then entry_names (codes "RECORD") front
+    if number == 7 then names_of_entries (codes "AREA") front
+    else (if number == 8 then names_of_entries (codes "RECORD") front
     else (if number == 9 then words_behind (codes "02") (type_entry rtype words)
-    else (if number == 10 then entry_names (codes "SET") words else [])))
+    else (if number == 10 then names_of_entries (codes "SET") words else [])))

@@ -153,9 +153,9 @@ RefusesTrace (Unreadable path) refusal = ⊥
 RefusesTrace ScriptCount refusal = ⊥
 
 -- the fault is that of the first script that has one, from number n on, unless memory ran out
-abbrev pub RefusesScripts : Fault → Lists → ℕ → List (List ℕ) → Type 0
-RefusesScripts fault lists n [] = fault ≡ Memory
-RefusesScripts fault lists n (text ∷ texts) = RefusesScript fault n (script_refusal lists text) ⊎ ((script_refusal lists text ≡ None) × RefusesScripts fault lists (n + 1) texts)
+abbrev pub RefusesOneScript : Fault → Lists → ℕ → List (List ℕ) → Type 0
+RefusesOneScript fault lists n [] = fault ≡ Memory
+RefusesOneScript fault lists n (text ∷ texts) = RefusesScript fault n (script_refusal lists text) ⊎ ((script_refusal lists text ≡ None) × RefusesOneScript fault lists (n + 1) texts)
 
 -- every script is accepted
 abbrev pub AllAccepted : Lists → List (List ℕ) → Type 0
@@ -168,7 +168,7 @@ AcceptsTexts text scripts = (schema_refusal text ≡ None) × AllAccepted (schem
 
 -- the fault is the first of schema and scripts, unless memory ran out
 abbrev pub RefusesTexts : Fault → List ℕ → List (List ℕ) → Type 0
-RefusesTexts fault text scripts = RefusesSchema fault (schema_refusal text) ⊎ ((schema_refusal text ≡ None) × RefusesScripts fault (schema_in text) 1 scripts)
+RefusesTexts fault text scripts = RefusesSchema fault (schema_refusal text) ⊎ ((schema_refusal text ≡ None) × RefusesOneScript fault (schema_in text) 1 scripts)
 
 -- the moves or turns, if there are any, are accepted
 abbrev pub AcceptsOrder : Order (List ℕ) → Type 0

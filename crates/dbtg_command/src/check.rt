@@ -36,7 +36,7 @@ fn push_script(
 }
 
 /// Appends the lines of the scripts.
-fn push_scripts<S: Source>(
+fn push_each_script<S: Source>(
     alloc: Global,
     out: &mut Vec<u8>,
     source: &S,
@@ -60,7 +60,7 @@ fn check_known<S: Source>(alloc: Global, source: &S, known: &Schema) -> Result<V
 {
     let mut out = Vec::new(alloc);
     push_schema_line(&mut out, known)?;
-    push_scripts(alloc, &mut out, source, known)?;
+    push_each_script(alloc, &mut out, source, known)?;
     Ok(out)
 }
 

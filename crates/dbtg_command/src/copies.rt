@@ -16,7 +16,7 @@ fn copy_script(alloc: Global, script: &Row<Statement>) -> Result<Row<Statement>,
 }
 
 /// Copies of scripts, with the same statements.
-pub fn copy_scripts(
+pub fn copy_each_script(
     alloc: Global,
     scripts: &[Row<Statement>],
 ) -> Result<Row<Row<Statement>>, AllocError>

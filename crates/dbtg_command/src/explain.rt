@@ -10,7 +10,7 @@ ghost use Rattle.dbtg_command.specs.Explaining.{
   cause_of,
   fault_field,
   fault_line,
-  fault_lines,
+  fault_table,
   fault_text,
   faults_of,
   kind_in,
@@ -292,8 +292,8 @@ fn push_fault_line(out: &mut Vec<u8>, kind: Kind, fault: &[u8]) -> Result<(), Al
     )
 }
 
-fn push_faults(out: &mut Vec<u8>, kind: Kind) -> Result<(), AllocError>
-    ensures { OnOk result (out.new.items ≡ out.old.items ++ fault_lines kind) }
+fn push_each_fault(out: &mut Vec<u8>, kind: Kind) -> Result<(), AllocError>
+    ensures { OnOk result (out.new.items ≡ out.old.items ++ fault_table kind) }
 {
     let mut rest = faults_of(kind).as_bytes();
     while let Some((fault, behind)) = next_row(rest) {
@@ -309,12 +309,12 @@ fn all_text(alloc: Global) -> Result<Vec<u8>, AllocError>
     let mut out = Vec::new(alloc);
     out.extend_from_slice("0000: done\n".as_bytes())?;
     push_statuses(&mut out)?;
-    push_faults(&mut out, Kind::Schema)?;
-    push_faults(&mut out, Kind::Script)?;
-    push_faults(&mut out, Kind::Program)?;
-    push_faults(&mut out, Kind::Moves)?;
-    push_faults(&mut out, Kind::Turns)?;
-    push_faults(&mut out, Kind::Trace)?;
+    push_each_fault(&mut out, Kind::Schema)?;
+    push_each_fault(&mut out, Kind::Script)?;
+    push_each_fault(&mut out, Kind::Program)?;
+    push_each_fault(&mut out, Kind::Moves)?;
+    push_each_fault(&mut out, Kind::Turns)?;
+    push_each_fault(&mut out, Kind::Trace)?;
     Ok(out)
 }
 

@@ -1,6 +1,6 @@
 //! The first fault of each text that has one.
 ghost use Rattle.std.specs.Prelude.{◌≡◌, ◌++◌, ◌≤◌, ◌∷◌, ℕ, List, [], None, IfErr, IfOk, OnOk};
-ghost use Rattle.dbtg_command.specs.Checking.{IsAccepted, Refuses, TellsEach, TellsOfScript, TellsOfScripts};
+ghost use Rattle.dbtg_command.specs.Checking.{IsAccepted, Refuses, TellsEach, TellsOfScript, TellsOfEachScript};
 ghost use Rattle.dbtg_command.specs.Sources.{ReadSchema, ToldIn, ToldOfSchema};
 ghost use Rattle.dbtg_command.specs.declared.fault.Fault.{Fault as SeenFault};
 ghost use Rattle.dbtg_command.specs.declared.fault.Fault.TheVariants.{Memory};
@@ -79,7 +79,7 @@ fn faults_of_scripts<S: Source>(
     schema: &Schema,
     programs: bool,
 ) -> Result<Vec<Fault>, Fault>
-    ensures told { IfOk result (λ faults. TellsOfScripts (S.holds source.now) (S.fails source.now) programs schema.now (S.count source.now) faults.items) }
+    ensures told { IfOk result (λ faults. TellsOfEachScript (S.holds source.now) (S.fails source.now) programs schema.now (S.count source.now) faults.items) }
     ensures memory { IfErr result (λ fault. fault ≡ Memory) }
 {
     let mut faults = Vec::new(alloc);

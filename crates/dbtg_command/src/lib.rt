@@ -27,7 +27,7 @@ mod wished;
 pub use at_hand::AtHand;
 pub use call::{Call, call_of};
 pub use command::Named;
-pub use copies::copy_scripts;
+pub use copies::copy_each_script;
 pub use fault::{Fault, status_of};
 pub use files::{FileReader, Files, Paths};
 pub use judging::each_fault;

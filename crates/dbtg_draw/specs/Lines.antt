@@ -46,9 +46,9 @@ abbrev pub further_item : List Item → ℕ → List ℕ
 further_item items i = codes ", " ++ item_name items i
 
 -- the names of these items, with commas
-abbrev pub item_names : List Item → List ℕ → List ℕ
-item_names items [] = []
-item_names items (i ∷ is) = item_name items i ++ flat_map (further_item items) is
+abbrev pub names_of_items : List Item → List ℕ → List ℕ
+names_of_items items [] = []
+names_of_items items (i ∷ is) = item_name items i ++ flat_map (further_item items) is
 
 -- DA: two records may have the same CALC key; DN: they may not
 abbrev pub allowed_text : Bool → List ℕ
@@ -57,7 +57,7 @@ allowed_text false = codes ") DN"
 
 -- the CALC key, and whether duplicates are allowed
 abbrev pub calc_text : List Item → Calc → List ℕ
-calc_text items c = codes "CALC (" ++ item_names items c.items ++ allowed_text c.duplicates_allowed
+calc_text items c = codes "CALC (" ++ names_of_items items c.items ++ allowed_text c.duplicates_allowed
 
 -- ---- an arrow
 

@@ -81,7 +81,7 @@ fn push_area(out: &mut Vec<u8>, name: &[u8], area: u8) -> Result<(), AllocError>
     out.extend_from_slice(b"</td>\n")
 }
 
-fn push_areas(out: &mut Vec<u8>, areas: &[Area]) -> Result<(), AllocError>
+fn push_each_area(out: &mut Vec<u8>, areas: &[Area]) -> Result<(), AllocError>
     requires { length areas.now ≤ 8 }
     ensures { OnOk result (out.new.items ≡ out.old.items ++ area_cells 0 areas.now) }
 {
@@ -131,7 +131,7 @@ fn push_legend(out: &mut Vec<u8>, schema: &Schema) -> Result<(), AllocError>
     ensures { OnOk result (out.new.items ≡ out.old.items ++ legend_text schema.now) }
 {
     push_title(out, schema.name(), schema.areas().len())?;
-    push_areas(out, schema.areas())?;
+    push_each_area(out, schema.areas())?;
     out.extend_from_slice(b"</tr>\n</table>>\n")
 }
 
@@ -164,7 +164,7 @@ fn push_item_line(out: &mut Vec<u8>, item: &Item) -> Result<(), AllocError>
     out.extend_from_slice(b"\\l")
 }
 
-fn push_items(out: &mut Vec<u8>, items: &[Item]) -> Result<(), AllocError>
+fn push_each_item(out: &mut Vec<u8>, items: &[Item]) -> Result<(), AllocError>
     ensures { OnOk result (out.new.items ≡ out.old.items ++ flat_map item_line items.now) }
 {
     for item in items {
@@ -187,7 +187,7 @@ fn push_record_label(
     push_location(out, record.items.as_slice(), record.calc.as_ref())?;
     push_area_line(out, schema, record.area)?;
     out.push(b'|')?;
-    push_items(out, record.items.as_slice())?;
+    push_each_item(out, record.items.as_slice())?;
     out.extend_from_slice(b"}\"")
 }
 
@@ -210,7 +210,7 @@ fn push_record(out: &mut Vec<u8>, schema: &Schema, record: &RecordType) -> Resul
     out.extend_from_slice(b"]\n")
 }
 
-fn push_records(
+fn push_each_record(
     out: &mut Vec<u8>,
     schema: &Schema,
     records: &[RecordType],
@@ -306,7 +306,7 @@ fn push_arrow(
     out.extend_from_slice(b"]\n")
 }
 
-fn push_arrows(
+fn push_each_arrow(
     out: &mut Vec<u8>,
     schema: &Schema,
     set: &SetType,
@@ -325,10 +325,10 @@ fn push_set(out: &mut Vec<u8>, schema: &Schema, set: &SetType) -> Result<(), All
     ensures { OnOk result (out.new.items ≡ out.old.items ++ set_text schema.now set.now) }
 {
     push_system(out, set, set.owner)?;
-    push_arrows(out, schema, set, set.members.as_slice())
+    push_each_arrow(out, schema, set, set.members.as_slice())
 }
 
-fn push_sets(out: &mut Vec<u8>, schema: &Schema, sets: &[SetType]) -> Result<(), AllocError>
+fn push_each_set(out: &mut Vec<u8>, schema: &Schema, sets: &[SetType]) -> Result<(), AllocError>
     ensures { OnOk result (out.new.items ≡ out.old.items ++ flat_map (set_text schema.now) sets.now) }
 {
     for set in sets {
@@ -348,8 +348,8 @@ pub fn dot_text(alloc: Global, schema: &Schema) -> Result<Vec<u8>, AllocError>
     push_graph(&mut out)?;
     push_style(&mut out)?;
     push_legend(&mut out, schema)?;
-    push_records(&mut out, schema, schema.types())?;
-    push_sets(&mut out, schema, schema.sets())?;
+    push_each_record(&mut out, schema, schema.types())?;
+    push_each_set(&mut out, schema, schema.sets())?;
     out.extend_from_slice(b"}\n")?;
     Ok(out)
 }

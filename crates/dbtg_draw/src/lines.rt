@@ -1,6 +1,6 @@
 //! The words that a diagram shows: for a record type, and for the arrow to a member.
 
-ghost use Rattle.dbtg_draw.specs.Lines.{allowed_text, area_name, calc_text, class_text, direction_text, duplicates_text, further_item, item_name, item_names, item_text, key_name, key_text, member_text, order_text, picture_text, type_name};
+ghost use Rattle.dbtg_draw.specs.Lines.{allowed_text, area_name, calc_text, class_text, direction_text, duplicates_text, further_item, item_name, names_of_items, item_text, key_name, key_text, member_text, order_text, picture_text, type_name};
 ghost use Rattle.std.specs.List.{flat_map};
 ghost use Rattle.std.specs.Prelude.{◌≡◌, ◌++◌, OnOk};
 
@@ -68,7 +68,7 @@ fn push_further_item(out: &mut Vec<u8>, items: &[Item], item: ItemNo) -> Result<
     out.extend_from_slice(item_name(items, item))
 }
 
-fn push_further_items(
+fn push_each_further_item(
     out: &mut Vec<u8>,
     items: &[Item],
     numbers: &[ItemNo],
@@ -82,13 +82,13 @@ fn push_further_items(
 }
 
 fn push_item_names(out: &mut Vec<u8>, items: &[Item], numbers: &[ItemNo]) -> Result<(), AllocError>
-    ensures { OnOk result (out.new.items ≡ out.old.items ++ item_names items.now numbers.now) }
+    ensures { OnOk result (out.new.items ≡ out.old.items ++ names_of_items items.now numbers.now) }
 {
     match numbers.split_first() {
         None => Ok(()),
         Some((first, further)) => {
             out.extend_from_slice(item_name(items, *first))?;
-            push_further_items(out, items, further)
+            push_each_further_item(out, items, further)
         }
     }
 }

@@ -17,7 +17,7 @@ fn push_named(out: &mut Vec<u8>, word: &[u8], name: &[u8]) -> Result<(), AllocEr
     Ok(())
 }
 
-fn push_areas(out: &mut Vec<u8>, areas: &[Area]) -> Result<(), AllocError>
+fn push_each_area(out: &mut Vec<u8>, areas: &[Area]) -> Result<(), AllocError>
     ensures { OnOk result (out.new.items ≡ out.old.items ++ flat_map area_line areas.now) }
 {
     for area in areas {
@@ -33,7 +33,7 @@ fn push_listed_item(out: &mut Vec<u8>, item: &Item) -> Result<(), AllocError>
     push_item(out, item)
 }
 
-fn push_items(out: &mut Vec<u8>, items: &[Item]) -> Result<(), AllocError>
+fn push_each_item(out: &mut Vec<u8>, items: &[Item]) -> Result<(), AllocError>
     ensures { OnOk result (out.new.items ≡ out.old.items ++ flat_map listed_item items.now) }
 {
     for item in items {
@@ -65,13 +65,13 @@ fn push_record(out: &mut Vec<u8>, schema: &Schema, record: &RecordType) -> Resul
     out.extend_from_slice(record.name.as_slice())?;
     out.extend_from_slice(b" WITHIN ")?;
     out.extend_from_slice(area_name(schema, record.area))?;
-    push_items(out, record.items.as_slice())?;
+    push_each_item(out, record.items.as_slice())?;
     push_listed_calc(out, record.items.as_slice(), record.calc.as_ref())?;
     out.push(b'\n')?;
     Ok(())
 }
 
-fn push_records(
+fn push_each_record(
     out: &mut Vec<u8>,
     schema: &Schema,
     records: &[RecordType],
@@ -108,7 +108,7 @@ fn push_listed_member(
     push_order(out, schema, set.order, member)
 }
 
-fn push_members(
+fn push_each_member(
     out: &mut Vec<u8>,
     schema: &Schema,
     set: &SetType,
@@ -129,12 +129,12 @@ fn push_set(out: &mut Vec<u8>, schema: &Schema, set: &SetType) -> Result<(), All
     out.extend_from_slice(set.name.as_slice())?;
     out.extend_from_slice(b" OWNER ")?;
     out.extend_from_slice(listed_owner(schema, set.owner))?;
-    push_members(out, schema, set, set.members.as_slice())?;
+    push_each_member(out, schema, set, set.members.as_slice())?;
     out.push(b'\n')?;
     Ok(())
 }
 
-fn push_sets(out: &mut Vec<u8>, schema: &Schema, sets: &[SetType]) -> Result<(), AllocError>
+fn push_each_set(out: &mut Vec<u8>, schema: &Schema, sets: &[SetType]) -> Result<(), AllocError>
     ensures { OnOk result (out.new.items ≡ out.old.items ++ flat_map (set_line schema.now) sets.now) }
 {
     for set in sets {
@@ -149,8 +149,8 @@ pub fn schema_lines(alloc: Global, schema: &Schema) -> Result<Vec<u8>, AllocErro
 {
     let mut out = Vec::new(alloc);
     push_named(&mut out, b"SCHEMA ", schema.name())?;
-    push_areas(&mut out, schema.areas())?;
-    push_records(&mut out, schema, schema.types())?;
-    push_sets(&mut out, schema, schema.sets())?;
+    push_each_area(&mut out, schema.areas())?;
+    push_each_record(&mut out, schema, schema.types())?;
+    push_each_set(&mut out, schema, schema.sets())?;
     Ok(out)
 }

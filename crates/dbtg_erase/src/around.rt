@@ -28,7 +28,7 @@ fn push_ring(set: SetNo, owner: Option<Owner>, names: &mut Vec<CellName>) -> Res
 
 // Adds the rings of a record's owners, set by set.
 #[tactic(auto, using(dbtg_unit::proofs::Public::numbers_next, dbtg_unit::proofs::Public::numbers_end, crate::proofs::FirstNames::names_append))]
-fn push_rings(
+fn push_each_ring(
     schema: &Schema,
     held: &Held,
     key: &DbKey,
@@ -54,7 +54,7 @@ fn push_outer(
     ensures { OnOk result (names.new.items ≡ names.old.items ++ outer_names schema.now held.now key.now) }
 {
     add(names, &CellName::Extent(key.rtype))?;
-    push_rings(schema, held, key, names)
+    push_each_ring(schema, held, key, names)
 }
 
 // The cells around some records, one record after another.

@@ -132,7 +132,7 @@ impl Course {
     }
 
     // The first cell not held among those of the records that go, one record after another.
-    fn next_of_records(
+    fn next_of_each_record(
         &mut self,
         alloc: Global,
         schema: &Schema,
@@ -180,7 +180,7 @@ impl Course {
         if let Some(names) = &mut self.around {
             return Ok(names.next(held));
         }
-        let found = self.next_of_records(alloc, schema, capacity, held, option, key)?;
+        let found = self.next_of_each_record(alloc, schema, capacity, held, option, key)?;
         if found.is_some() {
             return Ok(found);
         }

@@ -62,7 +62,7 @@ fn is_lost(gone: &Keys, owner: Option<Owner>) -> bool
 }
 
 // Takes a record out of the lists of the owners that stay.
-fn leave_lists(
+fn leave_each_list(
     schema: &Schema,
     held: &Held,
     gone: &Keys,
@@ -89,14 +89,14 @@ fn leave_all_lists(
     ensures { OnOk result (edits.new ≡ edits.old ++ flat_map (leaving_edits schema.now (owner_in held.now) gone.now) gone.now) }
 {
     for key in gone.as_slice() {
-        leave_lists(schema, held, gone, key, edits)?;
+        leave_each_list(schema, held, gone, key, edits)?;
     }
     Ok(())
 }
 
 // The rings that a record owns.
 #[tactic(auto, using(crate::proofs::EditLists::names_append))]
-fn push_rings(schema: &Schema, key: &DbKey, rings: &mut Row<CellName>) -> Result<(), AllocError>
+fn push_each_ring(schema: &Schema, key: &DbKey, rings: &mut Row<CellName>) -> Result<(), AllocError>
     ensures { OnOk result (rings.new ≡ rings.old ++ own_rings schema.now key.now) }
 {
     for set in schema.owned_sets(key.rtype) {
@@ -112,7 +112,7 @@ fn rings_of_all(alloc: Global, schema: &Schema, gone: &[DbKey]) -> Result<Row<Ce
 {
     let mut rings = Row::of(Vec::new(alloc));
     for key in gone {
-        push_rings(schema, key, &mut rings)?;
+        push_each_ring(schema, key, &mut rings)?;
     }
     Ok(rings)
 }
@@ -134,7 +134,7 @@ fn lose_owner(
 }
 
 // The member loses its owner in each set in which that owner goes.
-fn lose_owners(
+fn lose_each_owner(
     schema: &Schema,
     held: &Held,
     gone: &Keys,
@@ -161,7 +161,7 @@ fn lose(
 ) -> Result<(), AllocError>
     ensures { OnOk result (edits.new ≡ edits.old ++ losing_edits schema.now (owner_in held.now) gone.now key.now) }
 {
-    lose_owners(schema, held, gone, key, edits)?;
+    lose_each_owner(schema, held, gone, key, edits)?;
     push_slot_edit(key, Edit::RaiseVersion, edits)
 }
 

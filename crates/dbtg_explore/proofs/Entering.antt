@@ -57,8 +57,8 @@ module _ {K : Type 0} (items : K → List ℕ) where
         }))
 
     -- a known one stays
-    pub is_known : is_new ≡ false → IsEntered old (items k) order (record { keys = numbers new_ks; orders = orders })
-    is_known stale =
+    pub is_entered_before : is_new ≡ false → IsEntered old (items k) order (record { keys = numbers new_ks; orders = orders })
+    is_entered_before stale =
         let there : is_there ks k ≡ true = not_false (is_there ks k) (sym stale ∙ told) in
         let same : new_ks ≡ ks = are ∙ ap (λ b. if b then ks else ks ++ k ∷ []) there in
         subst (λ o. IsEntered o (items k) order (record { keys = numbers new_ks; orders = orders })) old_is

@@ -40,7 +40,7 @@ fn note_failure(
 }
 
 // The failures of all programs there.
-fn note_failures(
+fn note_each_failure(
     meeting: &Meeting,
     failures: &mut Vec<Failure>,
     here: &Whereabouts,
@@ -100,7 +100,7 @@ impl Ends {
         requires here { AreWhereaboutsOf meeting.now order.now here }
         ensures { OnOk result (Notes meeting.now order.now self.old self.new) }
     {
-        match note_failures(meeting, &mut self.failures, &here) {
+        match note_each_failure(meeting, &mut self.failures, &here) {
             Ok(()) => note_result(alloc, meeting, &mut self.results, order, here),
             Err(error) => {
                 here.discard();

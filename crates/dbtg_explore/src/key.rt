@@ -51,7 +51,7 @@ fn spell_going(going: &Going, out: &mut Vec<u64>) -> Result<(), AllocError>
 }
 
 // Each of these programs.
-fn spell_goings(goings: &[Going], out: &mut Vec<u64>) -> Result<(), AllocError>
+fn spell_each_going(goings: &[Going], out: &mut Vec<u64>) -> Result<(), AllocError>
     ensures { OnOk result (out.new.items ≡ out.old.items ++ flat_map (λ g. due_numbers (comes_of g)) goings.now) }
 {
     for going in goings {
@@ -65,7 +65,7 @@ fn spell_programs(goings: &[Going], out: &mut Vec<u64>) -> Result<(), AllocError
     ensures { OnOk result (out.new.items ≡ out.old.items ++ list_numbers (λ g. due_numbers (comes_of g)) goings.now) }
 {
     out.push(goings.len() as u64)?;
-    spell_goings(goings, out)
+    spell_each_going(goings, out)
 }
 
 impl<'a> Meeting<'a> {

@@ -106,7 +106,7 @@ fn push_failure(out: &mut Vec<u8>, failure: Failure) -> Result<(), AllocError>
 }
 
 // All units whose programs fail.
-fn push_failures(out: &mut Vec<u8>, failures: &[Failure]) -> Result<(), AllocError>
+fn push_each_failure(out: &mut Vec<u8>, failures: &[Failure]) -> Result<(), AllocError>
     ensures { OnOk result (out.new.items ≡ out.old.items ++ flat_map failure_text failures.now) }
 {
     for failure in failures {
@@ -246,7 +246,7 @@ impl<'a> Setting<'a> {
         let mut out = Vec::new(alloc);
         push_counts(&mut out, all)?;
         push_endless(alloc, &mut out, self.told, &all.endless)?;
-        push_failures(&mut out, all.failures.as_slice())?;
+        push_each_failure(&mut out, all.failures.as_slice())?;
         out.extend_from_slice(results.as_slice())?;
         Ok(out)
     }

@@ -9,4 +9,4 @@ mod text;
 pub use around::Around;
 pub use going::{ProgramRun, programs_after, run_programs};
 pub use member::{Going, Member, Reached, Standing};
-pub use text::{push_end, push_programs, run_text};
+pub use text::{push_each_program, push_end, run_text};

@@ -81,7 +81,7 @@ fn push_program(
 }
 
 /// Appends the lines of the programs.
-pub fn push_programs(
+pub fn push_each_program(
     out: &mut Vec<u8>,
     programs: &[Program],
     reached: &[Reached],
@@ -116,6 +116,6 @@ pub fn run_text(
         &run.image,
         run.units.as_slice(),
     )?;
-    push_programs(&mut out, programs, given.programs.as_slice())?;
+    push_each_program(&mut out, programs, given.programs.as_slice())?;
     Ok(out)
 }

@@ -88,13 +88,13 @@ abbrev pub placed_answer : Lists → ℕ → Entry → List ℕ
 placed_answer schema place e = decimal e.unit ++ 46 ∷ decimal place ++ 32 ∷ behind 32 (behind 32 (answer_text schema e))
 
 -- those of the statements of one unit, the first of them at this place
-abbrev pub placed_answers : Lists → ℕ → List Entry → List ℕ
-placed_answers schema place [] = []
-placed_answers schema place (e ∷ es) = placed_answer schema place e ++ placed_answers schema (place + 1) es
+abbrev pub all_placed_answers : Lists → ℕ → List Entry → List ℕ
+all_placed_answers schema place [] = []
+all_placed_answers schema place (e ∷ es) = placed_answer schema place e ++ all_placed_answers schema (place + 1) es
 
 -- those of each unit in a run, where they tell results apart
 abbrev pub placed_told : Meeting → List Entry → List ℕ
-placed_told m history = if m.tells then flat_map (λ u. placed_answers m.schema 1 (map untimed (entries_of u history))) (units_of m) else []
+placed_told m history = if m.tells then flat_map (λ u. all_placed_answers m.schema 1 (map untimed (entries_of u history))) (units_of m) else []
 
 -- what tells the result of a run from others, a line for each answer, and then what is printed after `--`, except that the units that
 -- have an area open are in the order of their numbers

@@ -73,7 +73,7 @@ fn has_fact(facts: &[Row<u64>], fact: &[u64]) -> bool
 }
 
 // Each of these facts is one of the others.
-fn has_facts(others: &[Row<u64>], facts: &[Row<u64>]) -> bool
+fn has_each_fact(others: &[Row<u64>], facts: &[Row<u64>]) -> bool
     ensures { result ≡ list_all (has_fact others.now) facts.now }
 {
     facts.iter().all(|fact| has_fact(others, fact.as_slice()))
@@ -83,7 +83,7 @@ fn has_facts(others: &[Row<u64>], facts: &[Row<u64>]) -> bool
 fn same_facts(facts: &[Row<u64>], others: &[Row<u64>]) -> bool
     ensures { result ≡ same_facts facts.now others.now }
 {
-    has_facts(others, facts) && has_facts(facts, others)
+    has_each_fact(others, facts) && has_each_fact(facts, others)
 }
 
 // How many stand before the first that has the same facts, if one has.

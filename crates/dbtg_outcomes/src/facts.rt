@@ -136,7 +136,7 @@ fn push_unit(
     )
 }
 
-fn push_units(
+fn push_each_unit(
     alloc: Global,
     facts: &mut Row<Row<u64>>,
     stored: &[DbKey],
@@ -208,7 +208,7 @@ pub fn named(alloc: Global, tells: bool, units: u8, run: &Run) -> Result<Row<Row
     let keys = stored(alloc, history, units)?;
     let stored = keys.as_slice();
     let mut facts = answers_facts(alloc, tells, stored, history, units)?;
-    push_units(alloc, &mut facts, stored, run.units.as_slice())?;
+    push_each_unit(alloc, &mut facts, stored, run.units.as_slice())?;
     push_usage(alloc, &mut facts, &run.image, units)?;
     push_image(alloc, &mut facts, stored, &run.image)?;
     Ok(facts)

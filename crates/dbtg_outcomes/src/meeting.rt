@@ -220,7 +220,7 @@ impl<'a> Meeting<'a> {
     }
 
     // The answers of a history with the places of their statements, if they tell results apart.
-    fn placed_answers(&self, alloc: Global, history: &[Entry]) -> Result<Vec<u8>, AllocError>
+    fn all_placed_answers(&self, alloc: Global, history: &[Entry]) -> Result<Vec<u8>, AllocError>
         requires { IsMeeting self.now }
         ensures { IfOk result (λ text. text.items ≡ placed_told self.now history.now) }
     {
@@ -237,7 +237,7 @@ impl<'a> Meeting<'a> {
         requires { IsMeeting self.now }
         ensures { IfOk result (λ text. text.items ≡ told_text self.now run.old) }
     {
-        let mut out = self.placed_answers(alloc, run.history.as_slice())?;
+        let mut out = self.all_placed_answers(alloc, run.history.as_slice())?;
         run.image.usage = usage_by_unit(alloc, run.image.usage.as_slice(), self.units())?;
         let (image, units) = (&run.image, run.units.as_slice());
         push_run(alloc, &mut out, self.schema, &[], image, units)?;

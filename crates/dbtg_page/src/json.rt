@@ -36,7 +36,7 @@ fn push_byte(out: &mut Vec<u8>, byte: u8) -> Result<(), AllocError>
     Ok(())
 }
 
-fn push_bytes(out: &mut Vec<u8>, text: &[u8]) -> Result<(), AllocError>
+fn push_each_byte(out: &mut Vec<u8>, text: &[u8]) -> Result<(), AllocError>
     ensures { OnOk result (out.new.items ≡ out.old.items ++ flat_map byte_text text.now) }
 {
     for byte in text {
@@ -50,7 +50,7 @@ fn push_quoted(out: &mut Vec<u8>, text: &[u8]) -> Result<(), AllocError>
     ensures { OnOk result (out.new.items ≡ out.old.items ++ quoted text.now) }
 {
     out.push(b'"')?;
-    push_bytes(out, text)?;
+    push_each_byte(out, text)?;
     out.push(b'"')?;
     Ok(())
 }
@@ -79,7 +79,7 @@ pub fn push_end(out: &mut Vec<u8>) -> Result<(), AllocError>
     out.extend_from_slice(b"],\n")
 }
 
-fn push_fields(out: &mut Vec<u8>, fields: &[Row<u8>]) -> Result<(), AllocError>
+fn push_each_field(out: &mut Vec<u8>, fields: &[Row<u8>]) -> Result<(), AllocError>
     ensures { OnOk result (out.new.items ≡ out.old.items ++ flat_map field fields.now) }
 {
     for text in fields {
@@ -94,7 +94,7 @@ pub fn push_row(out: &mut Vec<u8>, kind: &[u8], fields: &[Row<u8>]) -> Result<()
     ensures { OnOk result (out.new.items ≡ out.old.items ++ row kind.now fields.now) }
 {
     push_kind(out, kind)?;
-    push_fields(out, fields)?;
+    push_each_field(out, fields)?;
     push_end(out)
 }
 

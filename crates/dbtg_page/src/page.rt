@@ -35,7 +35,7 @@ pub struct Told<'a> {
 
 /// What does not change during a run.
 #[derive(Clone, Copy)]
-struct Known<'a> {
+struct Setting<'a> {
     alloc: Global,
     schema: &'a Schema,
     units: u8,
@@ -113,36 +113,36 @@ fn push_front(
 
 fn push_unit_of(
     out: &mut Vec<u8>,
-    known: &Known<'_>,
+    setting: &Setting<'_>,
     core: &Core,
     number: u8,
 ) -> Result<(), AllocError>
-    ensures { OnOk result (out.new.items ≡ out.old.items ++ units_text known.now.schema.now (option_to_list (unit_at (state_now core.now).units number))) }
+    ensures { OnOk result (out.new.items ≡ out.old.items ++ units_text setting.now.schema.now (option_to_list (unit_at (state_now core.now).units number))) }
 {
     match core.unit(number) {
-        Some(unit) => push_unit(out, known.schema, unit),
+        Some(unit) => push_unit(out, setting.schema, unit),
         None => Ok(()),
     }
 }
 
-fn units_of(known: &Known<'_>, core: &Core) -> Result<Vec<u8>, AllocError>
-    requires { length core.now.runners ≡ known.now.units }
-    ensures { IfOk result (λ text. text.items ≡ units_text known.now.schema.now (state_now core.now).units) }
+fn units_of(setting: &Setting<'_>, core: &Core) -> Result<Vec<u8>, AllocError>
+    requires { length core.now.runners ≡ setting.now.units }
+    ensures { IfOk result (λ text. text.items ≡ units_text setting.now.schema.now (state_now core.now).units) }
 {
     core.is_core();
-    let mut text = Vec::new(known.alloc);
-    for before in 0..known.units {
-        push_unit_of(&mut text, known, core, before + 1)?;
+    let mut text = Vec::new(setting.alloc);
+    for before in 0..setting.units {
+        push_unit_of(&mut text, setting, core, before + 1)?;
     }
     Ok(text)
 }
 
-fn newest_answer(known: &Known<'_>, history: &[Entry]) -> Result<Vec<u8>, AllocError>
-    ensures { IfOk result (λ text. text.items ≡ newest_answer known.now.schema.now history.now) }
+fn newest_answer(setting: &Setting<'_>, history: &[Entry]) -> Result<Vec<u8>, AllocError>
+    ensures { IfOk result (λ text. text.items ≡ newest_answer setting.now.schema.now history.now) }
 {
-    let mut text = Vec::new(known.alloc);
+    let mut text = Vec::new(setting.alloc);
     if let Some(entry) = history.last() {
-        push_answer(&mut text, known.schema, entry)?;
+        push_answer(&mut text, setting.schema, entry)?;
     }
     Ok(text)
 }
@@ -151,17 +151,17 @@ fn newest_answer(known: &Known<'_>, history: &[Entry]) -> Result<Vec<u8>, AllocE
 #[tactic(auto, unfolding(crate::specs::Rows::state_row))]
 fn push_state(
     out: &mut Vec<u8>,
-    known: &Known<'_>,
+    setting: &Setting<'_>,
     core: &Core,
     answer: &[u8],
 ) -> Result<(), AllocError>
-    requires schema { core.now.schema ≡ known.now.schema.now }
-    requires units { length core.now.runners ≡ known.now.units }
+    requires schema { core.now.schema ≡ setting.now.schema.now }
+    requires units { length core.now.runners ≡ setting.now.units }
     ensures { OnOk result (out.new.items ≡ out.old.items ++ state_row core.now.schema answer.now (image_of core.now.schema core.now.capacity (state_now core.now).database) (state_now core.now).units) }
 {
-    let image = core.image(known.alloc)?;
-    let database = image_text(known.alloc, known.schema, &image)?;
-    let units = units_of(known, core)?;
+    let image = core.image(setting.alloc)?;
+    let database = image_text(setting.alloc, setting.schema, &image)?;
+    let units = units_of(setting, core)?;
     push_row_of_three(out, b"STATE", answer, database.as_slice(), units.as_slice())
 }
 
@@ -222,18 +222,18 @@ fn push_event(
 #[tactic(auto, using(crate::proofs::CoreShown::ticket_shown))]
 fn push_ticket(
     out: &mut Vec<u8>,
-    known: &Known<'_>,
+    setting: &Setting<'_>,
     core: &Core,
     mark: Mark,
 ) -> Result<(), AllocError>
-    requires schema { core.now.schema ≡ known.now.schema.now }
-    requires units { length core.now.runners ≡ known.now.units }
+    requires schema { core.now.schema ≡ setting.now.schema.now }
+    requires units { length core.now.runners ≡ setting.now.units }
     ensures { OnOk result (out.new.items ≡ out.old.items ++ ticket_row (machine core.now) mark) }
 {
     match mark {
         Mark::Ticket { .. } => {
-            let answer = newest_answer(known, core.history())?;
-            push_state(out, known, core, answer.as_slice())
+            let answer = newest_answer(setting, core.history())?;
+            push_state(out, setting, core, answer.as_slice())
         }
         _ => Ok(()),
     }
@@ -243,33 +243,33 @@ fn push_ticket(
 #[tactic(auto, using(crate::proofs::CoreShown::same_schema, crate::proofs::CoreShown::same_count))]
 fn push_move(
     out: &mut Vec<u8>,
-    known: &Known<'_>,
+    setting: &Setting<'_>,
     core: &mut Core,
     one: Move,
 ) -> Result<(), AllocError>
-    requires schema { core.old.schema ≡ known.now.schema.now }
-    requires units { length core.old.runners ≡ known.now.units }
+    requires schema { core.old.schema ≡ setting.now.schema.now }
+    requires units { length core.old.runners ≡ setting.now.units }
     ensures core { OnOk result (machine core.new ≡ after_move (machine core.old) one) }
     ensures text { OnOk result (out.new.items ≡ out.old.items ++ move_rows (machine core.old) one) }
 {
-    let event = watch_move(known.alloc, core, one)?;
-    push_event(known.alloc, out, core, &event)?;
-    push_ticket(out, known, core, event.mark)
+    let event = watch_move(setting.alloc, core, one)?;
+    push_event(setting.alloc, out, core, &event)?;
+    push_ticket(out, setting, core, event.mark)
 }
 
 #[tactic(auto, using(crate::proofs::CoreShown::same_schema, crate::proofs::CoreShown::same_count))]
-fn push_moves(
+fn push_each_move(
     out: &mut Vec<u8>,
-    known: &Known<'_>,
+    setting: &Setting<'_>,
     core: &mut Core,
     moves: &[Move],
 ) -> Result<(), AllocError>
-    requires schema { core.old.schema ≡ known.now.schema.now }
-    requires units { length core.old.runners ≡ known.now.units }
+    requires schema { core.old.schema ≡ setting.now.schema.now }
+    requires units { length core.old.runners ≡ setting.now.units }
     ensures { OnOk result (out.new.items ≡ out.old.items ++ rows_of_moves (machine core.old) moves.now) }
 {
     for one in moves {
-        push_move(out, known, core, *one)?;
+        push_move(out, setting, core, *one)?;
     }
     Ok(())
 }
@@ -277,35 +277,35 @@ fn push_moves(
 #[tactic(auto, using(crate::proofs::CoreShown::row_shown))]
 fn push_run(
     out: &mut Vec<u8>,
-    known: &Known<'_>,
+    setting: &Setting<'_>,
     core: &mut Core,
     moves: &[Move],
 ) -> Result<(), AllocError>
-    requires schema { core.old.schema ≡ known.now.schema.now }
-    requires units { length core.old.runners ≡ known.now.units }
+    requires schema { core.old.schema ≡ setting.now.schema.now }
+    requires units { length core.old.runners ≡ setting.now.units }
     ensures { OnOk result (out.new.items ≡ out.old.items ++ run_rows (machine core.old) moves.now) }
 {
-    push_state(out, known, core, b"")?;
-    push_moves(out, known, core, moves)
+    push_state(out, setting, core, b"")?;
+    push_each_move(out, setting, core, moves)
 }
 
 // The run of these moves, starting with the opening database.
 #[tactic(auto, using(crate::proofs::CoreShown::begun_schema, crate::proofs::CoreShown::begun_count))]
 fn push_whole_run(
     out: &mut Vec<u8>,
-    known: &Known<'_>,
+    setting: &Setting<'_>,
     capacity: u16,
     statements: Row<Row<Statement>>,
     moves: &[Move],
 ) -> Result<(), AllocError>
-    requires sound { IsSound known.now.schema.now }
-    requires units { length statements ≡ known.now.units }
+    requires sound { IsSound setting.now.schema.now }
+    requires units { length statements ≡ setting.now.units }
     requires few { length statements ≤ LAST_UNIT }
-    requires fit { scripts_fit known.now.schema.now statements ≡ true }
-    ensures { OnOk result (out.new.items ≡ out.old.items ++ run_rows (opening_core known.now.schema.now capacity statements) moves.now) }
+    requires fit { scripts_fit setting.now.schema.now statements ≡ true }
+    ensures { OnOk result (out.new.items ≡ out.old.items ++ run_rows (opening_core setting.now.schema.now capacity statements) moves.now) }
 {
-    let mut core = Core::new(known.alloc, known.schema, capacity, statements)?;
-    let ran = push_run(out, known, &mut core, moves);
+    let mut core = Core::new(setting.alloc, setting.schema, capacity, statements)?;
+    let ran = push_run(out, setting, &mut core, moves);
     core.discard();
     ran
 }
@@ -325,14 +325,14 @@ pub fn page_text(
     requires fit { scripts_fit schema.now statements ≡ true }
     ensures { IfOk result (λ text. text.items ≡ page_text schema.now capacity statements told.now.scripts.now told.now.causes.now moves.now) }
 {
-    let known = Known {
+    let setting = Setting {
         alloc,
         schema,
         units: statements.len() as u8,
     };
     let mut out = Vec::from_slice(alloc, MARKUP.as_bytes())?;
     push_front(alloc, &mut out, schema, told)?;
-    push_whole_run(&mut out, &known, capacity, statements, moves)?;
+    push_whole_run(&mut out, &setting, capacity, statements, moves)?;
     out.extend_from_slice(SCRIPT.as_bytes())?;
     Ok(out)
 }

@@ -26,7 +26,7 @@ use crate::unit_alone::done_answer;
 use dbtg_cells::{CellName, DbKey, Owner, Value, copy_items};
 use dbtg_schema::{Duplicates, Order, RecordNo, Row, Schema, SetNo};
 use dbtg_unit::{
-    Answer, Cause, CellEdit, Change, Edit, Held, Prepared, Status, Unit, UnitEdit, edit_cells,
+    Answer, Cause, CellEdit, Change, Edit, Held, Prepared, Status, Unit, UnitEdit, edit_each_cell,
     is_rekeyed_in, names_calc, next_version, occurrence, own_refusal, owner_in, refused, ring_name,
     set_count, stored,
 };
@@ -49,7 +49,7 @@ fn missing_ring_of(
     }
 }
 
-fn missing_rings(
+fn missing_rekeyed_ring(
     schema: &Schema,
     rtype: RecordNo,
     changes: &[Change],
@@ -95,7 +95,7 @@ pub(crate) fn next_cell_of_modify(
     if extent.is_some() {
         return extent;
     }
-    let ring = missing_rings(schema, rtype, changes, held);
+    let ring = missing_rekeyed_ring(schema, rtype, changes, held);
     if ring.is_some() {
         return ring;
     }
@@ -459,7 +459,7 @@ fn modify_record(
 {
     let edits = edits_beside_slot(alloc, schema, unit, changes, held, key, items.as_slice())?;
     let version = next_version(held, key);
-    edit_cells(held, Row::of(edits));
+    edit_each_cell(held, Row::of(edits));
     change_slot(held, key, Edit::ChangeItems { items });
     unit.renote(*key, version);
     Ok(done_answer())

@@ -16,7 +16,7 @@ ghost use Rattle.dbtg_unit.specs.Hands.Needs.{cells_of, current_owner, first_mis
 ghost use Rattle.dbtg_unit.specs.Hands.PlanOf.{first_owners, joining_edits, slot_edit, store_edits, storing};
 ghost use Rattle.dbtg_unit.specs.Inside.PlanOf.{plan_of};
 ghost use Rattle.dbtg_plan.specs.Inside.Calc.{fresh_key};
-ghost use Rattle.dbtg_plan.specs.Inside.Store.{HasRoom, entering_edit, missing_of_store, opening_edit, opening_edits, plan_of_judged};
+ghost use Rattle.dbtg_plan.specs.Inside.Store.{HasRoom, entering_edit, missing_of_store, opening_edit, edits_of_opening, plan_of_judged};
 
 use crate::calc::{calc_taken, copy_calc, fresh_key};
 use crate::joining::{current_owner, joining_edit, make_room, place_refusal};
@@ -27,7 +27,7 @@ use dbtg_cells::{CellName, DbKey, Owner, Value, copy_items};
 use dbtg_schema::{RecordNo, Row, Schema, SetNo};
 use dbtg_unit::{
     Answer, Cause, CellEdit, Edit, Held, Owners, Prepared, Status, Suppress, Unit, UnitEdit,
-    edit_cells, edit_held, is_automatic_in, numbers, refused, set_count,
+    edit_each_cell, edit_held, is_automatic_in, numbers, refused, set_count,
 };
 use std::alloc::{AllocError, Global};
 
@@ -83,7 +83,7 @@ fn missing_in_set(
     missing_own(schema, held, key, set)
 }
 
-fn missing_in_sets(schema: &Schema, unit: &Unit, held: &Held, key: &DbKey) -> Option<CellName>
+fn missing_in_any_set(schema: &Schema, unit: &Unit, held: &Held, key: &DbKey) -> Option<CellName>
     ensures { result ≡ first_missing held.now (store_rings schema.now unit.now key.now) }
 {
     for s in 0..set_count(schema) {
@@ -99,7 +99,7 @@ fn missing_in_sets(schema: &Schema, unit: &Unit, held: &Held, key: &DbKey) -> Op
 fn missing_of_key(schema: &Schema, unit: &Unit, held: &Held, key: &DbKey) -> Option<CellName>
     ensures { result ≡ first_missing held.now (store_rings schema.now unit.now key.now ++ CellName.Slot key.now.rtype key.now.number ∷ []) }
 {
-    let ring = missing_in_sets(schema, unit, held, key);
+    let ring = missing_in_any_set(schema, unit, held, key);
     if ring.is_some() {
         return ring;
     }
@@ -168,7 +168,7 @@ fn refusal_in_set(
     Ok(place_refusal(schema, unit, held, set, &sort_key))
 }
 
-fn refusal_in_sets(
+fn refusal_in_any_set(
     alloc: Global,
     schema: &Schema,
     unit: &Unit,
@@ -202,7 +202,7 @@ fn refusal(
     if calc_taken(schema, held, rtype, items, None) {
         return Ok(Some(Cause::DuplicatesNotAllowed));
     }
-    refusal_in_sets(alloc, schema, unit, held, rtype, items)
+    refusal_in_any_set(alloc, schema, unit, held, rtype, items)
 }
 
 // The key that the record gets, or why it is not stored.
@@ -246,7 +246,7 @@ fn push_join(
     Ok(())
 }
 
-fn push_joins(
+fn push_each_join(
     alloc: Global,
     schema: &Schema,
     unit: &Unit,
@@ -293,7 +293,7 @@ fn opening_edit(key: &DbKey, set: SetNo) -> CellEdit
 }
 
 fn push_openings(schema: &Schema, key: &DbKey, edits: &mut Vec<CellEdit>) -> Result<(), AllocError>
-    ensures { OnOk result (edits.new.items ≡ edits.old.items ++ opening_edits schema.now key.now) }
+    ensures { OnOk result (edits.new.items ≡ edits.old.items ++ edits_of_opening schema.now key.now) }
 {
     for set in schema.owned_sets(key.rtype) {
         edits.push(opening_edit(key, *set))?;
@@ -345,7 +345,7 @@ fn edits_of(
     // Most records need four edits: a number, a set joined, a set opened, and a slot.
     let mut edits = Vec::with_capacity(alloc, 4)?;
     edits.push(entering(alloc, schema, key, items.as_slice())?)?;
-    push_joins(alloc, schema, unit, key, items.as_slice(), &mut edits)?;
+    push_each_join(alloc, schema, unit, key, items.as_slice(), &mut edits)?;
     push_openings(schema, key, &mut edits)?;
     edits.push(filling(alloc, key, items, owners)?)?;
     Ok(Row::of(edits))
@@ -437,8 +437,8 @@ pub(crate) fn prepare_store(
 // MADE AT ONCE
 
 fn open_occurrences(schema: &Schema, key: &DbKey, held: &mut Held)
-    requires { CanMake (opening_edits schema.now key.now) held.old.cells }
-    ensures made { AreMade (opening_edits schema.now key.now) held.old.cells held.new.cells }
+    requires { CanMake (edits_of_opening schema.now key.now) held.old.cells }
+    ensures made { AreMade (edits_of_opening schema.now key.now) held.old.cells held.new.cells }
     ensures areas { held.new.areas ≡ held.old.areas }
     ensures guesses { held.new.guesses ≡ held.old.guesses }
 {
@@ -456,13 +456,13 @@ fn change_cells(
     joins: Row<CellEdit>,
     filling: CellEdit,
 )
-    requires { CanMake (entering ∷ (joins ++ (opening_edits schema.now key.now ++ filling ∷ []))) held.old.cells }
-    ensures made { AreMade (entering ∷ (joins ++ (opening_edits schema.now key.now ++ filling ∷ []))) held.old.cells held.new.cells }
+    requires { CanMake (entering ∷ (joins ++ (edits_of_opening schema.now key.now ++ filling ∷ []))) held.old.cells }
+    ensures made { AreMade (entering ∷ (joins ++ (edits_of_opening schema.now key.now ++ filling ∷ []))) held.old.cells held.new.cells }
     ensures areas { held.new.areas ≡ held.old.areas }
     ensures guesses { held.new.guesses ≡ held.old.guesses }
 {
     edit_held(held, entering);
-    edit_cells(held, joins);
+    edit_each_cell(held, joins);
     open_occurrences(schema, key, held);
     edit_held(held, filling);
 }
@@ -484,7 +484,7 @@ fn store(
 {
     let entering = entering(alloc, schema, key, items.as_slice())?;
     let mut joins = Vec::new(alloc);
-    push_joins(alloc, schema, unit, key, items.as_slice(), &mut joins)?;
+    push_each_join(alloc, schema, unit, key, items.as_slice(), &mut joins)?;
     let owners = first_owners(schema, unit, key.rtype);
     let filling = filling(alloc, key, items, &owners)?;
     make_places(schema, unit, held, key)?;

@@ -31,10 +31,10 @@ fit_behind lists statements before after e all one =
     ap (scripts_fit lists) e ∙ list_all-append (list_all (fits lists)) before (statements ∷ []) ∙ rw (all, one) refl
 
 -- what a run of the statements that were read gives is the replay of the texts
-pub replays : (holds : TextPlace → List ℕ → Type 0) (lists : Lists) (count : ℕ) (order : Order (List ℕ)) (first : Bool) (form : AnswerForm) (capacity : ℕ) (out : List ℕ)
+pub replay_is_run : (holds : TextPlace → List ℕ → Type 0) (lists : Lists) (count : ℕ) (order : Order (List ℕ)) (first : Bool) (form : AnswerForm) (capacity : ℕ) (out : List ℕ)
     → is_count count ≡ true → ReadSchema holds lists → (scripts : ReadScripts holds lists count) → HoldsOrder holds order → AcceptsOrder order
     → IsPrintedRun first lists capacity (map (script lists) scripts.texts) form scripts.texts order out → ReplaysHeld holds count (kind_of order) first form capacity out
-replays holds lists count order first form capacity out right read scripts held accepted run = (
+replay_is_run holds lists count order first form capacity out right read scripts held accepted run = (
   read_texts holds lists count read scripts order held,
   record {
     count = ap is_count scripts.many ∙ right;
@@ -57,7 +57,7 @@ module _ (holds : TextPlace → List ℕ → Type 0) (lists : Lists) (count capa
   replays_in : (order : Order (List ℕ)) → HoldsOrder holds order → AcceptsOrder order → IsPrintedRun first lists capacity statements form texts order out → ReplaysHeld holds count (kind_of order) first form capacity out
   replays_in order held accepted run =
       let of_all = subst (λ ss. IsPrintedRun first lists capacity ss form texts order out) same run in
-      replays holds lists count order first form capacity out right read scripts held accepted
+      replay_is_run holds lists count order first form capacity out right read scripts held accepted
       (subst (λ ts. IsPrintedRun first lists capacity (map (script lists) scripts.texts) form ts order out) are of_all)
 
   pub replays_serially : IsPrinted (InTurnIs first lists capacity statements) (shown_text lists form texts) out → ReplaysHeld holds count kind.Serial first form capacity out

@@ -5,7 +5,7 @@ ghost use Rattle.dbtg_step.specs.Laws.{scripts_fit};
 ghost use Rattle.dbtg_step.specs.Machine.Headline.{RunIs};
 ghost use Rattle.dbtg_replay.specs.Explaining.{said_of_run};
 
-use dbtg_command::copy_scripts;
+use dbtg_command::copy_each_script;
 use dbtg_refusal::said_of_history;
 use dbtg_schema::{Row, Schema};
 use dbtg_step::{Run, run};
@@ -45,7 +45,7 @@ pub fn said_of_run(
     requires fit { scripts_fit schema.now statements.now ≡ true }
     ensures { IfOk result (λ said. said.items ≡ said_of_run schema.now capacity statements.now moves.now) }
 {
-    let copies = copy_scripts(alloc, statements)?;
+    let copies = copy_each_script(alloc, statements)?;
     let given = run(alloc, schema, capacity, copies, moves)?;
     let said = said_of_given(alloc, schema, capacity, statements, moves, &given);
     given.discard();

@@ -5,7 +5,7 @@ ghost use Rattle.dbtg_unit.specs.declared.moves.Move.{Move};
 ghost use Rattle.dbtg_step.specs.Laws.{scripts_fit};
 ghost use Rattle.dbtg_replay.specs.Ordering.{AreFirstMoves, StandFor, first_turns, serial_turns};
 
-use dbtg_command::copy_scripts;
+use dbtg_command::copy_each_script;
 use dbtg_schema::{Row, Schema};
 use dbtg_step::run_turns;
 use dbtg_unit::{Entry, LAST_UNIT, Move, Statement};
@@ -127,7 +127,7 @@ pub fn moves_behind_first(
         return Ok(AllMoves { moves, before: 0 });
     }
     let turns = first_turns(alloc, true, scripts)?;
-    let copies = copy_scripts(alloc, scripts)?;
+    let copies = copy_each_script(alloc, scripts)?;
     let mut all = moves_of_turns(alloc, schema, capacity, copies, turns.as_slice())?.into_vec();
     let before = all.len();
     all.extend_from_slice(moves.as_slice())?;

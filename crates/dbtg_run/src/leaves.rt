@@ -42,7 +42,7 @@ impl Work {
     }
 
     // Puts all cells back.
-    pub(crate) fn put_cells(&mut self, db: &Database)
+    pub(crate) fn put_each_cell(&mut self, db: &Database)
         requires belongs { Belongs db.now self.old }
         requires work { IsAtWork self.old }
         ensures same { IsSameUnit self.old self.new }
@@ -86,7 +86,7 @@ impl Work {
         ensures exclusive { self.new.exclusive ≡ self.old.exclusive }
         ensures held { self.new.held ≡ record self.old.held { areas = []; cells = [] } }
     {
-        self.put_cells(db);
+        self.put_each_cell(db);
         'areas: while 0 < self.held.area_count() {
             self.leave_area(db);
         }

@@ -209,7 +209,7 @@ impl Work {
     {
         // Unused here; the contract mentions it.
         let _ = statement;
-        self.put_cells(db);
+        self.put_each_cell(db);
         self.guess(guesses);
     }
 

@@ -47,11 +47,11 @@ programs_behind holds lists n text before after texts texts' so_far held e taken
     )
 
 -- a run of the programs that were read, as it is printed
-pub runs : (holds : TextPlace → List ℕ → Type 0) (lists : Lists) (count : ℕ) (which : OrderKind) (options : RunOptions) (programs : List Program) (texts : List (List ℕ)) (turns : Option (List ℕ)) (given : ProgramRun) (printed : Printed)
+pub run_is_read : (holds : TextPlace → List ℕ → Type 0) (lists : Lists) (count : ℕ) (which : OrderKind) (options : RunOptions) (programs : List Program) (texts : List (List ℕ)) (turns : Option (List ℕ)) (given : ProgramRun) (printed : Printed)
     → is_count count ≡ true → ReadSchema holds lists → (read : ReadPrograms holds lists count) × (programs ≡ map (program lists) read.texts) × (texts ≡ read.texts) → ReadsTurns holds which turns
     → IsRunOf lists options.capacity programs (turns_of lists options.capacity programs options.around turns) given → printed.text.items ≡ run_text lists options.form texts given → printed.failed ≡ list_any (λ r. failed r.standing) given.programs
     → RunsHeld holds count which options printed
-runs holds lists count which options programs texts turns given printed right schema read turns_too run text failed_is =
+run_is_read holds lists count which options programs texts turns given printed right schema read turns_too run text failed_is =
     record {
       counted = right;
       lists = lists;

@@ -21,7 +21,7 @@ fn push_program_line(out: &mut Vec<u8>, number: usize, program: &Program) -> Res
     out.extend_from_slice(b" sentences\n")
 }
 
-fn push_program_lines(out: &mut Vec<u8>, programs: &[Program]) -> Result<(), AllocError>
+fn push_each_program_line(out: &mut Vec<u8>, programs: &[Program]) -> Result<(), AllocError>
     ensures { OnOk result (out.new.items ≡ out.old.items ++ program_lines 1 programs.now) }
 {
     for (i, program) in programs.iter().enumerate() {
@@ -39,7 +39,7 @@ fn check_known<S: Source>(alloc: Global, source: &S, known: &Schema) -> Result<V
     let programs = read_programs(alloc, source, known)?;
     let mut out = Vec::new(alloc);
     push_schema_line(&mut out, known)?;
-    push_program_lines(&mut out, programs.list.as_slice())?;
+    push_each_program_line(&mut out, programs.list.as_slice())?;
     Ok(out)
 }
 

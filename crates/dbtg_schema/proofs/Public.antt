@@ -53,13 +53,13 @@ pub use Rattle.dbtg_schema.proofs.Sound.Limits.{both_nil}
 -- WHAT IS COMPUTED FROM A SCHEMA
 
 -- some number passes both or neither of two tests that agree
-pub use Rattle.dbtg_schema.proofs.Known.Erasings.{any_same}
+pub use Rattle.dbtg_schema.proofs.Indexes.Erasings.{any_same}
 -- the least closed set is closed, and lies in each closed set
-pub use Rattle.dbtg_schema.proofs.Known.LeastClosed.{least_closed_is_least}
+pub use Rattle.dbtg_schema.proofs.Indexes.LeastClosed.{least_closed_is_least}
 -- a list is no shorter than what a test keeps of it
-pub use Rattle.dbtg_schema.proofs.Known.LeastClosed.{length_filter}
+pub use Rattle.dbtg_schema.proofs.Indexes.LeastClosed.{length_filter}
 -- the first place in a list with one more at its end
-pub use Rattle.dbtg_schema.proofs.Known.Positions.{position_more}
+pub use Rattle.dbtg_schema.proofs.Indexes.Positions.{position_more}
 -- OPTIONS
 
 -- it is not something: it is nothing
@@ -73,6 +73,6 @@ pub use Rattle.dbtg_schema.proofs.Options.{some_is}
 -- NAMES AND PLACES
 
 -- the first place in a list with one more at its end
-pub use Rattle.dbtg_schema.proofs.Known.Positions.{position_more}
+pub use Rattle.dbtg_schema.proofs.Indexes.Positions.{position_more}
 -- what is found among entries with one more after them
-pub use Rattle.dbtg_schema.proofs.Known.NameIndexes.{lookup_more}
+pub use Rattle.dbtg_schema.proofs.Indexes.NameIndexes.{lookup_more}

@@ -241,7 +241,7 @@ impl Schema {
         ensures known { list_all (λ a. nat_lt a (length self.now.areas)) (erase_areas self.now rtype) ≡ true }
     {
         self.is_well_formed();
-        match self.areas_known(rtype) {
+        match self.indexed_areas(rtype) {
             Some(areas) => areas,
             None => areas_reached_now(self, rtype),
         }

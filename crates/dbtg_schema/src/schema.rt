@@ -266,7 +266,7 @@ impl Schema {
     }
 
     /// The sets in which STORE connects a record of this type, once they are computed.
-    fn connecting_known(&self, rtype: RecordNo) -> Option<SetMarks>
+    fn indexed_connecting(&self, rtype: RecordNo) -> Option<SetMarks>
         ensures { IfSome result (λ sets. AreConnecting self.now rtype sets) }
     {
         match self.connecting.get(rtype.index() as usize) {
@@ -276,7 +276,7 @@ impl Schema {
     }
 
     /// The areas that a DELETE of a record of this type may reach, once they are computed.
-    pub(crate) fn areas_known(&self, rtype: RecordNo) -> Option<AreaSet>
+    pub(crate) fn indexed_areas(&self, rtype: RecordNo) -> Option<AreaSet>
         ensures { IfSome result (λ areas. AreErased self.now rtype areas) }
     {
         match self.erased.get(rtype.index() as usize) {
@@ -365,7 +365,7 @@ impl Schema {
     pub fn connects(&self, set: SetNo, rtype: RecordNo) -> bool
         ensures { result ≡ some_and (λ m. is_automatic m.class) (member_clause self.now set rtype) }
     {
-        match self.connecting_known(rtype) {
+        match self.indexed_connecting(rtype) {
             Some(sets) => sets.contains(set),
             None => connects_in(self, set, rtype),
         }

@@ -7,9 +7,9 @@ pub use Rattle.dbtg_script.proofs.Reading.LineBehind.{is_read_behind}
 -- an empty script says nothing
 pub use Rattle.dbtg_script.proofs.Reading.LineBehind.{nothing_read}
 -- lines that were read stay known after one statement more
-pub use Rattle.dbtg_script.proofs.Reading.KnownLines.{still_known}
+pub use Rattle.dbtg_script.proofs.Reading.CachedLines.{still_cached}
 -- a line that was read says its statement, wherever there is room for it
-pub use Rattle.dbtg_script.proofs.Reading.KnownLines.{at_index, new_read, says_again}
+pub use Rattle.dbtg_script.proofs.Reading.CachedLines.{at_index, new_read, says_again}
 -- what is read of a known line may take memory
 pub use Rattle.dbtg_script.proofs.Reading.AtOnce.{known_may}
 -- a line without a fault has none that is found at once

@@ -1,6 +1,6 @@
 -- The reader's steps, and that lines which were read before are read again.
 -- May use: the lemmas on grammars of dbtg_schema.
--- Promises: `Accepted`, `NoFault`: a line without faults is derived, and one that is derived has no fault of the grammar; `KnownLines`: a line that is found is read as before.
+-- Promises: `Accepted`, `NoFault`: a line without faults is derived, and one that is derived has no fault of the grammar; `CachedLines`: a line that is found is read as before.
 pub mod Accepted
 pub mod AtOnce
 pub mod Derived
@@ -8,7 +8,7 @@ pub mod FaultyRows
 pub mod FaultySteps
 pub mod Firsts
 pub mod Kinds
-pub mod KnownLines
+pub mod CachedLines
 pub mod LineBehind
 pub mod LineSteps
 pub mod MoveSteps

@@ -38,7 +38,7 @@ use Rattle.dbtg_script.specs.Printing.Texts.{key_text, type_name, unit_text}
 
 -- a key in range, whose record type is found by its name; no name has a colon
 pub record IsKeyOf (schema : Lists) (k : DbKey) : Type 0 where
-  pub known : type_named schema (type_name schema k.rtype) ≡ Some k.rtype
+  pub cache : type_named schema (type_name schema k.rtype) ≡ Some k.rtype
   pub no_colon : has_byte 58 (type_name schema k.rtype) ≡ false
   pub number_from : 1 ≤ k.number
   pub number_to : k.number ≤ 999999

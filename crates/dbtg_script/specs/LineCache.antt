@@ -21,6 +21,6 @@ IsReadAt schema ss None = Unit {0}
 IsReadAt schema ss (Some s) = IsRead schema ss s.line.now s.at
 
 -- all lines that are kept were read in this way
-abbrev pub IsKnown : Lists → List Statement → List (Option Seen) → Type 0
-IsKnown schema ss [] = Unit {0}
-IsKnown schema ss (p ∷ ps) = IsReadAt schema ss p × IsKnown schema ss ps
+abbrev pub IsCached : Lists → List Statement → List (Option Seen) → Type 0
+IsCached schema ss [] = Unit {0}
+IsCached schema ss (p ∷ ps) = IsReadAt schema ss p × IsCached schema ss ps

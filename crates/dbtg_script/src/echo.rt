@@ -155,7 +155,7 @@ fn push_row(
     push_note(out, note_of(notes, entry.ticket))
 }
 
-fn push_rows(
+fn push_each_row(
     out: &mut Vec<u8>,
     schema: &Schema,
     notes: &[Row<u8>],
@@ -198,6 +198,6 @@ pub fn echo_text(
 {
     let lines = lines_of_history(alloc, beside.texts, history)?;
     let mut out = Vec::new(alloc);
-    push_rows(&mut out, schema, beside.notes, lines.as_slice(), history)?;
+    push_each_row(&mut out, schema, beside.notes, lines.as_slice(), history)?;
     Ok(out)
 }

@@ -4,7 +4,7 @@ ghost use Rattle.dbtg_script.specs.Printing.Texts.{area_text, areas_text, image_
 ghost use Rattle.std.specs.List.{flat_map};
 ghost use Rattle.std.specs.Prelude.{◌≡◌, ◌++◌, IfOk, OnOk, map};
 
-use crate::print::{push_items, push_key, push_keys, push_mode, push_number, push_owner};
+use crate::print::{push_each_item, push_each_key, push_key, push_mode, push_number, push_owner};
 use dbtg_cells::{DbKey, Mode, Owner, Value};
 use dbtg_schema::{Area, Row, Schema, SetType};
 use dbtg_unit::{Image, Stepped};
@@ -18,12 +18,12 @@ fn push_record(
     ensures { OnOk result (out.new.items ≡ out.old.items ++ record_text schema.now entry.now) }
 {
     push_key(out, schema, &entry.0)?;
-    push_items(out, entry.1.as_slice(), schema.items(entry.0.rtype))?;
+    push_each_item(out, entry.1.as_slice(), schema.items(entry.0.rtype))?;
     out.push(b'\n')?;
     Ok(())
 }
 
-fn push_records(
+fn push_each_record(
     out: &mut Vec<u8>,
     schema: &Schema,
     records: &[(DbKey, Row<Value>)],
@@ -48,7 +48,7 @@ fn push_list(
     out.push(b' ')?;
     push_owner(out, schema, &list.0)?;
     out.push(b':')?;
-    push_keys(out, schema, list.1.as_slice())?;
+    push_each_key(out, schema, list.1.as_slice())?;
     out.push(b'\n')?;
     Ok(())
 }
@@ -67,7 +67,7 @@ fn push_lists_of(
     Ok(())
 }
 
-fn push_lists(
+fn push_each_list(
     out: &mut Vec<u8>,
     schema: &Schema,
     lists: &[Row<(Owner, Row<DbKey>)>],
@@ -92,7 +92,7 @@ fn push_spaced_number(out: &mut Vec<u8>, number: u32) -> Result<(), AllocError>
     Ok(())
 }
 
-fn push_spaced_numbers(out: &mut Vec<u8>, numbers: &[u32]) -> Result<(), AllocError>
+fn push_each_spaced_number(out: &mut Vec<u8>, numbers: &[u32]) -> Result<(), AllocError>
     ensures { OnOk result (out.new.items ≡ out.old.items ++ flat_map spaced_number numbers.now) }
 {
     for number in numbers {
@@ -105,7 +105,7 @@ fn push_next(out: &mut Vec<u8>, next: &[u32]) -> Result<(), AllocError>
     ensures { OnOk result (out.new.items ≡ out.old.items ++ next_text next.now) }
 {
     out.extend_from_slice(b"NEXT")?;
-    push_spaced_numbers(out, next)?;
+    push_each_spaced_number(out, next)?;
     out.push(b'\n')?;
     Ok(())
 }
@@ -139,7 +139,7 @@ fn push_area(out: &mut Vec<u8>, name: &[u8], users: &[(u8, Mode)]) -> Result<(),
     Ok(())
 }
 
-fn push_areas(
+fn push_each_area(
     out: &mut Vec<u8>,
     usage: &[Row<(u8, Mode)>],
     areas: &[Area],
@@ -160,10 +160,10 @@ pub fn image_text(alloc: Global, schema: &Schema, image: &Image) -> Result<Vec<u
     ensures { IfOk result (λ text. text.items ≡ image_text schema.now image.now.records image.now.lists image.now.next image.now.usage) }
 {
     let mut out = Vec::new(alloc);
-    push_records(&mut out, schema, image.records.as_slice())?;
-    push_lists(&mut out, schema, image.lists.as_slice(), schema.sets())?;
+    push_each_record(&mut out, schema, image.records.as_slice())?;
+    push_each_list(&mut out, schema, image.lists.as_slice(), schema.sets())?;
     push_next(&mut out, image.next.as_slice())?;
-    push_areas(&mut out, image.usage.as_slice(), schema.areas())?;
+    push_each_area(&mut out, image.usage.as_slice(), schema.areas())?;
     Ok(out)
 }
 

@@ -49,7 +49,7 @@ pub use line::{
 };
 pub use line_cache::{LineCache, Seen};
 pub use moves::{MovesCause, MovesFault, read_moves};
-pub use print::{push_items, push_key, push_mode, push_number, push_owner, push_status};
+pub use print::{push_each_item, push_key, push_mode, push_number, push_owner, push_status};
 pub use reader::{read_script, read_script_line};
 pub use said_words::read_statement_words;
 pub use sizes::{push_echoed_run, push_rest, push_run, push_schema_line, push_script_line};

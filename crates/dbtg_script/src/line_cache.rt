@@ -2,7 +2,7 @@
 
 ghost use Rattle.dbtg_schema.specs.Lists.{Lists};
 ghost use Rattle.dbtg_unit.specs.declared.statement.Statement.{Statement as SaidStatement};
-ghost use Rattle.dbtg_script.specs.LineCache.{IsKnown, IsRead};
+ghost use Rattle.dbtg_script.specs.LineCache.{IsCached, IsRead};
 ghost use Rattle.std.specs.Prelude.{◌≡◌, ◌<◌, List, IfSome};
 
 /// A line that holds a statement, and its place among the statements that were read.
@@ -49,7 +49,7 @@ fn place_in(seen: &Seen, line: &[u8]) -> Option<usize>
 impl<'a> LineCache<'a> {
     /// No line yet.
     pub fn none() -> Self
-        ensures { (schema : Lists) (statements : List SaidStatement) → IsKnown schema statements result.places }
+        ensures { (schema : Lists) (statements : List SaidStatement) → IsCached schema statements result.places }
     {
         Self {
             places: [None; PLACES],
@@ -58,7 +58,7 @@ impl<'a> LineCache<'a> {
 
     /// The place of the statement of this line, if the line is kept.
     pub fn find(&self, line: &[u8]) -> Option<usize>
-        ensures { (schema : Lists) (statements : List SaidStatement) → IsKnown schema statements self.now.places → IfSome result (λ at. IsRead schema statements line.now at) }
+        ensures { (schema : Lists) (statements : List SaidStatement) → IsCached schema statements self.now.places → IfSome result (λ at. IsRead schema statements line.now at) }
     {
         match &self.places[place_of(line)] {
             None => None,
@@ -68,7 +68,7 @@ impl<'a> LineCache<'a> {
 
     /// Keeps a line, with the place of its statement.
     pub fn note(&mut self, line: &'a [u8], at: usize)
-        ensures { (schema : Lists) (statements : List SaidStatement) → IsKnown schema statements self.old.places → IsRead schema statements line.now at → IsKnown schema statements self.new.places }
+        ensures { (schema : Lists) (statements : List SaidStatement) → IsCached schema statements self.old.places → IsRead schema statements line.now at → IsCached schema statements self.new.places }
     {
         self.places[place_of(line)] = Some(Seen { line, at });
     }

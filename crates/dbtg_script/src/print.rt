@@ -136,7 +136,7 @@ pub fn push_spaced_key(out: &mut Vec<u8>, schema: &Schema, key: &DbKey) -> Resul
     Ok(())
 }
 
-pub fn push_keys(out: &mut Vec<u8>, schema: &Schema, keys: &[DbKey]) -> Result<(), AllocError>
+pub fn push_each_key(out: &mut Vec<u8>, schema: &Schema, keys: &[DbKey]) -> Result<(), AllocError>
     ensures { OnOk result (out.new.items ≡ out.old.items ++ flat_map (spaced_key schema.now) keys.now) }
 {
     for key in keys {
@@ -170,7 +170,7 @@ fn push_item(out: &mut Vec<u8>, name: &[u8], value: &Value) -> Result<(), AllocE
 }
 
 /// Each value after the name of its item.
-pub fn push_items(out: &mut Vec<u8>, values: &[Value], items: &[Item]) -> Result<(), AllocError>
+pub fn push_each_item(out: &mut Vec<u8>, values: &[Value], items: &[Item]) -> Result<(), AllocError>
     ensures { OnOk result (out.new.items ≡ out.old.items ++ items_text values.now items.now) }
 {
     for (i, value) in values.iter().enumerate() {
@@ -220,7 +220,7 @@ pub fn push_current(
     }
 }
 
-pub fn push_currents(
+pub fn push_each_current(
     out: &mut Vec<u8>,
     schema: &Schema,
     currents: &[Option<DbKey>],
@@ -257,7 +257,7 @@ fn push_place(out: &mut Vec<u8>, schema: &Schema, place: Option<Place>) -> Resul
     }
 }
 
-pub fn push_places(
+pub fn push_each_place(
     out: &mut Vec<u8>,
     schema: &Schema,
     places: &[Option<Place>],

@@ -5,7 +5,7 @@ ghost use Rattle.dbtg_script.specs.Inside.Automaton.{rest_of};
 ghost use Rattle.dbtg_schema.specs.Lookups.{first};
 ghost use Rattle.dbtg_schema.specs.Lists.{Lists};
 ghost use Rattle.dbtg_script.specs.Inside.LineCache.{Says};
-ghost use Rattle.dbtg_script.specs.LineCache.{IsKnown};
+ghost use Rattle.dbtg_script.specs.LineCache.{IsCached};
 ghost use Rattle.dbtg_script.specs.Lines.{ends_in_text, is_statement, trimmed};
 ghost use Rattle.dbtg_script.specs.Reading.{IsToldAtOnce, Refuses, RefusesScript, faults_at, faults_at_once, first_word_faults, script_faults_at_once, verdict};
 ghost use Rattle.dbtg_script.specs.Inside.Reading.{MayTakeMemory, at_line};
@@ -181,17 +181,17 @@ pub fn read_script_line(
 /// The statement of a line, if the line was read before and there is room for one more.
 fn said_again(
     alloc: Global,
-    known: &LineCache,
+    cache: &LineCache,
     statements: &[Statement],
     line: &[u8],
 ) -> Result<Option<Statement>, AllocError>
-    ensures says { (schema : Lists) → IsKnown schema statements.now known.now.places → IfOk result (λ found. IfSome found (λ s. Says schema (length statements.now) line.now s)) }
-    ensures memory { (schema : Lists) → IsKnown schema statements.now known.now.places → OnErr result (MayTakeMemory schema (length statements.now) line.now) }
+    ensures says { (schema : Lists) → IsCached schema statements.now cache.now.places → IfOk result (λ found. IfSome found (λ s. Says schema (length statements.now) line.now s)) }
+    ensures memory { (schema : Lists) → IsCached schema statements.now cache.now.places → OnErr result (MayTakeMemory schema (length statements.now) line.now) }
 {
     if MOST_STATEMENTS <= statements.len() {
         return Ok(None);
     }
-    match known.find(line) {
+    match cache.find(line) {
         None => Ok(None),
         Some(at) => {
             match statements.get(at) {
@@ -206,18 +206,18 @@ fn said_again(
 fn said_at_once(
     alloc: Global,
     schema: &Schema,
-    known: &LineCache,
+    cache: &LineCache,
     statements: &[Statement],
     line: &[u8],
 ) -> Result<Option<Statement>, AllocError>
-    requires { IsKnown schema.now statements.now known.now.places }
+    requires { IsCached schema.now statements.now cache.now.places }
     ensures says { IfOk result (λ found. IfSome found (λ s. Says schema.now (length statements.now) line.now s)) }
     ensures memory { OnErr result (MayTakeMemory schema.now (length statements.now) line.now) }
 {
     if MOST_STATEMENTS <= statements.len() {
         return Ok(None);
     }
-    match said_again(alloc, known, statements, line)? {
+    match said_again(alloc, cache, statements, line)? {
         Some(again) => Ok(Some(again)),
         None => usual_statement(alloc, schema, line),
     }
@@ -227,13 +227,13 @@ fn said_at_once(
 fn take_new_line<'a>(
     alloc: Global,
     words: &mut Words<'a>,
-    known: &mut LineCache<'a>,
+    cache: &mut LineCache<'a>,
     statements: &mut Vec<Statement>,
     line: &'a [u8],
 ) -> Result<(), LineFault>
-    requires { IsKnown words.old.schema statements.old.items known.old.places }
+    requires { IsCached words.old.schema statements.old.items cache.old.places }
     ensures schema { OnOk result (words.new.schema ≡ words.old.schema) }
-    ensures known { OnOk result (IsKnown words.old.schema statements.new.items known.new.places) }
+    ensures cache { OnOk result (IsCached words.old.schema statements.new.items cache.new.places) }
     ensures accepted { OnOk result (first (line_faults words.old.schema (length statements.old.items) line.now) ≡ None) }
     ensures taken { OnOk result (statements.new.items ≡ statements.old.items ++ prepend (line_statement words.old.schema line.now) []) }
     ensures refused { IfErr result (λ e. Refuses e (first (line_faults words.old.schema (length statements.old.items) line.now))) }
@@ -244,7 +244,7 @@ fn take_new_line<'a>(
         Err(fault) => Err(fault),
         Ok(None) => Ok(()),
         Ok(Some(statement)) => {
-            known.note(line, statements.len());
+            cache.note(line, statements.len());
             statements.push(statement)?;
             Ok(())
         }
@@ -255,21 +255,21 @@ fn take_new_line<'a>(
 fn take_line<'a>(
     alloc: Global,
     words: &mut Words<'a>,
-    known: &mut LineCache<'a>,
+    cache: &mut LineCache<'a>,
     statements: &mut Vec<Statement>,
     line: &'a [u8],
 ) -> Result<(), LineFault>
-    requires { IsKnown words.old.schema statements.old.items known.old.places }
+    requires { IsCached words.old.schema statements.old.items cache.old.places }
     ensures schema { OnOk result (words.new.schema ≡ words.old.schema) }
-    ensures known { OnOk result (IsKnown words.old.schema statements.new.items known.new.places) }
+    ensures cache { OnOk result (IsCached words.old.schema statements.new.items cache.new.places) }
     ensures accepted { OnOk result (first (line_faults words.old.schema (length statements.old.items) line.now) ≡ None) }
     ensures taken { OnOk result (statements.new.items ≡ statements.old.items ++ prepend (line_statement words.old.schema line.now) []) }
     ensures refused { IfErr result (λ e. Refuses e (first (line_faults words.old.schema (length statements.old.items) line.now))) }
     ensures at_once { IsToldAtOnce (faults_at_once words.old.schema (length statements.old.items) line.now) result }
     ensures note { is_statement line.now ≡ false → IfErr result (λ e. e ≡ LineFault.Memory → ⊥) }
 {
-    match said_at_once(alloc, words.schema(), known, statements, line)? {
-        None => take_new_line(alloc, words, known, statements, line),
+    match said_at_once(alloc, words.schema(), cache, statements, line)? {
+        None => take_new_line(alloc, words, cache, statements, line),
         Some(said) => {
             statements.push(said)?;
             Ok(())
@@ -312,14 +312,14 @@ pub fn read_script(
     }
     let mut statements = Vec::new(alloc);
     let mut words = Words::new(alloc, schema);
-    let mut known = LineCache::none();
+    let mut cache = LineCache::none();
     let mut number: u64 = 1;
     let mut left = Lines { rest: text };
     while let Some(line) = left.next() {
         if let Err(fault) = take_line(
             alloc,
             &mut words,
-            &mut known,
+            &mut cache,
             &mut statements,
             trimmed(line),
         ) {

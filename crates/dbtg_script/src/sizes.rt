@@ -7,7 +7,7 @@ ghost use Rattle.std.specs.Prelude.{◌≡◌, ◌++◌, [], IfOk, OnOk};
 use crate::echo::{Beside, echo_text};
 use crate::image::image_text;
 use crate::print::push_number;
-use crate::texts::{push_answers, units_text};
+use crate::texts::{push_each_answer, units_text};
 use dbtg_schema::Schema;
 use dbtg_unit::{Entry, Image, Unit};
 use std::alloc::{AllocError, Global};
@@ -72,7 +72,7 @@ pub fn push_run(
 ) -> Result<(), AllocError>
     ensures { OnOk result (out.new.items ≡ out.old.items ++ run_text schema.now history.now image.now.records image.now.lists image.now.next image.now.usage units.now) }
 {
-    push_answers(out, schema, history)?;
+    push_each_answer(out, schema, history)?;
     push_rest(alloc, out, schema, image, units)
 }
 

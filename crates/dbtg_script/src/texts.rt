@@ -4,8 +4,8 @@ ghost use Rattle.dbtg_script.specs.Printing.Texts.{answer_front, answer_text, an
 ghost use Rattle.std.specs.Prelude.{◌≡◌, ◌++◌, IfOk, OnOk, codes, decimal, option_map};
 
 use crate::print::{
-    push_current, push_currents, push_items, push_kept, push_number, push_places, push_spaced_key,
-    push_status, push_unit_and_status,
+    push_current, push_each_current, push_each_item, push_each_place, push_kept, push_number,
+    push_spaced_key, push_status, push_unit_and_status,
 };
 use dbtg_cells::{DbKey, Value};
 use dbtg_schema::{Row, Schema};
@@ -29,7 +29,7 @@ fn push_found(
             push_spaced_key(out, schema, &key)?;
             match items {
                 None => Ok(()),
-                Some(values) => push_items(out, values.as_slice(), schema.items(key.rtype)),
+                Some(values) => push_each_item(out, values.as_slice(), schema.items(key.rtype)),
             }
         }
     }
@@ -85,7 +85,11 @@ pub fn push_named_answer(
 }
 
 /// Appends the lines of a history. Room for lines of usual length is made at once.
-pub fn push_answers(out: &mut Vec<u8>, schema: &Schema, history: &[Entry]) -> Result<(), AllocError>
+pub fn push_each_answer(
+    out: &mut Vec<u8>,
+    schema: &Schema,
+    history: &[Entry],
+) -> Result<(), AllocError>
     ensures { OnOk result (out.new.items ≡ out.old.items ++ answers_text schema.now history.now) }
 {
     out.reserve(history.len().saturating_mul(USUAL_LINE))?;
@@ -104,7 +108,7 @@ pub fn answers_text(
     ensures { IfOk result (λ text. text.items ≡ answers_text schema.now history.now) }
 {
     let mut out = Vec::new(alloc);
-    push_answers(&mut out, schema, history)?;
+    push_each_answer(&mut out, schema, history)?;
     Ok(out)
 }
 
@@ -124,11 +128,11 @@ pub fn push_unit(out: &mut Vec<u8>, schema: &Schema, unit: &Unit) -> Result<(), 
 {
     push_unit_front(out, schema, unit)?;
     out.extend_from_slice(b" RECORD")?;
-    push_currents(out, schema, unit.currency.types.as_slice())?;
+    push_each_current(out, schema, unit.currency.types.as_slice())?;
     out.extend_from_slice(b" SET")?;
-    push_places(out, schema, unit.currency.sets.as_slice())?;
+    push_each_place(out, schema, unit.currency.sets.as_slice())?;
     out.extend_from_slice(b" AREA")?;
-    push_currents(out, schema, unit.currency.areas.as_slice())?;
+    push_each_current(out, schema, unit.currency.areas.as_slice())?;
     push_kept(out, schema, unit.kept.as_slice())?;
     out.push(b'\n')?;
     Ok(())

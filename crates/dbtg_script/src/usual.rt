@@ -37,7 +37,7 @@ fn plain_word<'a>(left: &mut Left<'a>) -> Option<&'a [u8]>
 }
 
 /// Is the next word this one?
-fn takes(left: &mut Left, word: &[u8]) -> bool
+fn accept_word(left: &mut Left, word: &[u8]) -> bool
     ensures { result ≡ true → words_left left.old ≡ plain word.now ∷ words_left left.new }
 {
     match plain_word(left) {
@@ -70,11 +70,11 @@ fn find(form: Form) -> Statement
 fn of_set(schema: &Schema, left: &mut Left) -> Option<SetNo>
     ensures { IfSome result (λ s. IsOfSet schema.now (words_left left.old) s) }
 {
-    if !takes(left, b"OF") {
+    if !accept_word(left, b"OF") {
         return None;
     }
     let name = plain_word(left)?;
-    if !takes(left, b"SET") {
+    if !accept_word(left, b"SET") {
         return None;
     }
     if !ends(left) {
@@ -182,10 +182,10 @@ fn calc_type(schema: &Schema, left: &mut Left) -> Option<RecordNo>
     ensures { IfSome result (λ r. IsCalcType schema.now r (words_left left.old) (words_left left.new)) }
 {
     let name = plain_word(left)?;
-    if !takes(left, b"RECORD") {
+    if !accept_word(left, b"RECORD") {
         return None;
     }
-    if !takes(left, b"USING") {
+    if !accept_word(left, b"USING") {
         return None;
     }
     schema.rtype(name)
@@ -285,7 +285,7 @@ fn next_value(alloc: Global, left: &mut Left, item: &Item) -> Result<Option<Valu
     ensures { IfOk result (λ found. IfSome found (λ v. IsAssigned item.now (words_left left.old) (words_left left.new) v)) }
 {
     let mut ahead = *left;
-    if !takes(&mut ahead, item.name.as_slice()) {
+    if !accept_word(&mut ahead, item.name.as_slice()) {
         return Ok(Some(blank(alloc, item.picture)?));
     }
     *left = ahead;

@@ -24,7 +24,7 @@ fn save_script(
 }
 
 // Saves the scripts, up to the first that cannot be written.
-fn save_scripts(
+fn save_each_script(
     rt: &HostRuntime,
     directory: &str,
     scripts: &[Script],
@@ -54,7 +54,7 @@ fn save_all(
     directory: &str,
     session: &Session<'_>,
 ) -> Result<Option<String>, AllocError> {
-    match save_scripts(rt, directory, session.scripts())? {
+    match save_each_script(rt, directory, session.scripts())? {
         Some(told) => Ok(Some(told)),
         None => save_turns(rt, directory, session),
     }

@@ -193,7 +193,7 @@ fn add_version(
     Ok(())
 }
 
-fn add_records(
+fn add_each_record(
     alloc: Global,
     schema: &Schema,
     capacity: u16,
@@ -211,7 +211,7 @@ fn add_records(
     Ok(())
 }
 
-fn add_versions(
+fn add_each_version(
     schema: &Schema,
     capacity: u16,
     source: CellSource<'_>,
@@ -240,7 +240,7 @@ fn all_records(
     let types = schema.types().len() as u8;
     for rtype in 0..types {
         let rtype = RecordNo::new(rtype);
-        add_records(alloc, schema, capacity, source, rtype, &mut records)?;
+        add_each_record(alloc, schema, capacity, source, rtype, &mut records)?;
     }
     Ok(Row::of(records))
 }
@@ -257,7 +257,7 @@ fn all_versions(
     let types = schema.types().len() as u8;
     for rtype in 0..types {
         let rtype = RecordNo::new(rtype);
-        add_versions(schema, capacity, source, rtype, &mut versions)?;
+        add_each_version(schema, capacity, source, rtype, &mut versions)?;
     }
     Ok(Row::of(versions))
 }
@@ -296,7 +296,7 @@ fn add_owned_lists(
     Ok(())
 }
 
-fn add_lists(
+fn add_each_list(
     alloc: Global,
     schema: &Schema,
     capacity: u16,
@@ -328,7 +328,7 @@ fn all_lists(
     let sets = schema.sets().len() as u8;
     for set in 0..sets {
         let mut lists = Vec::new(alloc);
-        add_lists(alloc, schema, capacity, source, SetNo::new(set), &mut lists)?;
+        add_each_list(alloc, schema, capacity, source, SetNo::new(set), &mut lists)?;
         all.push(Row::of(lists))?;
     }
     Ok(Row::of(all))

@@ -11,7 +11,7 @@ use dbtg_schema::Schema;
 use dbtg_unit::{Held, Stepped};
 
 /// All cells go home, the newest first.
-fn give_cells(schema: &Schema, capacity: u16, table: &mut Vec<CellLocation>, held: &mut Held)
+fn give_each_cell(schema: &Schema, capacity: u16, table: &mut Vec<CellLocation>, held: &mut Held)
     requires { HavePlaces schema.now capacity held.old.cells table.old.items }
     ensures table { table.new.items ≡ written_homes schema.now capacity (reverse held.old.cells) table.old.items }
     ensures held { held.new ≡ record held.old { cells = [] } }
@@ -36,7 +36,7 @@ fn quit_event(schema: &Schema, capacity: u16, parts: &mut Parts, unit: u8) -> St
     ensures { IsQuit schema.now capacity unit result parts.old parts.new }
 {
     let runner = &mut parts.runners[unit as usize - 1];
-    give_cells(schema, capacity, &mut parts.table, &mut runner.held);
+    give_each_cell(schema, capacity, &mut parts.table, &mut runner.held);
     leave_areas(&mut runner.held);
     runner.progress = None;
     Stepped::Moved

@@ -36,7 +36,11 @@ pub fn make_move(core: &mut Core, one: Move) -> Result<Stepped, AllocError>
 }
 
 // Makes the moves in turn, and gives their results.
-fn make_moves(alloc: Global, core: &mut Core, moves: &[Move]) -> Result<Vec<Stepped>, AllocError>
+fn make_each_move(
+    alloc: Global,
+    core: &mut Core,
+    moves: &[Move],
+) -> Result<Vec<Stepped>, AllocError>
     ensures core { OnOk result (machine core.new ≡ after_moves (machine core.old) moves.now) }
     ensures results { IfOk result (λ results. results.items ≡ results_of_moves (machine core.old) moves.now) }
 {
@@ -51,7 +55,7 @@ fn make_moves(alloc: Global, core: &mut Core, moves: &[Move]) -> Result<Vec<Step
 fn run_from(alloc: Global, mut core: Core, moves: &[Move]) -> Result<Run, AllocError>
     ensures { IfOk result (λ given. (last : CoreParts) × (machine last ≡ after_moves (machine core) moves.now) × IsHandedOut last (results_of_moves (machine core) moves.now) given) }
 {
-    match make_moves(alloc, &mut core, moves) {
+    match make_each_move(alloc, &mut core, moves) {
         Ok(results) => core.into_run(results),
         Err(error) => {
             drop(core);
@@ -97,7 +101,7 @@ fn make_script(
 }
 
 // The scripts of the units, one after another.
-fn make_scripts(
+fn make_each_script(
     database: &mut WholeDatabase<'_>,
     scripts: Row<Row<Statement>>,
 ) -> Result<(), AllocError>
@@ -129,7 +133,7 @@ pub fn run_serial(
 {
     let units = scripts.len() as u8;
     let mut database = WholeDatabase::opening(alloc, schema, capacity, units)?;
-    match make_scripts(&mut database, scripts) {
+    match make_each_script(&mut database, scripts) {
         Ok(()) => database.into_run(),
         Err(error) => {
             drop(database);

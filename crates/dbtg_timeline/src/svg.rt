@@ -152,7 +152,7 @@ fn push_lane_heads(out: &mut Vec<u8>, scripts: &[Row<Row<u8>>]) -> Result<(), Al
 }
 
 #[tactic(auto, unfolding(crate::specs::Svg::front_heads))]
-fn push_front_heads(out: &mut Vec<u8>, left: u128) -> Result<(), AllocError>
+fn push_each_front_head(out: &mut Vec<u8>, left: u128) -> Result<(), AllocError>
     ensures { OnOk result (out.new.items ≡ out.old.items ++ front_heads left) }
 {
     push_words(out, b"head number", 64, 24, b"MOVE")?;
@@ -226,7 +226,12 @@ fn push_lane(
     }
 }
 
-fn push_lanes(out: &mut Vec<u8>, strip: &Strip, top: u128, lanes: &[bool]) -> Result<(), AllocError>
+fn push_each_lane(
+    out: &mut Vec<u8>,
+    strip: &Strip,
+    top: u128,
+    lanes: &[bool],
+) -> Result<(), AllocError>
     requires { top < 2 ^ 90 }
     ensures { OnOk result (out.new.items ≡ out.old.items ++ lanes_text strip.now top 1 lanes.now) }
 {
@@ -316,7 +321,7 @@ fn push_strip(
     requires top { top < 2 ^ 90 }
     ensures { OnOk result (out.new.items ≡ out.old.items ++ strip_text left lanes.now top strip.now) }
 {
-    push_lanes(out, strip, top, lanes)?;
+    push_each_lane(out, strip, top, lanes)?;
     push_front(alloc, out, left, top + 13, strip)?;
     push_letters(out, left, top + 13, strip.letters.as_slice())?;
     push_words(
@@ -328,7 +333,7 @@ fn push_strip(
     )
 }
 
-fn push_strips(
+fn push_each_strip(
     alloc: Global,
     out: &mut Vec<u8>,
     left: u128,
@@ -370,7 +375,7 @@ fn push_top(out: &mut Vec<u8>, scripts: &[Row<Row<u8>>], count: usize) -> Result
     push_size(out, left + 776, 18 * count as u128 + 84)?;
     push_style(out)?;
     push_dark(out)?;
-    push_front_heads(out, left)?;
+    push_each_front_head(out, left)?;
     push_back_heads(out, left)?;
     push_lane_heads(out, scripts)
 }
@@ -386,7 +391,7 @@ fn push_drawn_strips(
 {
     let lanes = opening_lanes(alloc, scripts.len())?;
     push_top(out, scripts, strips.len())?;
-    push_strips(alloc, out, letters_left(scripts.len()), lanes, strips)?;
+    push_each_strip(alloc, out, letters_left(scripts.len()), lanes, strips)?;
     push_end(alloc, out, 32 + 18 * strips.len() as u128)
 }
 

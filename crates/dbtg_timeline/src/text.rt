@@ -59,7 +59,7 @@ fn lane_mark(is_own: bool, midway: bool) -> u8
     }
 }
 
-fn push_lanes(out: &mut Vec<u8>, unit: u8, lanes: &[bool]) -> Result<(), AllocError>
+fn push_each_lane(out: &mut Vec<u8>, unit: u8, lanes: &[bool]) -> Result<(), AllocError>
     ensures { OnOk result (out.new.items ≡ out.old.items ++ lanes_text unit 1 lanes.now) }
 {
     let mut n: u128 = 1;
@@ -144,7 +144,7 @@ fn push_strip(out: &mut Vec<u8>, lanes: &[bool], strip: &Strip) -> Result<(), Al
     ensures { OnOk result (out.new.items ≡ out.old.items ++ strip_text lanes.now strip.now) }
 {
     push_front(out, strip.unit, strip.front)?;
-    push_lanes(out, strip.unit, lanes)?;
+    push_each_lane(out, strip.unit, lanes)?;
     out.push(b' ')?;
     push_rest(
         out,
@@ -156,7 +156,11 @@ fn push_strip(out: &mut Vec<u8>, lanes: &[bool], strip: &Strip) -> Result<(), Al
     Ok(())
 }
 
-fn push_strips(out: &mut Vec<u8>, opening: Vec<bool>, strips: &[Strip]) -> Result<(), AllocError>
+fn push_each_strip(
+    out: &mut Vec<u8>,
+    opening: Vec<bool>,
+    strips: &[Strip],
+) -> Result<(), AllocError>
     ensures { OnOk result (out.new.items ≡ out.old.items ++ strips_text opening.items strips.now) }
 {
     let mut lanes = opening;
@@ -197,7 +201,7 @@ pub fn timeline_text(
     let strips = strips_of(alloc, scripts, lines.as_slice())?;
     let lanes = opening_lanes(alloc, scripts.len())?;
     push_head(&mut out, scripts)?;
-    push_strips(&mut out, lanes, strips.as_slice())?;
+    push_each_strip(&mut out, lanes, strips.as_slice())?;
     push_legend(&mut out)?;
     out.push(b'\n')?;
     push_second_legend(&mut out)?;

@@ -122,7 +122,7 @@ fn push_next_holder(out: &mut Vec<u8>, number: usize) -> Result<(), AllocError>
     push_number(out, number as u128)
 }
 
-fn push_next_holders(out: &mut Vec<u8>, numbers: &[usize]) -> Result<(), AllocError>
+fn push_each_next_holder(out: &mut Vec<u8>, numbers: &[usize]) -> Result<(), AllocError>
     ensures { OnOk result (out.new.items ≡ out.old.items ++ flat_map next_holder numbers.now) }
 {
     for number in numbers {
@@ -144,7 +144,7 @@ fn push_holders(out: &mut Vec<u8>, holders: &[usize]) -> Result<(), AllocError>
                 out.extend_from_slice(b" by units ")?;
             }
             push_number(out, *first as u128)?;
-            push_next_holders(out, rest)
+            push_each_next_holder(out, rest)
         }
     }
 }

@@ -202,7 +202,7 @@ pub fn watch_move(alloc: Global, core: &mut Core, one: Move) -> Result<Event, Al
     Ok(shown(one, stepped, before, after, core.history(), wait))
 }
 
-fn watch_moves(alloc: Global, core: &mut Core, moves: &[Move]) -> Result<Vec<Event>, AllocError>
+fn watch_each_move(alloc: Global, core: &mut Core, moves: &[Move]) -> Result<Vec<Event>, AllocError>
     ensures { IfOk result (λ events. events.items ≡ events_of (machine core.old) moves.now) }
 {
     let mut events = Vec::with_capacity(alloc, moves.len())?;
@@ -226,7 +226,7 @@ pub fn watch(
     ensures { IfOk result (λ events. events.items ≡ events_of_run schema.now capacity scripts moves.now) }
 {
     let mut core = Core::new(alloc, schema, capacity, scripts)?;
-    let events = watch_moves(alloc, &mut core, moves);
+    let events = watch_each_move(alloc, &mut core, moves);
     core.discard();
     events
 }

@@ -2,7 +2,7 @@ mod Firsts
 mod ArrowSteps
 mod WordSteps
 mod EntrySteps
-mod KnownSteps
+mod CachedSteps
 mod CachedAnswers
 mod TraceSteps
 mod PrintedSteps

@@ -29,7 +29,7 @@ fn push_line(
     Ok(())
 }
 
-fn push_lines(
+fn push_each_line(
     out: &mut Vec<u8>,
     schema: &Schema,
     statements: &[&[u8]],
@@ -57,7 +57,7 @@ pub fn push_trace(
     ensures { OnOk result (out.new.items ≡ out.old.items ++ trace_text schema.now texts.now history.now) }
 {
     let statements = lines_of_history(alloc, texts, history)?;
-    push_lines(out, schema, statements.as_slice(), history)
+    push_each_line(out, schema, statements.as_slice(), history)
 }
 
 /// The output of a run without its moves, with the trace of its history in place of the answers.

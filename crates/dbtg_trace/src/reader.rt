@@ -3,7 +3,7 @@
 ghost use Rattle.dbtg_schema.specs.Lists.{Lists};
 ghost use Rattle.dbtg_schema.specs.Lookups.{first};
 ghost use Rattle.dbtg_schema.specs.Sound.{IsSound};
-ghost use Rattle.dbtg_script.specs.LineCache.{IsKnown, IsRead};
+ghost use Rattle.dbtg_script.specs.LineCache.{IsCached, IsRead};
 ghost use Rattle.dbtg_script.specs.Lines.{is_statement, trimmed};
 ghost use Rattle.dbtg_script.specs.StatementFaults.{count_after};
 ghost use Rattle.dbtg_script.specs.Statements.{line_statement};
@@ -49,7 +49,7 @@ struct NumberedLine<'a> {
 /// What the lines say that were read, and the lines of scripts and the answers in them that were read before.
 #[derive(Drop)]
 struct ReadSoFar<'a> {
-    known: LineCache<'a>,
+    cache: LineCache<'a>,
     answers: AnswerCache<'a>,
     entries: Vec<Traced>,
 }
@@ -70,10 +70,10 @@ fn said_again(
     so_far: &ReadSoFar,
     line: &[u8],
 ) -> Result<Option<Statement>, AllocError>
-    ensures says { (schema : Lists) → IsKnown schema (statements_in so_far.now.entries.items) so_far.now.known.places → IfOk result (λ found. IfSome found (λ s. IsRead schema (s ∷ []) line.now 0)) }
-    ensures memory { (schema : Lists) → IsKnown schema (statements_in so_far.now.entries.items) so_far.now.known.places → OnErr result ((s : SaidStatement) × IsRead schema (s ∷ []) line.now 0) }
+    ensures says { (schema : Lists) → IsCached schema (statements_in so_far.now.entries.items) so_far.now.cache.places → IfOk result (λ found. IfSome found (λ s. IsRead schema (s ∷ []) line.now 0)) }
+    ensures memory { (schema : Lists) → IsCached schema (statements_in so_far.now.entries.items) so_far.now.cache.places → OnErr result ((s : SaidStatement) × IsRead schema (s ∷ []) line.now 0) }
 {
-    let Some(at) = so_far.known.find(line) else {
+    let Some(at) = so_far.cache.find(line) else {
         return Ok(None);
     };
     match so_far.entries.get(at) {
@@ -90,10 +90,10 @@ fn read_new<'a>(
     so_far: &mut ReadSoFar<'a>,
     part: &'a [u8],
 ) -> Result<Statement, EntryFault>
-    requires { IsKnown schema.now (statements_in so_far.old.entries.items) so_far.old.known.places }
+    requires { IsCached schema.now (statements_in so_far.old.entries.items) so_far.old.cache.places }
     ensures accepted { OnOk result (part_verdict schema.now part.now ≡ None) }
     ensures statement { IfOk result (λ s. line_statement schema.now (trimmed part.now) ≡ Some s) }
-    ensures known { IfOk result (λ s. IsKnown schema.now (statements_in so_far.old.entries.items ++ s ∷ []) so_far.new.known.places) }
+    ensures cache { IfOk result (λ s. IsCached schema.now (statements_in so_far.old.entries.items ++ s ∷ []) so_far.new.cache.places) }
     ensures entries { so_far.new.entries.items ≡ so_far.old.entries.items }
     ensures answers { so_far.new.answers.places ≡ so_far.old.answers.places }
     ensures fitting { IsSound schema.now → IfOk result (λ s. fits schema.now s ≡ true) }
@@ -107,7 +107,7 @@ fn read_new<'a>(
         Err(fault) => Err(in_entry(fault)),
         Ok(None) => Err(EntryFault::Refused(TraceCause::AsInScript(Cause::NoStatementWord))),
         Ok(Some(statement)) => {
-            so_far.known.note(trimmed(part), so_far.entries.len());
+            so_far.cache.note(trimmed(part), so_far.entries.len());
             Ok(statement)
         }
     }
@@ -120,10 +120,10 @@ fn read_part<'a>(
     so_far: &mut ReadSoFar<'a>,
     part: &'a [u8],
 ) -> Result<Statement, EntryFault>
-    requires { IsKnown schema.now (statements_in so_far.old.entries.items) so_far.old.known.places }
+    requires { IsCached schema.now (statements_in so_far.old.entries.items) so_far.old.cache.places }
     ensures accepted { OnOk result (part_verdict schema.now part.now ≡ None) }
     ensures statement { IfOk result (λ s. line_statement schema.now (trimmed part.now) ≡ Some s) }
-    ensures known { IfOk result (λ s. IsKnown schema.now (statements_in so_far.old.entries.items ++ s ∷ []) so_far.new.known.places) }
+    ensures cache { IfOk result (λ s. IsCached schema.now (statements_in so_far.old.entries.items ++ s ∷ []) so_far.new.cache.places) }
     ensures entries { so_far.new.entries.items ≡ so_far.old.entries.items }
     ensures answers { so_far.new.answers.places ≡ so_far.old.answers.places }
     ensures fitting { IsSound schema.now → IfOk result (λ s. fits schema.now s ≡ true) }
@@ -178,9 +178,9 @@ fn read_entry<'a>(
     so_far: &mut ReadSoFar<'a>,
     line: NumberedLine<'a>,
 ) -> Result<Traced, EntryFault>
-    requires { AreCached schema.now so_far.old.entries.items so_far.old.known.places so_far.old.answers.places }
+    requires { AreCached schema.now so_far.old.entries.items so_far.old.cache.places so_far.old.answers.places }
     ensures accepted { OnOk result (entry_verdict schema.now units line.entry.text.now ≡ None) }
-    ensures known { IfOk result (λ t. IsKnown schema.now (statements_in so_far.old.entries.items ++ t.statement ∷ []) so_far.new.known.places) }
+    ensures cache { IfOk result (λ t. IsCached schema.now (statements_in so_far.old.entries.items ++ t.statement ∷ []) so_far.new.cache.places) }
     ensures said { IfOk result (λ t. AreSaid schema.now (so_far.old.entries.items ++ t ∷ []) so_far.new.answers.places) }
     ensures entries { so_far.new.entries.items ≡ so_far.old.entries.items }
     ensures entry { IfOk result (λ t. entry_of schema.now units line.entry.number line.entry.text.now ≡ Some t) }
@@ -239,8 +239,8 @@ fn take_line<'a>(
     so_far: &mut ReadSoFar<'a>,
     line: NumberedLine<'a>,
 ) -> Result<(), EntryFault>
-    requires { AreCached schema.now so_far.old.entries.items so_far.old.known.places so_far.old.answers.places }
-    ensures kept { OnOk result (AreCached schema.now so_far.new.entries.items so_far.new.known.places so_far.new.answers.places) }
+    requires { AreCached schema.now so_far.old.entries.items so_far.old.cache.places so_far.old.answers.places }
+    ensures kept { OnOk result (AreCached schema.now so_far.new.entries.items so_far.new.cache.places so_far.new.answers.places) }
     ensures accepted { OnOk result (line_verdict schema.now units (length so_far.old.entries.items) line.entry.text.now ≡ None) }
     ensures taken { OnOk result (so_far.new.entries.items ≡ so_far.old.entries.items ++ line_entry schema.now units line.entry.number line.entry.text.now) }
     ensures fitting { IsSound schema.now → OnOk result (list_all (λ t. fits schema.now t.statement) (line_entry schema.now units line.entry.number line.entry.text.now) ≡ true) }
@@ -301,7 +301,7 @@ pub fn read_trace(
         });
     }
     let mut so_far = ReadSoFar {
-        known: LineCache::none(),
+        cache: LineCache::none(),
         answers: AnswerCache::none(),
         entries: Vec::new(alloc),
     };
@@ -318,7 +318,7 @@ pub fn read_trace(
         number += 1;
     }
     let ReadSoFar {
-        known: _,
+        cache: _,
         answers: _,
         entries,
     } = so_far;

@@ -7,11 +7,11 @@ pub use Rattle.dbtg_unit.proofs.Lists.Agreeing.{all_in}
 -- tests that agree on a list: some element passes the one where one passes the other
 pub use Rattle.dbtg_unit.proofs.Lists.Agreeing.{any_agrees}
 -- tests that agree keep the same
-pub use Rattle.dbtg_unit.proofs.Lists.Agreeing.{filter_agrees}
+pub use Rattle.dbtg_unit.proofs.Lists.Agreeing.{filter_agrees_on_list}
 -- functions that agree on the elements of a list make the same joined list of it
 pub use Rattle.dbtg_unit.proofs.Lists.Agreeing.{flat_map_agrees}
 -- functions that agree on the elements of a list make the same of it
-pub use Rattle.dbtg_unit.proofs.Lists.Agreeing.{map_agrees}
+pub use Rattle.dbtg_unit.proofs.Lists.Agreeing.{map_agrees_on_list}
 -- functions that agree on all make the same of a list
 pub use Rattle.dbtg_unit.proofs.Lists.Agreeing.{map_same}
 -- a test that no element passes keeps none

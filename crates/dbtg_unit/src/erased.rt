@@ -12,7 +12,7 @@ ghost use Rattle.dbtg_unit.specs.Hands.Making.{AreMade, CanEditHeld, CanMake};
 use crate::apply::edit_extent;
 use crate::edit::{CellEdit, Edit};
 use crate::held::Held;
-use crate::prepared::edit_cells;
+use crate::prepared::edit_each_cell;
 use dbtg_cells::{Cell, CellName, DbKey};
 use dbtg_schema::Row;
 
@@ -89,7 +89,7 @@ fn vacate_slot(held: &mut Held, key: &DbKey)
     }
 }
 
-fn leave_numbers(held: &mut Held, gone: &[DbKey])
+fn leave_each_number(held: &mut Held, gone: &[DbKey])
     requires { CanMake (map leave_number gone.now) held.old.cells }
     ensures made { AreMade (map leave_number gone.now) held.old.cells held.new.cells }
     ensures areas { held.new.areas ≡ held.old.areas }
@@ -100,7 +100,7 @@ fn leave_numbers(held: &mut Held, gone: &[DbKey])
     }
 }
 
-fn close_rings(held: &mut Held, rings: &[CellName])
+fn close_each_ring(held: &mut Held, rings: &[CellName])
     requires { CanMake (map close_ring rings.now) held.old.cells }
     ensures made { AreMade (map close_ring rings.now) held.old.cells held.new.cells }
     ensures areas { held.new.areas ≡ held.old.areas }
@@ -111,7 +111,7 @@ fn close_rings(held: &mut Held, rings: &[CellName])
     }
 }
 
-fn vacate_slots(held: &mut Held, gone: &[DbKey])
+fn vacate_each_slot(held: &mut Held, gone: &[DbKey])
     requires { CanMake (map (λ d. slot_edit d Vacate) gone.now) held.old.cells }
     ensures made { AreMade (map (λ d. slot_edit d Vacate) gone.now) held.old.cells held.new.cells }
     ensures areas { held.new.areas ≡ held.old.areas }
@@ -133,10 +133,10 @@ fn take_out(held: &mut Held, erased: Erased)
         places,
         rings,
     } = erased;
-    leave_numbers(held, gone.as_slice());
-    edit_cells(held, places);
-    close_rings(held, rings.as_slice());
-    vacate_slots(held, gone.as_slice());
+    leave_each_number(held, gone.as_slice());
+    edit_each_cell(held, places);
+    close_each_ring(held, rings.as_slice());
+    vacate_each_slot(held, gone.as_slice());
 }
 
 /// Takes out the records that go, if there are any.

@@ -113,7 +113,7 @@ pub fn edit_held(held: &mut Held, edit: CellEdit)
 }
 
 /// Makes edits of held cells, one after another.
-pub fn edit_cells(held: &mut Held, edits: Row<CellEdit>)
+pub fn edit_each_cell(held: &mut Held, edits: Row<CellEdit>)
     requires { CanMake edits held.old.cells }
     ensures made { AreMade edits held.old.cells held.new.cells }
     ensures areas { held.new.areas ≡ held.old.areas }
@@ -190,7 +190,7 @@ pub fn finish(schema: &Schema, prepared: Prepared, held: &mut Held, unit: &mut U
         unit: change,
     } = prepared;
     erase(held, erased);
-    edit_cells(held, cells);
+    edit_each_cell(held, cells);
     note_versions(unit, versions.as_slice());
     change_unit(schema, change, held, unit);
     answer

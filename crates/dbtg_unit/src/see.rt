@@ -3,7 +3,7 @@ ghost use Rattle.std.specs.Prelude.{◌≡◌, ◌<◌, length, map, slice_set, 
 ghost use Rattle.std.specs.List.{enumerate_from};
 ghost use Rattle.dbtg_schema.specs.Lookups.{at};
 ghost use Rattle.dbtg_schema.specs.Structure.{area_of};
-ghost use Rattle.dbtg_unit.specs.Inside.Seen.{seen_as_owner, seen_in_list, seen_in_sets};
+ghost use Rattle.dbtg_unit.specs.Inside.Seen.{seen_as_owner, seen_in_list, seen_in_each_set};
 ghost use Rattle.dbtg_unit.specs.Database.State.Units.{seen_with, suppresses};
 
 use crate::entries::{entry_at, set_entry};
@@ -45,7 +45,7 @@ fn see_list(
     }
 }
 
-fn see_lists(
+fn see_each_list(
     sets: &mut Row<Option<Place>>,
     key: &DbKey,
     owners: &[Option<Owner>],
@@ -81,9 +81,9 @@ fn see_sets(
     owners: &[Option<Owner>],
     suppress: &Suppress,
 )
-    ensures { sets.new ≡ seen_in_sets schema.now key.now owners.now suppress.now sets.old }
+    ensures { sets.new ≡ seen_in_each_set schema.now key.now owners.now suppress.now sets.old }
 {
-    see_lists(sets, key, owners, suppress);
+    see_each_list(sets, key, owners, suppress);
     see_owned(sets, schema, key, suppress);
 }
 

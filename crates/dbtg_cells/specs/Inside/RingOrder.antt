@@ -30,15 +30,15 @@ pub record IsPlaceFrom (v : Value) (ms : List Entry) (place : ℕ) : Type 0 wher
   pub at : place ≡ position_or_len (λ e. not (sort_key_below order.ascending e.1 (Some v))) ms
 
 -- what is known of all members holds: how they are sorted, and that they have one record type
-pub record Holds (known : SortFacts) (ms : List Entry) : Type 0 where
-  pub sorted : KeepsOrder known.sorted ms
-  pub types : list_all (λ e. has_type known.rtype e.0) ms ≡ true
+pub record Holds (noted : SortFacts) (ms : List Entry) : Type 0 where
+  pub sorted : KeepsOrder noted.sorted ms
+  pub types : list_all (λ e. has_type noted.rtype e.0) ms ≡ true
 
 -- the order lists the links of a ring, and what is known of the members holds
-pub record IsOrderOf (find : DbKey → Option ℕ) (chain : List Link) (order : OrderView) (known : SortFacts) : Type 0 where
+pub record IsOrderOf (find : DbKey → Option ℕ) (chain : List Link) (order : OrderView) (noted : SortFacts) : Type 0 where
   -- the nodes of the chain, in order
   pub listed : order.nodes ≡ map (λ e. e.at) chain
   -- every node of the ring has room
   pub room : (k : DbKey) (i : ℕ) → find k ≡ Some i → i < order.room
   -- what is known of all members
-  pub keeps : Holds known (map (λ e. e.member) chain)
+  pub keeps : Holds noted (map (λ e. e.member) chain)

@@ -2,7 +2,7 @@
 ghost use Rattle.std.specs.List.{flat_map, prefix_len};
 ghost use Rattle.std.specs.Prelude.{◌≡◌, ◌≤◌, ◌++◌, IfOk, OnOk, codes, drop, length, map, not, option_map, take_while};
 ghost use Rattle.std.specs.Str.{bytes_eq};
-ghost use Rattle.dbtg_command.specs.Offered.{begins_type, entry_name, entry_names, is_seen, items_named, last_of, listed, name_behind, names_for, names_in, seen_words, separated, type_entry, type_wanted, word_behind, words_behind};
+ghost use Rattle.dbtg_command.specs.Offered.{begins_type, entry_name, names_of_entries, is_seen, items_named, last_of, listed, name_behind, names_for, names_in, seen_words, separated, type_entry, type_wanted, word_behind, words_behind};
 
 use dbtg_schema::Schema;
 use std::alloc::{AllocError, Global};
@@ -150,12 +150,12 @@ fn push_entry<'a>(
 }
 
 // The names of the entries that begin with this word.
-fn entry_names<'a>(
+fn names_of_entries<'a>(
     alloc: Global,
     words: &[&'a [u8]],
     first: &[u8],
 ) -> Result<Vec<&'a [u8]>, AllocError>
-    ensures { IfOk result (λ names. map (λ name. name.now) names.items ≡ entry_names first.now (map (λ word. word.now) words.now)) }
+    ensures { IfOk result (λ names. map (λ name. name.now) names.items ≡ names_of_entries first.now (map (λ word. word.now) words.now)) }
 {
     let mut names = Vec::new(alloc);
     for i in 0..words.len() {
@@ -263,7 +263,7 @@ pub fn type_wanted<'a>(alloc: Global, front: &[&'a [u8]]) -> Result<&'a [u8], Al
         let members = words_behind(alloc, front, b"MEMBER")?;
         return Ok(last_of(members.as_slice()));
     }
-    let types = entry_names(alloc, front, b"RECORD")?;
+    let types = names_of_entries(alloc, front, b"RECORD")?;
     Ok(last_of(types.as_slice()))
 }
 
@@ -278,10 +278,10 @@ pub fn names_in<'a>(
     ensures { IfOk result (λ names. map (λ name. name.now) names.items ≡ names_in number rtype.now (map (λ word. word.now) words.now) (map (λ word. word.now) front.now)) }
 {
     match number {
-        7 => entry_names(alloc, front, b"AREA"),
-        8 => entry_names(alloc, front, b"RECORD"),
+        7 => names_of_entries(alloc, front, b"AREA"),
+        8 => names_of_entries(alloc, front, b"RECORD"),
         9 => words_behind(alloc, type_entry(words, rtype), b"02"),
-        10 => entry_names(alloc, words, b"SET"),
+        10 => names_of_entries(alloc, words, b"SET"),
         _ => Ok(Vec::new(alloc)),
     }
 }

@@ -185,7 +185,7 @@ module _ {A : Type 0} (key : A → List ℕ) where
   -- elements ps of weight d, and later as many of the same keys of weight c: these go, and the first weigh both
   pub merged : (ws us vs : List (A × ℕ)) (ps qs : List A) (d c : ℕ) → map key ps ≡ map key qs → Alike key (ws ++ (each_of d ps ++ (us ++ (each_of c qs ++ vs)))) (ws ++ (each_of (d + c) ps ++ (us ++ vs)))
   merged ws us vs ps qs d c e = record {
-    firsts_are = λ before. ap (firsts key before) names_before ∙ firsts_skip key before (names ws ++ (ps ++ names us)) qs (names vs) (all_known before) ∙ ap (firsts key before) (sym names_after);
+    firsts_are = λ before. ap (firsts key before) names_before ∙ firsts_skip key before (names ws ++ (ps ++ names us)) qs (names vs) (all_found before) ∙ ap (firsts key before) (sym names_after);
     weights_are = weights;
     total_is = totals;
   } where
@@ -206,8 +206,8 @@ module _ {A : Type 0} (key : A → List ℕ) where
     keys_are : map key (names ws ++ (ps ++ names us)) ≡ map key (names ws) ++ (map key ps ++ map key (names us))
     keys_are = map-append key (names ws) (ps ++ names us) ∙ ap (λ l. map key (names ws) ++ l) (map-append key ps (names us))
 
-    all_known : (before : List (List ℕ)) → AllAmong (map key (names ws ++ (ps ++ names us)) ++ before) (map key qs)
-    all_known before =
+    all_found : (before : List (List ℕ)) → AllAmong (map key (names ws ++ (ps ++ names us)) ++ before) (map key qs)
+    all_found before =
         subst (λ (l : List (List ℕ)). AllAmong (l ++ before) (map key qs)) (sym keys_are)
         (subst (λ (l : List (List ℕ)). AllAmong ((map key (names ws) ++ (map key ps ++ map key (names us))) ++ before) l) e
         (AllAmong_wider (map key ps) _ (map key ps) (in_middle (map key (names ws)) (map key ps) (map key (names us)) before) (AllAmong_self (map key ps))))

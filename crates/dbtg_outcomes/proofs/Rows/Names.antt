@@ -34,8 +34,8 @@ abbrev reads : ℕ → DbKey → Entry
 reads u k = made u (Get None) k
 
 -- unit 1's records stand in front, whoever was faster; what is read was stored by nobody here
-by_units : stored (1 ∷ 2 ∷ []) (stores 2 (record_of 0 1) ∷ reads 1 (record_of 0 1) ∷ stores 1 (record_of 0 2) ∷ stores 2 (record_of 0 3) ∷ []) ≡ record_of 0 2 ∷ record_of 0 1 ∷ record_of 0 3 ∷ []
-by_units = refl
+ordered_by_unit : stored (1 ∷ 2 ∷ []) (stores 2 (record_of 0 1) ∷ reads 1 (record_of 0 1) ∷ stores 1 (record_of 0 2) ∷ stores 2 (record_of 0 3) ∷ []) ≡ record_of 0 2 ∷ record_of 0 1 ∷ record_of 0 3 ∷ []
+ordered_by_unit = refl
 
 -- a name is the type and the place; a number that is used again is another record
 second : key_name (record_of 0 2 ∷ record_of 0 1 ∷ []) (record_of 0 1) ≡ 0 ∷ 0 ∷ 1 ∷ []

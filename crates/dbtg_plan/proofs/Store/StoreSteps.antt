@@ -28,7 +28,7 @@ use Rattle.dbtg_unit.specs.Hands.Needs.{current_owner, first_missing, is_missing
 use Rattle.dbtg_unit.specs.Hands.Reserving.{CanTakeMember, KeepsOthers, OfHeld}
 use Rattle.dbtg_unit.proofs.Public.{has_number_filter, has_number_passes, has_number_range, map_same}
 use Rattle.dbtg_unit.specs.Database.Statements.Conditions.{joined_place}
-use Rattle.dbtg_plan.specs.Inside.Store.{HasRoom, entering_edit, opening_edits}
+use Rattle.dbtg_plan.specs.Inside.Store.{HasRoom, entering_edit, edits_of_opening}
 use Rattle.dbtg_plan.proofs.Store.SetSteps.{first_cause_append, flat_step, or_first, or_second}
 
 -- SETS IN WHICH STORE CONNECTS
@@ -84,12 +84,12 @@ cause_behind xs ys h = first_cause_append xs ys ∙ or_second (first_cause xs) (
 pub edits_pushed : (schema : Lists) (unit : Unit) (k : DbKey) (items : List Value) (entered joined opened filled : List CellEdit)
     → entered ≡ [] ++ entering_edit schema k items ∷ []
     → joined ≡ entered ++ flat_map (λ s. joining_edits schema unit s k (key_item schema s k.rtype items)) (automatic_sets schema k.rtype)
-    → opened ≡ joined ++ opening_edits schema k
+    → opened ≡ joined ++ edits_of_opening schema k
     → filled ≡ opened ++ slot_edit k (Fill k.generation items (first_owners schema unit k.rtype)) ∷ []
     → filled ≡ store_edits schema unit k items
 edits_pushed schema unit k items entered joined opened filled enters joins opens fills =
     let joining = flat_map (λ s. joining_edits schema unit s k (key_item schema s k.rtype items)) (automatic_sets schema k.rtype) in
-    let opening = opening_edits schema k in
+    let opening = edits_of_opening schema k in
     let last = slot_edit k (Fill k.generation items (first_owners schema unit k.rtype)) ∷ [] in
     fills ∙ ap (λ es. es ++ last) (opens ∙ ap (λ es. es ++ opening) (joins ∙ ap (λ es. es ++ joining) enters))
     ∙ append_assoc (entering_edit schema k items ∷ joining) opening last
@@ -99,8 +99,8 @@ pub edits_made : (schema : Lists) (unit : Unit) (k : DbKey) (items : List Value)
     → enter ≡ entering_edit schema k items
     → joins ≡ flat_map (λ s. joining_edits schema unit s k (key_item schema s k.rtype items)) (automatic_sets schema k.rtype)
     → fill ≡ slot_edit k (Fill k.generation items (first_owners schema unit k.rtype))
-    → enter ∷ (joins ++ (opening_edits schema k ++ fill ∷ [])) ≡ store_edits schema unit k items
-edits_made schema unit k items enter fill joins enters are_joins fills = λ i. enters i ∷ (are_joins i ++ (opening_edits schema k ++ fills i ∷ []))
+    → enter ∷ (joins ++ (edits_of_opening schema k ++ fill ∷ [])) ≡ store_edits schema unit k items
+edits_made schema unit k items enter fill joins enters are_joins fills = λ i. enters i ∷ (are_joins i ++ (edits_of_opening schema k ++ fills i ∷ []))
 
 -- OWNERS
 

@@ -51,8 +51,8 @@ abbrev pub opening_edit : DbKey → ℕ → CellEdit
 opening_edit k s = record { name = Ring s (Some (k.rtype, k.number)); edit = OpenRing (Rec k) }
 
 -- and in each set that its type owns
-abbrev pub opening_edits : Lists → DbKey → List CellEdit
-opening_edits schema k = flat_map (λ s. opening_edit k s ∷ []) (filter (λ s. owns schema s k.rtype) (set_numbers schema))
+abbrev pub edits_of_opening : Lists → DbKey → List CellEdit
+edits_of_opening schema k = flat_map (λ s. opening_edit k s ∷ []) (filter (λ s. owns schema s k.rtype) (set_numbers schema))
 
 -- there is room for k in the current occurrence of set s, where it joins the set
 abbrev pub HasRoom : Lists → Unit → Hands → DbKey → ℕ → Type 0

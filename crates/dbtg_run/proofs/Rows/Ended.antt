@@ -130,8 +130,8 @@ once table (suc zero) low high = refl
 once table (suc (suc zero)) low high = refl
 once table (suc (suc (suc n))) low high = absurd (omega arith)
 
-settles : (table : TableId) (db : Database) → db.schema ≡ card → db.about ≡ about → IsSettled db (came table) settled
-settles table db schema_is about_is = record {
+settled_to_the_end : (table : TableId) (db : Database) → db.schema ≡ card → db.about ≡ about → IsSettled db (came table) settled
+settled_to_the_end table db schema_is about_is = record {
   schema = sym schema_is;
   leads =
       subst (λ (s : Lists). LeadsTo s db.about.capacity db.about.units history left (first ∷ second ∷ [])) (sym schema_is)

@@ -78,8 +78,8 @@ draws_ticket : at_word 0 (λ n. (n + 1) % 2 ^ 64) cells_taken ≡ ticket_drawn
 draws_ticket = refl
 
 -- the cell that was taken last goes back first
-puts_cells : at_word (cell_word about 2) (λ n. bit_and n 0) (at_word (cell_word about 5) (λ n. bit_and n 0) (at_word (cell_word about 8) (λ n. bit_and n 0) ticket_drawn)) ≡ cells_back
-puts_cells = refl
+cell_words_by_bit : at_word (cell_word about 2) (λ n. bit_and n 0) (at_word (cell_word about 5) (λ n. bit_and n 0) (at_word (cell_word about 8) (λ n. bit_and n 0) ticket_drawn)) ≡ cells_back
+cell_words_by_bit = refl
 
 leaves_area : at_word (area_word main) (λ n. bit_and n (bit_not w64 (1 * 2 ^ 1 % 2 ^ 64))) cells_back ≡ area_left
 leaves_area = refl

@@ -30,7 +30,7 @@ use Rattle.dbtg_run.specs.Inside.Views.{total_below}
 use Rattle.dbtg_run.specs.Inside.LatchRule.{net, cell_word, progress_of, hands_of, database_after, IsReal, LatchRule, TellsReal, CellFreeAlone}
 use Rattle.dbtg_run.proofs.TheRule.Base.{below_le}
 use Rattle.dbtg_run.proofs.TheRule.Facts.{database_now, database_is, agrees_now, once_now}
-use Rattle.dbtg_run.proofs.TheRule.Moves.{sits, is_known, mine}
+use Rattle.dbtg_run.proofs.TheRule.Moves.{sits, is_at_place, mine}
 
 filter_all : {X : Type 0} (p : X → Bool) (xs : List X) → length (filter p xs) ≡ length xs → filter p xs ≡ xs
 filter_all p [] e = refl
@@ -66,7 +66,7 @@ module _ (about : About) (s : State (Option Cell) SeatKnowledge) (K : LatchRule 
 
   journal_is_log : about.units ≡ 1 → K.worded.log ≡ m.journal
   journal_is_log one =
-      let here : K.all 0 ≡ m = ap K.all (sym (first_place one)) ∙ is_known about s K id m at in
+      let here : K.all 0 ≡ m = ap K.all (sym (first_place one)) ∙ is_at_place about s K id m at in
       let j : entries_of 1 K.worded.log ≡ (K.all 0).journal = K.worded.journal 0 (omega arith) in
       let t : 0 + length (K.all 0).journal ≡ length K.worded.log = subst (λ n. total_below (λ u. length (K.all u).journal) n ≡ length K.worded.log) one K.worded.entries in
       sym (filter_all (λ (e : Entry). e.unit == 1) K.worded.log (ap length j ∙ (let q : length (K.all 0).journal ≡ length K.worded.log = omega arith in q))) ∙ (j ∙ ap (λ (y : SeatUnit). y.journal) here)

@@ -37,7 +37,7 @@ use Rattle.dbtg_run.specs.Inside.LatchRule.{net, opens, area_count, cells_of_tab
 use Rattle.dbtg_run.proofs.TheRule.Base.{each_put}
 use Rattle.dbtg_run.proofs.TheRule.Areas.{ok_same}
 use Rattle.dbtg_run.proofs.TheRule.Facts.{init_more, shown_bare, area_of_cell_held}
-use Rattle.dbtg_run.proofs.TheRule.Moves.{laws, is_known, mine, moved, kept_with, still}
+use Rattle.dbtg_run.proofs.TheRule.Moves.{laws, is_at_place, mine, moved, kept_with, still}
 use Rattle.dbtg_run.proofs.TheRule.Alone.{tells_real, cell_free_alone}
 
 -- two slots have two names
@@ -78,7 +78,7 @@ module _ (about : About) (s : State (Option Cell) SeatKnowledge) (K : LatchRule 
       (get_or-set_other s.words (cell_word about k) 0 x 0 (λ e. omega arith))
       (λ a l. subst (λ (n : ℕ). AreaOk n (λ y u. latched y a (put K.all m.place w u))) (sym (get_or-set_other s.words (cell_word about k) (area_word a) x 0 (λ e. omega arith)))
       (ok_same (get_or s.words (area_word a) 0) (λ y u. latched y a (K.all u)) (λ y u. latched y a (put K.all m.place w u))
-      (λ y u. each_put (λ (u : ℕ) (z : SeatUnit). latched y a z ≡ latched y a (K.all u)) K.all m.place w (same y a ∙ sym (ap (λ (z : SeatUnit). latched y a z) (is_known about s K id m at))) (λ u ne. refl) u)
+      (λ y u. each_put (λ (u : ℕ) (z : SeatUnit). latched y a z ≡ latched y a (K.all u)) K.all m.place w (same y a ∙ sym (ap (λ (z : SeatUnit). latched y a z) (is_at_place about s K id m at))) (λ u ne. refl) u)
       (W.areas a l)))
       (λ j d n free. dite (ℕ_discrete j k)
       (λ e. let q : d ≡ c = let p : Some d ≡ Some c = sym n ∙ ap (slot_name about) e ∙ named in cc (p) in

@@ -66,14 +66,14 @@ module _ (about : About) (s : State (Option Cell) SeatKnowledge) (K : LatchRule 
   pub sits : Sits about K.all K.seats.seat id m
   sits = K.seats.seated id (lone about m) m at (inl refl)
 
-  pub is_known : K.all m.place ≡ m
-  is_known = sym sits.same
+  pub is_at_place : K.all m.place ≡ m
+  is_at_place = sym sits.same
 
   pub small : m.place < 8
   small = let i = sits.inside in let f = K.few in omega arith
 
   pub mine : Shows about K.worded.machine m.place m
-  mine = subst (Shows about K.worded.machine m.place) is_known (K.worded.shows m.place sits.inside)
+  mine = subst (Shows about K.worded.machine m.place) is_at_place (K.worded.shows m.place sits.inside)
 
   abbrev pub next : (CellName → CellLocation CellValue) → SeatUnit → Machine (net about)
   next location w = updated (net about) K.worded.machine (suc m.place) mine.state location mine.state.guesses (Some (progress_of about w))
@@ -104,12 +104,12 @@ module _ (about : About) (s : State (Option Cell) SeatKnowledge) (K : LatchRule 
             (λ u ne l. let o = W.shows u l in record { state = o.state; found = set_elsewhere W.machine.units (suc m.place) (suc u) new (λ q. ne (cc (q))) ∙ o.found; unit = o.unit; progress = o.progress });
         place = each_put (λ (u : ℕ) (y : SeatUnit). u < about.units → y.place ≡ u) K.all m.place w (λ l. place) (λ u ne l. W.place u l);
         journal = each_put (λ (u : ℕ) (y : SeatUnit). u < about.units → entries_of (suc u) W.log ≡ y.journal) K.all m.place w
-            (λ l. W.journal m.place l ∙ (ap (λ (y : SeatUnit). y.journal) is_known ∙ sym journal)) (λ u ne l. W.journal u l);
+            (λ l. W.journal m.place l ∙ (ap (λ (y : SeatUnit). y.journal) is_at_place ∙ sym journal)) (λ u ne l. W.journal u l);
         short = each_put (λ (u : ℕ) (y : SeatUnit). u < about.units → length y.journal ≤ MOST_STATEMENTS) K.all m.place w
-            (λ l. subst (λ (j : List Entry). length j ≤ MOST_STATEMENTS) (ap (λ (y : SeatUnit). y.journal) is_known ∙ sym journal) (W.short m.place l)) (λ u ne l. W.short u l);
+            (λ l. subst (λ (j : List Entry). length j ≤ MOST_STATEMENTS) (ap (λ (y : SeatUnit). y.journal) is_at_place ∙ sym journal) (W.short m.place l)) (λ u ne l. W.short u l);
         none = each_put (λ (u : ℕ) (y : SeatUnit). about.units ≤ u → y.areas ≡ []) K.all m.place w (λ l. let k = sits.inside in absurd (omega arith)) (λ u ne l. W.none u l);
         entries = below_same (λ u. length (put K.all m.place w u).journal) (λ u. length (K.all u).journal) about.units
-            (each_put (λ (u : ℕ) (y : SeatUnit). length y.journal ≡ length (K.all u).journal) K.all m.place w (ap (λ (j : List Entry). length j) journal ∙ sym (ap (λ (y : SeatUnit). length y.journal) is_known)) (λ u ne. refl)) ∙ W.entries;
+            (each_put (λ (u : ℕ) (y : SeatUnit). length y.journal ≡ length (K.all u).journal) K.all m.place w (ap (λ (j : List Entry). length j) journal ∙ sym (ap (λ (y : SeatUnit). length y.journal) is_at_place)) (λ u ne. refl)) ∙ W.entries;
         areas = areas;
         home = home;
         out = out;
@@ -140,7 +140,7 @@ module _ (about : About) (s : State (Option Cell) SeatKnowledge) (K : LatchRule 
       (ok_same x (had (λ y u. latched y a (K.all u)) m.place (λ y. latched y a w)) (λ y u. latched y a (put K.all m.place w u)) (λ y u. latched_put y a K.all m.place w u) ok)))
       (λ ne. subst (λ (n : ℕ). AreaOk n (λ y u. latched y b (put K.all m.place w u))) (sym (get_or-set_other s.words (area_word a) (area_word b) x 0 (λ e. ne (omega arith))))
       (ok_same (get_or s.words (area_word b) 0) (λ y u. latched y b (K.all u)) (λ y u. latched y b (put K.all m.place w u))
-      (λ y u. each_put (λ (u : ℕ) (z : SeatUnit). latched y b z ≡ latched y b (K.all u)) K.all m.place w (others b y ne ∙ sym (ap (λ (z : SeatUnit). latched y b z) is_known)) (λ u ne. refl) u)
+      (λ y u. each_put (λ (u : ℕ) (z : SeatUnit). latched y b z ≡ latched y b (K.all u)) K.all m.place w (others b y ne ∙ sym (ap (λ (z : SeatUnit). latched y b z) is_at_place)) (λ u ne. refl) u)
       (W.areas b l))))
       (λ k c named free. W.home k c named (sym (beside k) ∙ free))
       (λ k c named busy. W.out k c named (λ z. busy (beside k ∙ z)) ∙ ap (λ n. HeldBy n) (sym (beside k))))
@@ -149,7 +149,7 @@ module _ (about : About) (s : State (Option Cell) SeatKnowledge) (K : LatchRule 
   pub free_alone : (a : ℕ) → a < area_count about → FreeAlone a (lone about m) (get_or s.words (area_word a) 0)
   free_alone a l y is one shared alone =
       let zero_is : m.place ≡ 0 = let i = sits.inside in omega arith in
-      let here : K.all 0 ≡ y = ap K.all (sym zero_is) ∙ is_known ∙ heads m y is in
+      let here : K.all 0 ≡ y = ap K.all (sym zero_is) ∙ is_at_place ∙ heads m y is in
       free_word (get_or s.words (area_word a) 0) (λ x u. latched x a (K.all u))
       (λ x u b. dite (ℕ_discrete u 0)
       (λ e. ap (λ v. latched x a (K.all v)) e ∙ ap (λ (z : SeatUnit). latched x a z) here ∙ which x shared alone)

@@ -21,7 +21,7 @@ use Rattle.dbtg_run.specs.Inside.LatchRule.{net, opens, area_count, area_word, p
 use Rattle.dbtg_run.proofs.TheRule.Areas.{had, clear, takes_shared, takes_alone, leaves_shared, leaves_alone}
 use Rattle.dbtg_run.proofs.TheRule.Facts.{init_more}
 use Rattle.dbtg_run.proofs.TheRule.Machines.{latches_is_safe}
-use Rattle.dbtg_run.proofs.TheRule.Moves.{laws, is_known, small, mine, still, area_moved, free_alone, nobody_shared, nobody_alone}
+use Rattle.dbtg_run.proofs.TheRule.Moves.{laws, is_at_place, small, mine, still, area_moved, free_alone, nobody_shared, nobody_alone}
 
 times_more : (b : ℕ) (xs : List ℕ) (a : ℕ) → times b (xs ++ a ∷ []) ≡ times b xs + one_if (eqb a b)
 times_more b [] a = omega arith
@@ -180,7 +180,7 @@ module _ (about : About) (id : ℕ) (m : SeatUnit) (slots : ℕ) (c : List (ℕ 
       once = by m.exclusive refl
         where
           known : (x : Bool) → latched x a (K.all m.place) ≡ latched x a m
-          known x = ap (λ (z : SeatUnit). latched x a z) (is_known about s K id m at)
+          known x = ap (λ (z : SeatUnit). latched x a z) (is_at_place about s K id m at)
 
           by : (b : Bool) → m.exclusive ≡ b → times a as' ≡ 0
           by true e = let t : latched true a m ≡ times a m.areas = ap (λ b. cond b (times a m.areas) 0) e in
@@ -202,7 +202,7 @@ module _ (about : About) (id : ℕ) (m : SeatUnit) (slots : ℕ) (c : List (ℕ 
       none_left x = off m.exclusive x
 
       before : (x b : Bool) → m.exclusive ≡ b → latched x a (K.all m.place) ≡ latched x a (record m { exclusive = b })
-      before x b e = ap (λ (z : SeatUnit). latched x a z) (is_known about s K id m at) ∙ ap (λ b. latched x a (record m { exclusive = b })) e
+      before x b e = ap (λ (z : SeatUnit). latched x a z) (is_at_place about s K id m at) ∙ ap (λ b. latched x a (record m { exclusive = b })) e
 
       cleared : (b : Bool) → m.exclusive ≡ b → AreaOk (clear (get_or s.words (area_word a) 0) (cond b (8 + m.place) m.place)) (had (λ y u. latched y a (K.all u)) m.place (λ y. latched y a left))
       cleared true e = leaves_alone (get_or s.words (area_word a) 0) m.place (λ y u. latched y a (K.all u)) (λ y. latched y a left) lt8 (none_left true) (none_left false ∙ sym (before false true e)) (K.worded.areas a l)

@@ -41,7 +41,7 @@ use Rattle.dbtg_run.proofs.TheRule.Areas.{ok_same}
 use Rattle.dbtg_run.proofs.TheRule.CellSteps.{there_here}
 use Rattle.dbtg_run.proofs.TheRule.Facts.{database_now, agrees_now, needs_now}
 use Rattle.dbtg_run.proofs.TheRule.History.{is_history, unit_is}
-use Rattle.dbtg_run.proofs.TheRule.Moves.{laws, sits, is_known, mine}
+use Rattle.dbtg_run.proofs.TheRule.Moves.{laws, sits, is_at_place, mine}
 
 -- the outcome of the statement on a database
 pub record Comes (about : About) (m : SeatUnit) (x : Statement) (answer : Answer) (unit' : Unit) (held' : List (CellName × Cell)) (db : Database) : Type 0 where
@@ -121,7 +121,7 @@ module _ (about : About) (s : State (Option Cell) SeatKnowledge) (K : LatchRule 
       let changed_one : total_below (put before m.place (length new_member.journal)) about.units + length (K.all m.place).journal ≡ total_below before about.units + length new_member.journal
       = below_put before m.place (length new_member.journal) about.units (sits about s K id m at).inside in
       let one_more : length new_member.journal ≡ length m.journal + 1 = length-append m.journal (new_entry ∷ []) in
-      let mine_is : length (K.all m.place).journal ≡ length m.journal = ap (λ (y : SeatUnit). length y.journal) (is_known about s K id m at) in
+      let mine_is : length (K.all m.place).journal ≡ length m.journal = ap (λ (y : SeatUnit). length y.journal) (is_at_place about s K id m at) in
       let all_of = K.worded.entries in omega arith
 
   abbrev words_now : List ℕ
@@ -145,14 +145,14 @@ module _ (about : About) (s : State (Option Cell) SeatKnowledge) (K : LatchRule 
             (λ u ne l. let o = W.shows u l in record { state = o.state; found = draw.1.others (suc u) (λ q. ne (cc (q))) ∙ o.found; unit = o.unit; progress = o.progress });
         place = each_put (λ (u : ℕ) (y : SeatUnit). u < about.units → y.place ≡ u) K.all m.place new_member (λ l. refl) (λ u ne l. W.place u l);
         journal = each_put (λ (u : ℕ) (y : SeatUnit). u < about.units → entries_of (suc u) (W.log ++ new_entry ∷ []) ≡ y.journal) K.all m.place new_member
-            (λ l. entries_mine (suc m.place) W.log new_entry refl ∙ ap (λ z. z ++ new_entry ∷ []) (W.journal m.place l ∙ ap (λ (y : SeatUnit). y.journal) (is_known about s K id m at)))
+            (λ l. entries_mine (suc m.place) W.log new_entry refl ∙ ap (λ z. z ++ new_entry ∷ []) (W.journal m.place l ∙ ap (λ (y : SeatUnit). y.journal) (is_at_place about s K id m at)))
             (λ u ne l. entries_other (suc u) W.log new_entry (λ q. ne (cc (sym q))) ∙ W.journal u l);
         short = each_put (λ (u : ℕ) (y : SeatUnit). u < about.units → length y.journal ≤ MOST_STATEMENTS) K.all m.place new_member (λ l. omega (arith, length-append m.journal (new_entry ∷ []))) (λ u ne l. W.short u l);
         none = each_put (λ (u : ℕ) (y : SeatUnit). about.units ≤ u → y.areas ≡ []) K.all m.place new_member (λ l. let k = (sits about s K id m at).inside in absurd (omega arith)) (λ u ne l. W.none u l);
         entries = lengths ∙ sym (length-append W.log (new_entry ∷ []));
         areas = λ a l. subst (λ (n : ℕ). AreaOk n (λ y u. latched y a (new_all u))) (sym (area a))
             (ok_same (get_or s.words (area_word a) 0) (λ y u. latched y a (K.all u)) (λ y u. latched y a (new_all u))
-            (λ y u. each_put (λ (u : ℕ) (z : SeatUnit). latched y a z ≡ latched y a (K.all u)) K.all m.place new_member (latched_drawn y a m new_entry unit' held' ∙ sym (ap (λ (z : SeatUnit). latched y a z) (is_known about s K id m at))) (λ u ne. refl) u)
+            (λ y u. each_put (λ (u : ℕ) (z : SeatUnit). latched y a z ≡ latched y a (K.all u)) K.all m.place new_member (latched_drawn y a m new_entry unit' held' ∙ sym (ap (λ (z : SeatUnit). latched y a z) (is_at_place about s K id m at))) (λ u ne. refl) u)
             (W.areas a l));
         home = λ k c named free. subst (λ (location : CellName → CellLocation CellValue). AtHome location (get_elem? s.homes k) c) (sym draw.1.location) (W.home k c named (sym (cellw k) ∙ free));
         out = λ k c named busy. ap (λ (location : CellName → CellLocation CellValue). location c) draw.1.location ∙ (W.out k c named (λ z. busy (cellw k ∙ z)) ∙ ap (λ n. HeldBy n) (sym (cellw k)));

@@ -7,7 +7,7 @@ use Rattle.dbtg_schema.specs.declared.shape.Area.{Area}
 use Rattle.dbtg_schema.specs.Texts.SchemaGrammar.{Labelled}
 use Rattle.dbtg_schema.specs.Texts.Labels.{count_of}
 use Rattle.dbtg_schema.specs.Texts.SchemaLists.{item_from, record_type_from}
-use Rattle.dbtg_schema.proofs.Known.Places.{length_mapped}
+use Rattle.dbtg_schema.proofs.Indexes.Places.{length_mapped}
 
 pub items_fit : (areas : List Area) (es : List (List Labelled)) → AllByRecursion (λ e. count_of role.ItemEntry e ≤ 16) es → All (λ r. length r.items ≤ 16) (map (record_type_from areas) es)
 items_fit areas [] h = All-nil (λ r. length r.items ≤ 16)

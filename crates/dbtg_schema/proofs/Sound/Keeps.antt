@@ -27,7 +27,7 @@ use Rattle.dbtg_schema.specs.Inside.Reading.{WithinLimits, verdict}
 use Rattle.dbtg_schema.proofs.Forms.Accepted.{derived}
 use Rattle.dbtg_schema.proofs.Forms.Walks.{clean}
 use Rattle.dbtg_schema.specs.WellFormed.{IsPicture, IsCalc, IsRecordType, IsSetType, IsSchema}
-use Rattle.dbtg_schema.proofs.Known.Places.{length_mapped}
+use Rattle.dbtg_schema.proofs.Indexes.Places.{length_mapped}
 use Rattle.dbtg_schema.proofs.Sound.Limits.{both_nil, not_when, within_limits}
 use Rattle.dbtg_schema.proofs.Sound.Closings.{Closed, each_ends, ends_well}
 use Rattle.dbtg_schema.proofs.Forms.Grammar.{some_area, some_type, some_members, HasMember}

@@ -26,12 +26,12 @@ use Rattle.dbtg_schema.proofs.Sound.Soundness.{map_names}
 use Rattle.dbtg_schema.proofs.Sound.TextParts.{text_of, area_entry_names, set_entries, set_names, type_entries, type_names}
 
 -- each word of the form with this role is to be a name
-abbrev wants_names : Role → Form → Bool
-wants_names r nothing = true
-wants_names r (one k q) = not (number q == number r) || is_name_kind k
-wants_names r (both f g) = wants_names r f && wants_names r g
-wants_names r (either f g) = wants_names r f && wants_names r g
-wants_names r (many f) = wants_names r f
+abbrev asks_for_name : Role → Form → Bool
+asks_for_name r nothing = true
+asks_for_name r (one k q) = not (number q == number r) || is_name_kind k
+asks_for_name r (both f g) = asks_for_name r f && asks_for_name r g
+asks_for_name r (either f g) = asks_for_name r f && asks_for_name r g
+asks_for_name r (many f) = asks_for_name r f
 
 fits_name : (k : Kind) (w : Word) → is_name_kind k ≡ true → fits k w ≡ true → is_name w.text ≡ true
 fits_name name w h t = t
@@ -39,7 +39,7 @@ fits_name (key k) w h t = absurd cc
 fits_name picture w h t = absurd cc
 
 -- the words with this role are spelled as names
-spelled : (r : Role) (f : Form) (ws : List Labelled) → Derives fits f ws → wants_names r f ≡ true → list_all is_name (named r ws) ≡ true
+spelled : (r : Role) (f : Form) (ws : List Labelled) → Derives fits f ws → asks_for_name r f ≡ true → list_all is_name (named r ws) ≡ true
 spelled r nothing ws d h = ap (λ (z : List Labelled). list_all is_name (named r z)) d
 spelled r (one k q) ws d h = ap (λ (z : List Labelled). list_all is_name (named r z)) d.1 ∙ one_word (number q == number r) h
   where
@@ -47,11 +47,11 @@ spelled r (one k q) ws d h = ap (λ (z : List Labelled). list_all is_name (named
     one_word true h = and_from (is_name d.0.text) true (fits_name k d.0 h d.2) refl
     one_word false h = refl
 spelled r (both f g) ws d h =
-    let p = and_parts (wants_names r f) (wants_names r g) h in
+    let p = and_parts (asks_for_name r f) (asks_for_name r g) h in
     ap (λ (z : List Labelled). list_all is_name (named r z)) d.2 ∙ ap (list_all is_name) (named_append r d.0 d.1) ∙ list_all-append is_name (named r d.0) (named r d.1)
     ∙ and_from (list_all is_name (named r d.0)) (list_all is_name (named r d.1)) (spelled r f d.0 d.3 p.0) (spelled r g d.1 d.4 p.1)
-spelled r (either f g) ws (inl d) h = spelled r f ws d (and_parts (wants_names r f) (wants_names r g) h).0
-spelled r (either f g) ws (inr d) h = spelled r g ws d (and_parts (wants_names r f) (wants_names r g) h).1
+spelled r (either f g) ws (inl d) h = spelled r f ws d (and_parts (asks_for_name r f) (asks_for_name r g) h).0
+spelled r (either f g) ws (inr d) h = spelled r g ws d (and_parts (asks_for_name r f) (asks_for_name r g) h).1
 spelled r (many f) ws d h = ap (λ (z : List Labelled). list_all is_name (named r z)) d.1 ∙ in_parts d.0 d.2 (λ vs c. spelled r f vs c h)
   where
     in_parts : (parts : List (List Labelled)) → AllByRecursion (Derives fits f) parts → ((vs : List Labelled) → Derives fits f vs → list_all is_name (named r vs) ≡ true) → list_all is_name (named r (flat_map (λ part. part) parts)) ≡ true

@@ -125,7 +125,7 @@ module _ (schema : Lists) (sound : IsSound schema) (ws : List Labelled) (c : Cle
   duplicate_form h = some_from_none (calc_of schema (type_in schema ws)) (right_use (has role.FindDuplicate ws) (is_none (calc_of schema (type_in schema ws))) h misuse.1)
 
   pub owner_form : has role.FindOwner ws ≡ true → is_set schema (set_in schema ws) ≡ true → form_fits schema (form.OwnerOf (set_in schema ws)) ≡ true
-  owner_form h known = (λ i. known i && not (right_use (has role.FindOwner ws) (is_system schema (set_in schema ws)) h misuse.3 i))
+  owner_form h cache = (λ i. cache i && not (right_use (has role.FindOwner ws) (is_system schema (set_in schema ws)) h misuse.3 i))
 
   -- WHICH MEMBER
 
@@ -183,7 +183,7 @@ module _ (schema : Lists) (sound : IsSound schema) (ws : List Labelled) (c : Cle
       by_name false e = refl
 
   pub set_form : has role.KindSet ws ≡ true → is_set schema (set_in schema ws) ≡ true → which_fits (which_of ws) ≡ true → form_fits schema (in_place schema ws) ≡ true
-  set_form h known chosen = ap (λ b. form_fits schema (cond b (form.InSet (which_of ws) (named_type schema ws role.RecordName) (set_in schema ws)) (form.InArea (which_of ws) (named_type schema ws role.RecordName) (area_in schema ws)))) h ∙ (λ i. known i && chosen i && member_named h i)
+  set_form h cache chosen = ap (λ b. form_fits schema (cond b (form.InSet (which_of ws) (named_type schema ws role.RecordName) (set_in schema ws)) (form.InArea (which_of ws) (named_type schema ws role.RecordName) (area_in schema ws)))) h ∙ (λ i. cache i && chosen i && member_named h i)
 
   pub area_form : has role.KindSet ws ≡ false → has role.KindArea ws ≡ true → which_fits (which_of ws) ≡ true → form_fits schema (in_place schema ws) ≡ true
   area_form h k chosen = ap (λ b. form_fits schema (cond b (form.InSet (which_of ws) (named_type schema ws role.RecordName) (set_in schema ws)) (form.InArea (which_of ws) (named_type schema ws role.RecordName) (area_in schema ws)))) h ∙ (λ i. area_is_in i && chosen i && type_placed k i)
@@ -227,10 +227,10 @@ module _ (schema : Lists) (sound : IsSound schema) (ws : List Labelled) (c : Cle
       by_key (Some i) = refl
 
   pub sorted_form : has role.FindSorted ws ≡ true → is_set schema (set_in schema ws) ≡ true → form_fits schema (form.Sorted (sorted_value schema ws) (set_in schema ws)) ≡ true
-  sorted_form h known =
+  sorted_form h cache =
       let n = set_in schema ws in
-      let set = at_index (IsSoundSet schema) schema.sets sound.sets n known in
-      let kept = at_index (IsSetType schema) schema.sets sound.limits.sets n known in
+      let set = at_index (IsSoundSet schema) schema.sets sound.sets n cache in
+      let kept = at_index (IsSetType schema) schema.sets sound.limits.sets n cache in
       let same : set.0 ≡ kept.0 = one_value (sym set.1 ∙ kept.1) in
       let sorted : is_sorted set.0.order ≡ true =
       ap (λ o. is_sorted (unwrap_or (option_map (λ x. x.order) o) order.Last)) (sym set.1) ∙ not-false (is_sorted (order_of schema n)) (right_use (has role.FindSorted ws) (not (is_sorted (order_of schema n))) h misuse.2) in

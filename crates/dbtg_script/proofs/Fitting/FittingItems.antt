@@ -90,10 +90,10 @@ module _ (schema : Lists) (r : ℕ) where
             let n = text_of l.word in
             let faults : item_faults schema (front ++ xs) n ≡ [] = subst (λ (q : Role). said schema (front ++ xs) l.word q ≡ []) (role_is role.ItemName l t) c.0 in
             let parts = both_nil (when (is_none (item_named schema (type_in schema (front ++ xs)) n)) UnknownItem) (when (among n (texts role.ItemName (front ++ xs))) ItemTwice) faults in
-            let known : is_none (item_named schema r n) ≡ false = ap (λ t. is_none (item_named schema t n)) (sym (same_type xs h)) ∙ not_when (is_none (item_named schema (type_in schema (front ++ xs)) n)) UnknownItem parts.0 in
+            let cache : is_none (item_named schema r n) ≡ false = ap (λ t. is_none (item_named schema t n)) (sym (same_type xs h)) ∙ not_when (is_none (item_named schema (type_in schema (front ++ xs)) n)) UnknownItem parts.0 in
             let new : among n (texts role.ItemName xs) ≡ false =
             ap (among n) (sym (texts_append role.ItemName front xs ∙ ap (λ z. z ++ texts role.ItemName xs) no_items)) ∙ not_when (among n (texts role.ItemName (front ++ xs))) ItemTwice parts.1 in
-            (subst AllItems (sym (one_text role.ItemName xs l t)) (one_item_more (texts role.ItemName xs) n all known), subst (λ z. distinct bytes_eq z ≡ true) (sym (one_text role.ItemName xs l t)) (distinct_behind (texts role.ItemName xs) n d new))
+            (subst AllItems (sym (one_text role.ItemName xs l t)) (one_item_more (texts role.ItemName xs) n all cache), subst (λ z. distinct bytes_eq z ≡ true) (sym (one_text role.ItemName xs l t)) (distinct_behind (texts role.ItemName xs) n d new))
         here (inr f) = (subst AllItems (sym (no_text role.ItemName xs l f)) all, subst (λ z. distinct bytes_eq z ≡ true) (sym (no_text role.ItemName xs l f)) d)
 
   -- CHANGES
@@ -145,7 +145,7 @@ module _ (schema : Lists) (r : ℕ) where
           (λ i. other m all'.0 two.0 i || apart ms all'.1 two.1 i)
         where
           other : (m : List ℕ) → is_none (item_named schema r m) ≡ false → bytes_eq n m ≡ false → (item_no schema r m == item_no schema r n) ≡ false
-          other m known differs = elim (cases_Bool (item_no schema r m == item_no schema r n)) [
-            | inl e ↦ absurd (true≢false (sym (bytes_same n) ∙ ap (bytes_eq n) (sym (one_name m n (map (λ x. x.name) (item_list schema r)) (is_among m 0 (map (λ x. x.name) (item_list schema r)) known) (is_among n 0 (map (λ x. x.name) (item_list schema r)) all.0) (eqb-true _ _ e))) ∙ differs))
+          other m cache differs = elim (cases_Bool (item_no schema r m == item_no schema r n)) [
+            | inl e ↦ absurd (true≢false (sym (bytes_same n) ∙ ap (bytes_eq n) (sym (one_name m n (map (λ x. x.name) (item_list schema r)) (is_among m 0 (map (λ x. x.name) (item_list schema r)) cache) (is_among n 0 (map (λ x. x.name) (item_list schema r)) all.0) (eqb-true _ _ e))) ∙ differs))
             | inr f ↦ f
           ]

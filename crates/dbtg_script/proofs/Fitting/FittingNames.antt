@@ -104,9 +104,9 @@ pub set_before : (schema : Lists) (front : List Labelled) (o x k : Token) (rest 
 set_before schema front o x k rest c none =
     let before = front ++ labelled role.Plain o ∷ labelled role.Name x ∷ [] in
     let at_set = said_parts schema [] front (labelled role.Plain o ∷ labelled role.Name x ∷ labelled role.KindSet k ∷ rest) c in
-    let known = not_when (is_none (set_named schema (named role.Name ((front ++ labelled role.Plain o ∷ []) ++ labelled role.Name x ∷ [])))) UnknownSet at_set.1.1.0 in
+    let cache = not_when (is_none (set_named schema (named role.Name ((front ++ labelled role.Plain o ∷ []) ++ labelled role.Name x ∷ [])))) UnknownSet at_set.1.1.0 in
     let here : named role.Name ((front ++ labelled role.Plain o ∷ []) ++ labelled role.Name x ∷ []) ≡ text_of x = named_last role.Name (front ++ labelled role.Plain o ∷ []) (labelled role.Name x) [] refl refl in
     let whole : named role.Name (front ++ labelled role.Plain o ∷ labelled role.Name x ∷ labelled role.KindSet k ∷ rest) ≡ text_of x =
     ap (named role.Name) (sym (append_assoc front (labelled role.Plain o ∷ []) (labelled role.Name x ∷ labelled role.KindSet k ∷ rest)))
     ∙ named_last role.Name (front ++ labelled role.Plain o ∷ []) (labelled role.Name x) (labelled role.KindSet k ∷ rest) refl none in
-    ap (λ n. is_set schema (set_no schema n)) whole ∙ set_is schema (text_of x) (ap (λ n. is_none (set_named schema n)) (sym here) ∙ known)
+    ap (λ n. is_set schema (set_no schema n)) whole ∙ set_is schema (text_of x) (ap (λ n. is_none (set_named schema n)) (sym here) ∙ cache)

@@ -53,11 +53,11 @@ module _ (schema : Lists) (sound : IsSound schema) (ws : List Labelled) (c : Cle
       let no_type = lacking role.TypeName (some assignment) rest n.4 refl in
       let clean_rest = (subst (EachSaid schema []) words c.0).1.1 in
       let same : (xs : List Labelled) → has role.TypeName xs ≡ false → type_in schema (front ++ xs) ≡ r = λ xs h. ap (type_no schema) (named_last role.TypeName (labelled role.Modify d.3.0 ∷ []) (labelled role.TypeName n.3.0) xs refl h) in
-      let known = items_known schema r front same refl [] rest clean_rest refl no_type tt refl in
+      let cache = items_known schema r front same refl [] rest clean_rest refl no_type tt refl in
       let type : type_in schema ws ≡ r = ap (type_in schema) words ∙ same rest no_type in
       let names : texts role.ItemName ws ≡ texts role.ItemName rest = ap (texts role.ItemName) words in
       (λ i. statement_fits schema (unit_statement.Modify (type i) (map (change_of schema (type i) ws) (names i))))
-      ∙ (λ i. (type_is schema sound.limits t i && changes_differ schema r ws (texts role.ItemName rest) known.0 known.1 i) && changes_fit schema r ws (texts role.ItemName rest) s known.0 i)
+      ∙ (λ i. (type_is schema sound.limits t i && changes_differ schema r ws (texts role.ItemName rest) cache.0 cache.1 i) && changes_fit schema r ws (texts role.ItemName rest) s cache.0 i)
 
   get_fits : statement_fits schema (statement_by schema ws role.Get) ≡ true
   get_fits = elim (has role.TypeName ws) as (λ b. if_named (is_type schema) (cond b (Some (type_in schema ws)) None) ≡ true) [ true ↦ type_is schema sound.limits (type_text ws) | false ↦ refl ]

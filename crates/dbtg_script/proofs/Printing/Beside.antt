@@ -11,7 +11,7 @@ use Rattle.dbtg_script.specs.Printing.Echo.{line_beside, lines_beside, rows_text
 -- one more is counted for its unit alone
 pub counted : (made : List ℕ) (before : List Entry) (e : Entry) (u : ℕ) → length made ≡ 256 → e.unit < 256 → get_or made u 0 ≡ length (entries_of u before)
     → get_or (set made e.unit (get_or made e.unit 0 + 1)) u 0 ≡ length (entries_of u (before ++ e ∷ []))
-counted made before e u long small known = by (eqb e.unit u) refl
+counted made before e u long small cache = by (eqb e.unit u) refl
   where
     more : (b : Bool) → eqb e.unit u ≡ b → length (entries_of u (before ++ e ∷ [])) ≡ length (entries_of u before) + length (cond b (e ∷ []) [])
     more b h = ap length (entries_more u before e ∙ ap (λ k. entries_of u before ++ cond k (e ∷ []) []) h) ∙ length-append (entries_of u before) (cond b (e ∷ []) [])
@@ -23,12 +23,12 @@ counted made before e u long small known = by (eqb e.unit u) refl
         let here : get_or (set made e.unit v) u 0 ≡ v = ap (λ k. get_or (set made e.unit v) k 0) (sym same) ∙ get_or-set_same made e.unit v 0 (omega arith) in
         let moved : get_or made e.unit 0 ≡ get_or made u 0 = ap (λ k. get_or made k 0) same in
         let one = more true h in
-        omega (arith, here, moved, known, one)
+        omega (arith, here, moved, cache, one)
     by false h =
         let v = get_or made e.unit 0 + 1 in
         let there : get_or (set made e.unit v) u 0 ≡ get_or made u 0 = get_or-set_other made e.unit u v 0 (λ q. eqb-false e.unit u h (sym q)) in
         let none = more false h in
-        omega (arith, there, known, none)
+        omega (arith, there, cache, none)
 
 pub few_more : (made : List ℕ) (k u i : ℕ) → length made ≡ 256 → k < 256 → get_or made u 0 ≤ i → get_or made k 0 ≤ i → get_or (set made k (get_or made k 0 + 1)) u 0 ≤ i + 1
 few_more made k u i long small few own = by (eqb k u) refl

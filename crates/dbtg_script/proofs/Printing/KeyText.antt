@@ -86,7 +86,7 @@ printed_key schema k h =
     let number_text : key_number (key_text schema k) ≡ decimal k.number = ap (λ (t : List ℕ). in_front 46 t) after ∙ number_part k.number k.generation (omega arith) in
     let n : up_to 999999 (number (key_number (key_text schema k))) ≡ k.number = ap (λ (t : List ℕ). up_to 999999 (number t)) number_text ∙ ap (up_to 999999) (number_decimal k.number (omega arith)) ∙ in_range k.number 999999 h.number_to in
     let g : up_to 255 (generation (key_text schema k)) ≡ k.generation = ap (λ (t : List ℕ). up_to 255 (generation_of k.generation t)) after ∙ ap (up_to 255) (generation_part k.number k.generation (omega arith) (omega arith)) ∙ in_range k.generation 255 h.generation_to in
-    let r : type_no schema (key_name (key_text schema k)) ≡ k.rtype = ap (type_no schema) front ∙ ap (λ (o : Option ℕ). unwrap_or o 0) h.known in
+    let r : type_no schema (key_name (key_text schema k)) ≡ k.rtype = ap (type_no schema) front ∙ ap (λ (o : Option ℕ). unwrap_or o 0) h.cache in
     made k r n g where
       made : {r n g : ℕ} (k : DbKey) → r ≡ k.rtype → n ≡ k.number → g ≡ k.generation → let x : DbKey = record { rtype = r; number = n; generation = g } in x ≡ k
       made k r n g = rw (r, n, g) refl

@@ -92,13 +92,13 @@ type_once schema sound i j hi hj e =
 
 -- a key of the schema whose numbers are within their types
 record IsKey (schema : Lists) (k : DbKey) : Type 0 where
-  known : k.rtype < length schema.types
+  cache : k.rtype < length schema.types
   number : k.number < 2 ^ 64
   generation : k.generation < 2 ^ 64
 
 module _ (schema : Lists) (named : IsNamed schema) where
   clear_type : (c : ℕ) (k : DbKey) → is_name_byte c ≡ false → IsKey schema k → has_byte c (type_name schema k.rtype) ≡ false
-  clear_type c k other h = clear_word c (type_name schema k.rtype) other (is_named schema.types k.rtype h.known named.types)
+  clear_type c k other h = clear_word c (type_name schema k.rtype) other (is_named schema.types k.rtype h.cache named.types)
 
   -- what follows the colon
   abbrev numbers : DbKey → List ℕ
@@ -114,7 +114,7 @@ module _ (schema : Lists) (named : IsNamed schema) where
       let rest = sym (behind_of 58 (type_name schema k.rtype) (numbers k) (clear_type 58 k refl hk)) ∙ ap (behind 58) same ∙ behind_of 58 (type_name schema j.rtype) (numbers j) (clear_type 58 j refl hj) in
       let number = decimal_injective k.number j.number hk.number hj.number (sym (number_part k.number k.generation hk.number) ∙ ap (in_front 46) rest ∙ number_part j.number j.generation hj.number) in
       let generation = sym (generation_part k.number k.generation hk.number hk.generation) ∙ ap (generation_of k.generation) rest ∙ generation_part j.number j.generation hj.number hj.generation in
-      let rtype = type_once schema sound k.rtype j.rtype hk.known hj.known name in
+      let rtype = type_once schema sound k.rtype j.rtype hk.cache hj.cache name in
       λ i. record { rtype = rtype i; number = number i; generation = generation i }
 
   -- a byte that stands in no name and no number, and is no colon and no period
@@ -344,7 +344,7 @@ module _ (schema : Lists) where
       let p = and_parts (nat_lt k.number (2 ^ 32)) (nat_lt k.generation (2 ^ 8)) r in
       let n = ltb-true k.number (2 ^ 32) p.0 in
       let g = ltb-true k.generation (2 ^ 8) p.1 in
-      record { known = ltb-true k.rtype (length schema.types) h; number = omega (arith, n); generation = omega (arith, g) }
+      record { cache = ltb-true k.rtype (length schema.types) h; number = omega (arith, n); generation = omega (arith, g) }
 
   is_current : (o : Option DbKey) → if_named (is_key_of schema) o ≡ true → if_named key_in_range o ≡ true → IsCurrent schema o
   is_current None h r = tt

@@ -114,17 +114,17 @@ in_range n some = rw (ne_eqb n 0 some) refl
 of_set_said : (schema : Lists) (t name : List ℕ) (set : ℕ) → is_signed t ≡ true → (up_to 999999 (number (without_minus t)) ≡ 0 → ⊥) → set_named schema name ≡ Some set
     → AreSaid schema (plain (codes "FIND") ∷ plain t ∷ plain (codes "OF") ∷ plain name ∷ plain (codes "SET") ∷ []) (statement.Find (form.InSet (which.Nth (signed t)) None set) nothing)
 unfolding verdict
-of_set_said schema t name set h some known = record {
+of_set_said schema t name set h some cache = record {
   faultless =
       goes_on schema (labelled role.Find (plain (codes "FIND")) ∷ []) (rest_of state.Find) (plain t) (plain (codes "OF") ∷ plain name ∷ plain (codes "SET") ∷ [])
       (record { kind = grammar.signed; role = role.WhichNumber; rest = rest_of state.WhichOf }) (number_starts t h) (in_range (up_to 999999 (number (without_minus t))) some)
-      ∙ rw known refl;
-  said = rw (number_starts t h, known, none_suppressed _ schema.sets refl) refl;
+      ∙ rw cache refl;
+  said = rw (number_starts t h, cache, none_suppressed _ schema.sets refl) refl;
 }
 
 pub nth_said : (schema : Lists) (t : List ℕ) (ts : List Token) (set : ℕ) → is_signed t ≡ true → (up_to 999999 (number (without_minus t)) ≡ 0 → ⊥) → IsOfSet schema ts set
     → AreSaid schema (plain (codes "FIND") ∷ plain t ∷ ts) (statement.Find (form.InSet (which.Nth (signed t)) None set) nothing)
-nth_said schema t ts set h some of = rw of.words (of_set_said schema t of.name set h some of.known)
+nth_said schema t ts set h some of = rw of.words (of_set_said schema t of.name set h some of.cache)
 
 -- FIND SORTED v OF s SET
 
@@ -132,15 +132,15 @@ by_key_of_set : (schema : Lists) (t : Token) (name : List ℕ) (set : ℕ) (p : 
     → sort_picture schema set ≡ Some p → spelled p t ≡ Some v
     → AreSaid schema (plain (codes "FIND") ∷ plain (codes "SORTED") ∷ t ∷ plain (codes "OF") ∷ plain name ∷ plain (codes "SET") ∷ []) (statement.Find (form.Sorted v set) nothing)
 unfolding verdict
-by_key_of_set schema t name set p v h known order picture is = record {
-  faultless = rw (h, known, order, picture) (spelled_faultless p t v is);
-  said = rw (h, known, picture, is, none_suppressed _ schema.sets refl) refl;
+by_key_of_set schema t name set p v h cache order picture is = record {
+  faultless = rw (h, cache, order, picture) (spelled_faultless p t v is);
+  said = rw (h, cache, picture, is, none_suppressed _ schema.sets refl) refl;
 }
 
 pub sorted_said : (schema : Lists) (t : Token) (ts : List Token) (set : ℕ) (p : Picture) (v : Value) → fits grammar.value t ≡ true → IsOfSet schema ts set → is_sorted (order_of schema set) ≡ true
     → sort_picture schema set ≡ Some p → spelled p t ≡ Some v
     → AreSaid schema (plain (codes "FIND") ∷ plain (codes "SORTED") ∷ t ∷ ts) (statement.Find (form.Sorted v set) nothing)
-sorted_said schema t ts set p v h of order picture is = rw of.words (by_key_of_set schema t of.name set p v h of.known order picture is)
+sorted_said schema t ts set p v h of order picture is = rw of.words (by_key_of_set schema t of.name set p v h of.cache order picture is)
 
 -- MODIFY r i = v
 
@@ -148,14 +148,14 @@ change_said : (schema : Lists) (name item : List ℕ) (t : Token) (r i : ℕ) (p
     → fits grammar.value t ≡ true → spelled p t ≡ Some v
     → AreSaid schema (plain (codes "MODIFY") ∷ plain name ∷ plain item ∷ equals ∷ t ∷ []) (statement.Modify r (record { item = i; value = v } ∷ []))
 unfolding verdict
-change_said schema name item t r i p v known named picture h is = record {
-  faultless = rw (h, known, named, picture) (first_else (value_faults (Some p) t) _ (spelled_faultless p t v is));
-  said = rw (h, known, named, picture, bytes_same item, is) refl;
+change_said schema name item t r i p v cache named picture h is = record {
+  faultless = rw (h, cache, named, picture) (first_else (value_faults (Some p) t) _ (spelled_faultless p t v is));
+  said = rw (h, cache, named, picture, bytes_same item, is) refl;
 }
 
 pub modify_said : (schema : Lists) (name : List ℕ) (ts : List Token) (r i : ℕ) (v : Value) → type_named schema name ≡ Some r → IsOnlyGiven schema r ts i v
     → AreSaid schema (plain (codes "MODIFY") ∷ plain name ∷ ts) (statement.Modify r (record { item = i; value = v } ∷ []))
-modify_said schema name ts r i v known g = rw g.words (change_said schema name g.name g.token r i g.picture v known g.known g.pictured g.value_word g.value_is)
+modify_said schema name ts r i v cache g = rw g.words (change_said schema name g.name g.token r i g.picture v cache g.cache g.pictured g.value_word g.value_is)
 
 -- FIND CALC r RECORD USING i = v
 
@@ -190,12 +190,12 @@ calc_said : (schema : Lists) (name item : List ℕ) (t : Token) (r i : ℕ) (p :
     → picture_of schema r i ≡ Some p → fits grammar.value t ≡ true → spelled p t ≡ Some v
     → AreSaid schema (plain (codes "FIND") ∷ plain (codes "CALC") ∷ plain name ∷ plain (codes "RECORD") ∷ plain (codes "USING") ∷ plain item ∷ equals ∷ t ∷ []) (statement.Find (form.Calc r (v ∷ [])) nothing)
 unfolding verdict
-calc_said schema name item t r i p v known calc named picture h is = record {
-  faultless = rw (h, known, named, picture, used_rightly (calc_of schema r) i calc) (first_else (value_faults (Some p) t) _ (spelled_faultless p t v is));
-  said = rw (h, known, one_value schema r _ (calc_of schema r) i calc, name_is schema r item i named, picture, bytes_same item, is, none_suppressed _ schema.sets refl) refl;
+calc_said schema name item t r i p v cache calc named picture h is = record {
+  faultless = rw (h, cache, named, picture, used_rightly (calc_of schema r) i calc) (first_else (value_faults (Some p) t) _ (spelled_faultless p t v is));
+  said = rw (h, cache, one_value schema r _ (calc_of schema r) i calc, name_is schema r item i named, picture, bytes_same item, is, none_suppressed _ schema.sets refl) refl;
 }
 
 pub find_calc_said : (schema : Lists) (before after : List Token) (r i : ℕ) (v : Value) → IsCalcType schema r before after → calc_items (calc_of schema r) ≡ i ∷ [] → IsOnlyGiven schema r after i v
     → AreSaid schema (plain (codes "FIND") ∷ plain (codes "CALC") ∷ before) (statement.Find (form.Calc r (v ∷ [])) nothing)
 find_calc_said schema before after r i v c calc g =
-    rw (c.words, g.words) (calc_said schema c.name g.name g.token r i g.picture v c.known calc g.known g.pictured g.value_word g.value_is)
+    rw (c.words, g.words) (calc_said schema c.name g.name g.token r i g.picture v c.cache calc g.cache g.pictured g.value_word g.value_is)

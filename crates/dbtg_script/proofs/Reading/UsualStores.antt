@@ -252,11 +252,11 @@ abbrev store_front : List ℕ → List Labelled → List Labelled
 store_front name ws = labelled role.Store (plain (codes "STORE")) ∷ labelled role.TypeName (plain name) ∷ ws
 
 store_is_front : (schema : Lists) (r : ℕ) (name : List ℕ) → type_named schema name ≡ Some r → IsFront schema r (store_front name)
-store_is_front schema r name known = record {
+store_is_front schema r name cache = record {
   behind = λ xs ys. refl;
   texts_are = λ xs. refl;
   named_is = λ xs. refl;
-  typed = λ xs h g. ap (type_no schema) (named_last role.TypeName (labelled role.Store (plain (codes "STORE")) ∷ []) (labelled role.TypeName (plain name)) xs refl h) ∙ ap (λ o. unwrap_or o 0) known;
+  typed = λ xs h g. ap (type_no schema) (named_last role.TypeName (labelled role.Store (plain (codes "STORE")) ∷ []) (labelled role.TypeName (plain name)) xs refl h) ∙ ap (λ o. unwrap_or o 0) cache;
 }
 
 store_goes_round : (schema : Lists) (r : ℕ) → GoRound schema r (rest_of state.MoreItems) (rest_of state.ItemEquals) (rest_of state.ItemValue)
@@ -281,15 +281,15 @@ store_ended schema name ps =
 
 pub store_is_said : (schema : Lists) (r : ℕ) (name : List ℕ) (ts : List Token) (vs : List Value) → type_named schema name ≡ Some r → AreAssigned schema r 0 (item_list schema r) ts vs
     → AreSaid schema (plain (codes "STORE") ∷ plain name ∷ ts) (statement.Store r vs nothing)
-store_is_said schema r name ts vs known h =
-    let front = store_is_front schema r name known in
+store_is_said schema r name ts vs cache h =
+    let front = store_is_front schema r name cache in
     let read = all_read schema r (store_front name) front (rest_of state.MoreItems) (rest_of state.ItemEquals) (rest_of state.ItemValue) (store_goes_round schema r) (store_ended schema name) (item_list schema r) 0 [] ts vs refl tt h in
     let ps = read.pairs in
     let typed = front.typed (assigned ps) (no_role role.TypeName ps refl refl refl) (no_role role.RecordName ps refl refl refl) in
     record {
       faultless =
           goes_on schema [] grammar.statement (plain (codes "STORE")) (plain name ∷ ts) _ refl refl
-          ∙ goes_on schema (labelled role.Store (plain (codes "STORE")) ∷ []) (rest_of state.StoreType) (plain name) ts _ refl (rw known refl)
+          ∙ goes_on schema (labelled role.Store (plain (codes "STORE")) ∷ []) (rest_of state.StoreType) (plain name) ts _ refl (rw cache refl)
           ∙ read.faultless;
       said =
           ap (λ ws. statement_of schema (store_front name ws)) read.words

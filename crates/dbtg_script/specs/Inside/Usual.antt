@@ -37,7 +37,7 @@ nothing = record { types = false; areas = false; sets = 0 }
 pub record IsOfSet (schema : Lists) (ts : List Token) (set : ℕ) : Type 0 where
   pub name : List ℕ
   pub words : ts ≡ plain (codes "OF") ∷ plain name ∷ plain (codes "SET") ∷ []
-  pub known : set_named schema name ≡ Some set
+  pub cache : set_named schema name ≡ Some set
 
 -- the words give this value to the item with this number, by its name, = and the value, and say no more
 pub record IsOnlyGiven (schema : Lists) (r : ℕ) (ts : List Token) (i : ℕ) (v : Value) : Type 0 where
@@ -45,7 +45,7 @@ pub record IsOnlyGiven (schema : Lists) (r : ℕ) (ts : List Token) (i : ℕ) (v
   pub token : Token
   pub picture : Picture
   pub words : ts ≡ plain name ∷ equals ∷ token ∷ []
-  pub known : item_named schema r name ≡ Some i
+  pub cache : item_named schema r name ≡ Some i
   pub pictured : picture_of schema r i ≡ Some picture
   pub value_word : fits value token ≡ true
   pub value_is : spelled picture token ≡ Some v
@@ -54,7 +54,7 @@ pub record IsOnlyGiven (schema : Lists) (r : ℕ) (ts : List Token) (i : ℕ) (v
 pub record IsCalcType (schema : Lists) (r : ℕ) (before after : List Token) : Type 0 where
   pub name : List ℕ
   pub words : before ≡ plain name ∷ plain (codes "RECORD") ∷ plain (codes "USING") ∷ after
-  pub known : type_named schema name ≡ Some r
+  pub cache : type_named schema name ≡ Some r
 
 -- the items of a CALC clause; none if there is none
 abbrev pub calc_items : Option Calc → List ℕ

@@ -148,8 +148,8 @@ module _ (schema : Lists) (capacity : ℕ) (scripts : List (List Statement)) (le
     unfolding machine_after
     scripts_are = run_keeps_scripts (network schema capacity) first (machine_of schema capacity scripts) moves ∙ scripts_opening schema capacity 1 scripts
 
-    begins : (u : ℕ) (script : List Statement) → unit_at scripts u ≡ Some script → (remaining : List Statement) × (map (λ (e : Entry). e.statement) (entries_of u (map entry_of last.history)) ++ remaining ≡ script)
-    begins u script at =
+    script_begins : (u : ℕ) (script : List Statement) → unit_at scripts u ≡ Some script → (remaining : List Statement) × (map (λ (e : Entry). e.statement) (entries_of u (map entry_of last.history)) ++ remaining ≡ script)
+    script_begins u script at =
         let found = came_from (λ (x : UnitState (network schema capacity)). x.script) last.units u script (subst (λ xs. unit_at xs u ≡ Some script) (sym scripts_are) at) in
         (found.it.remaining, ap (λ xs. xs ++ found.it.remaining) (statements_same schema capacity u last.history) ∙ (machine_stays_lawful.each u found.it found.at).script ∙ found.is)
 
@@ -159,5 +159,5 @@ module _ (schema : Lists) (capacity : ℕ) (scripts : List (List Statement)) (le
       answers = answers_same schema capacity first last.history machine_stays_lawful.answers;
       image_is = ap (λ (q : DatabaseState). image_of schema capacity q.database) (replays_same schema capacity first last.history);
       units_are = machine_stays_lawful.units ∙ ap (λ (q : DatabaseState). q.units) (replays_same schema capacity first last.history);
-      scripts_begin = begins;
+      scripts_begin = script_begins;
     }

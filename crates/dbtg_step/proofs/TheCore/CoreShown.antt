@@ -185,8 +185,8 @@ module _ (schema : Lists) (capacity : ℕ) (parts : Parts) (well : IsWell schema
 
 -- THE HEADLINE
 
-begins : (core : CoreParts) → IsCore core → (u : ℕ) (script : List Statement) → unit_at (map (λ r. r.script) core.runners) u ≡ Some script → (remaining : List Statement) × (map (λ (e : Entry). e.statement) (entries_of u core.history) ++ remaining ≡ script)
-begins core is u script at =
+script_begins : (core : CoreParts) → IsCore core → (u : ℕ) (script : List Statement) → unit_at (map (λ r. r.script) core.runners) u ≡ Some script → (remaining : List Statement) × (map (λ (e : Entry). e.statement) (entries_of u core.history) ++ remaining ≡ script)
+script_begins core is u script at =
     let unit = came_from (λ (r : CoreUnit). r.script) core.runners u script at in
     (drop unit.it.next unit.it.script, is.scripts u unit.it unit.at ∙ unit.is)
 
@@ -198,5 +198,5 @@ core_sequential core is =
       answers = subst (λ n. AnswersHold core.schema core.capacity (opening_state core.schema n) core.history) units is.answers;
       image_is = ap (λ n. image_of core.schema core.capacity (replay_entries core.schema core.capacity (opening_state core.schema n) core.history).database) units;
       units_are = is.units ∙ ap (λ n. (replay_entries core.schema core.capacity (opening_state core.schema n) core.history).units) units;
-      scripts_begin = begins core is;
+      scripts_begin = script_begins core is;
     }

@@ -170,9 +170,9 @@ module _ (schema : Lists) (capacity : ℕ) where
           let found : turn_left opening (updated (network schema capacity) s u a.state location g p) u ≡ work_by db a.state.unit g p a.state.remaining = ap (work_found db) (set_at s.units u a.state new a.found) in
           record { after = _; moves = moves; less = subst (λ m. m < turn_left opening s u) (e ∙ sym found) (subst (λ m. n < m) (sym here) less) }
 
-      begins : (x : Statement) (xs : List Statement) → a.state.progress ≡ None → a.state.remaining ≡ x ∷ xs → n < length (x ∷ xs) → ComesOn
+      script_begins : (x : Statement) (xs : List Statement) → a.state.progress ≡ None → a.state.remaining ≡ x ∷ xs → n < length (x ∷ xs) → ComesOn
       unfolding begun
-      begins x xs p r more =
+      script_begins x xs p r more =
           let m = needs_left schema capacity db a.state.unit x a.state.guesses [] [] in
           let high : leb n (length xs) ≡ true = le-leb n (length xs) (omega (arith, more)) in
           let now : work_of db a.state ≡ 4 + 3 * m = (λ i. work_by db a.state.unit a.state.guesses (p i) (r i)) ∙ (λ i. cond (high i) (4 + 3 * m) 0) in
@@ -352,7 +352,7 @@ module _ (schema : Lists) (capacity : ℕ) where
         where
           by : (p : Option W) (xs : List Statement) → a.state.progress ≡ p → a.state.remaining ≡ xs → ComesOn
           by None [] p r = absurd (busy (record { between = p; few = subst (λ (ys : List Statement). length ys ≤ n) (sym r) (omega arith) }))
-          by None (x ∷ xs) p r = begins x xs p r (more (λ few. busy (record { between = p; few = subst (λ (ys : List Statement). length ys ≤ n) (sym r) few })))
+          by None (x ∷ xs) p r = script_begins x xs p r (more (λ few. busy (record { between = p; few = subst (λ (ys : List Statement). length ys ≤ n) (sym r) few })))
           by (Some w) xs p r = in_statement w p w.ticket refl
 
   -- ONE STEP OF MANY

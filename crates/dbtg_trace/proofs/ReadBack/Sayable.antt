@@ -100,8 +100,8 @@ no_colon (x ∷ xs) h =
 -- AN ANSWER
 
 module _ (schema : Lists) (sound : IsSound schema) (named : IsNamed schema) (capacity : ℕ) (small : capacity ≤ 999999) where
-  known : (r : ℕ) → r < length schema.types → type_named schema (type_name schema r) ≡ Some r
-  known r h =
+  cache : (r : ℕ) → r < length schema.types → type_named schema (type_name schema r) ≡ Some r
+  cache r h =
       let areas = map (λ a. a.name) schema.areas in
       let sets = map (λ s. s.name) schema.sets in
       let same : 0 + r ≡ r = omega arith in
@@ -117,7 +117,7 @@ module _ (schema : Lists) (sound : IsSound schema) (named : IsNamed schema) (cap
       let last = key.4 in
       let most = legal.generations k.rtype k.number in (
         record {
-          known = known k.rtype key.0;
+          cache = cache k.rtype key.0;
           no_colon = no_colon (type_name schema k.rtype) (name_bytes (type_name schema k.rtype) (type_is_named schema.types k.rtype key.0 named.types));
           number_from = omega (arith, low);
           number_to = omega (arith, high, small);

@@ -177,14 +177,14 @@ module _ (schema : Lists) (named : IsNamed schema) (k : DbKey) (is : IsKeyOf sch
 
   no_fault : first (key_faults schema (key_text schema k)) ≡ None
   no_fault =
-      let known : is_none (type_named schema (key_name (key_text schema k))) ≡ false = ap (λ (t : List ℕ). is_none (type_named schema t)) front ∙ ap is_none is.known in
+      let cache : is_none (type_named schema (key_name (key_text schema k))) ≡ false = ap (λ (t : List ℕ). is_none (type_named schema t)) front ∙ ap is_none is.cache in
       let a = is.number_from in
       let b = is.generation_from in
       let n : (k.number == 0) ≡ false = grind (arith, nat_tests, a) in
       let g : (k.generation == 0) ≡ false = grind (arith, nat_tests, b) in
       let number_in : (up_to 999999 (number (key_number (key_text schema k))) == 0) ≡ false = ap (λ (x : DbKey). x.number == 0) read ∙ n in
       let generation_in : (up_to 255 (generation (key_text schema k)) == 0) ≡ false = ap (λ (x : DbKey). x.generation == 0) read ∙ g in
-      (λ i. first (when (known i) cause.UnknownRecordType ++ when (number_in i) cause.OutOfRange ++ when (generation_in i) cause.OutOfRange))
+      (λ i. first (when (cache i) cause.UnknownRecordType ++ when (number_in i) cause.OutOfRange ++ when (generation_in i) cause.OutOfRange))
 
   pub key_back : key_in schema (key_text schema k) ≡ Some k
   key_back =

@@ -2,7 +2,7 @@
 use Rattle.std.specs.Prelude.{◌≡◌, ℕ, List, [], ◌∷◌, Option, Some, None, slice_get}
 use Rattle.dbtg_schema.specs.Lists.{Lists}
 use Rattle.dbtg_script.specs.declared.line_cache.Seen.{Seen}
-use Rattle.dbtg_script.specs.LineCache.{IsKnown}
+use Rattle.dbtg_script.specs.LineCache.{IsCached}
 use Rattle.dbtg_trace.specs.declared.traced.Traced.{Traced}
 use Rattle.dbtg_trace.specs.Answers.{answer_in}
 use Rattle.dbtg_trace.specs.Inside.Reading.{statements_in}
@@ -23,5 +23,5 @@ AreSaid schema ts (p ∷ ps) = IsSaidAt schema ts p × AreSaid schema ts ps
 
 -- the lines of scripts and the answers that are kept of the entries that were read
 pub record AreCached (schema : Lists) (ts : List Traced) (lines answers : List (Option Seen)) : Type 0 where
-  pub known : IsKnown schema (statements_in ts) lines
+  pub cache : IsCached schema (statements_in ts) lines
   pub said : AreSaid schema ts answers

@@ -13,14 +13,14 @@ pub flat_map_agrees : {X Y : Type 0} (f g : X → List Y) (xs : List X) → ((x 
 flat_map_agrees f g [] h = refl
 flat_map_agrees f g (x ∷ xs) h = λ i. h x (inl refl) i ++ flat_map_agrees f g xs (λ y j. h y (inr j)) i
 
-pub map_agrees : {X Y : Type 0} (f g : X → Y) (xs : List X) → ((x : X) → In x xs → f x ≡ g x) → map f xs ≡ map g xs
-map_agrees f g [] h = refl
-map_agrees f g (x ∷ xs) h = λ i. h x (inl refl) i ∷ map_agrees f g xs (λ y j. h y (inr j)) i
+pub map_agrees_on_list : {X Y : Type 0} (f g : X → Y) (xs : List X) → ((x : X) → In x xs → f x ≡ g x) → map f xs ≡ map g xs
+map_agrees_on_list f g [] h = refl
+map_agrees_on_list f g (x ∷ xs) h = λ i. h x (inl refl) i ∷ map_agrees_on_list f g xs (λ y j. h y (inr j)) i
 
 -- tests that agree keep the same
-pub filter_agrees : {X : Type 0} (p q : X → Bool) (xs : List X) → ((x : X) → In x xs → p x ≡ q x) → filter p xs ≡ filter q xs
-filter_agrees p q [] h = refl
-filter_agrees p q (x ∷ xs) h = λ i. cond (h x (inl refl) i) (x ∷ filter_agrees p q xs (λ y j. h y (inr j)) i) (filter_agrees p q xs (λ y j. h y (inr j)) i)
+pub filter_agrees_on_list : {X : Type 0} (p q : X → Bool) (xs : List X) → ((x : X) → In x xs → p x ≡ q x) → filter p xs ≡ filter q xs
+filter_agrees_on_list p q [] h = refl
+filter_agrees_on_list p q (x ∷ xs) h = λ i. cond (h x (inl refl) i) (x ∷ filter_agrees_on_list p q xs (λ y j. h y (inr j)) i) (filter_agrees_on_list p q xs (λ y j. h y (inr j)) i)
 
 -- functions that agree on all make the same of a list
 pub map_same : {X Y : Type 0} (f g : X → Y) (xs : List X) → ((x : X) → f x ≡ g x) → map f xs ≡ map g xs

@@ -15,8 +15,8 @@ abbrev pub seen_in_set : Lists → DbKey → List (Option Owner) → Suppress �
 seen_in_set schema k owners suppress e = if suppresses suppress e.0 then e.1 else seen_place e.1 (owns schema e.0 k.rtype) k (at owners e.0)
 
 -- for all sets
-abbrev pub seen_in_sets : Lists → DbKey → List (Option Owner) → Suppress → List (Option Place) → List (Option Place)
-seen_in_sets schema k owners suppress was = map (seen_in_set schema k owners suppress) (enumerate_from 0 was)
+abbrev pub seen_in_each_set : Lists → DbKey → List (Option Owner) → Suppress → List (Option Place) → List (Option Place)
+seen_in_each_set schema k owners suppress was = map (seen_in_set schema k owners suppress) (enumerate_from 0 was)
 
 -- for a set in whose list k is, by its number, with its current before
 abbrev pub seen_in_list : DbKey → List (Option Owner) → Suppress → ℕ × Option Place → Option Place

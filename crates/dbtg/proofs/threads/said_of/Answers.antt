@@ -9,9 +9,9 @@ returns-clause-turns c =
     let units = c.as_slice-2.result.now in
     let first = c.args.first.now in
     let found = c.in-Some.ensures.cases in
-    let begins = (bytes_eq-Decides (take (length first) units) first).0 found.0 in (
+    let history_begins = (bytes_eq-Decides (take (length first) units) first).0 found.0 in (
       c.in-Some.behind.now,
       ap (map (λ (e : Entry). e.unit)) (sym c.as_slice.ensures) ∙ sym c.in_ok-units.ensures ∙ sym c.as_slice-2.ensures.value ∙ sym (take-append-drop (length first) units)
-          ∙ ap (λ us. us ++ drop (length first) units) begins ∙ ap (λ us. first ++ us) (sym found.1),
+          ∙ ap (λ us. us ++ drop (length first) units) history_begins ∙ ap (λ us. first ++ us) (sym found.1),
       c.in_ok-turns_text.ensures,
     )

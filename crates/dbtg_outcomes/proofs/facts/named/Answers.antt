@@ -14,5 +14,5 @@ returns c =
     let history = c.as_slice-history.ensures in
     let named_by = c.as_slice-stored.ensures.value ∙ c.in_ok-keys.ensures ∙ ap (stored units) history in
     let told = c.in_ok-facts.ensures ∙ (λ i. if c.args.tells then map (answers_fact keys (history i)) units else []) in
-    let of_units = c.in_ok-push_units.ensures ∙ ap (λ (us : List unit.Unit). answers ++ flat_map (unit_facts keys) us) c.as_slice.ensures in
-    all_facts c.args.tells units run keys answers c.push_units.new.facts c.push_usage.new.facts c.push_image.new.facts named_by told of_units c.in_ok-push_usage.ensures c.in_ok-push_image.ensures
+    let of_units = c.in_ok-push_each_unit.ensures ∙ ap (λ (us : List unit.Unit). answers ++ flat_map (unit_facts keys) us) c.as_slice.ensures in
+    all_facts c.args.tells units run keys answers c.push_each_unit.new.facts c.push_usage.new.facts c.push_image.new.facts named_by told of_units c.in_ok-push_usage.ensures c.in_ok-push_image.ensures

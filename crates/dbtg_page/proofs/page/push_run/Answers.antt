@@ -11,6 +11,6 @@ returns c =
     let core = c.args.core.now in
     let out = c.args.out.now.items in
     let rows = rows_of_moves (machine core) c.args.moves.now in
-    subst (λ (xs : List ℕ). OnOk c.push_moves.result (c.push_moves.new.out.items ≡ xs))
+    subst (λ (xs : List ℕ). OnOk c.push_each_move.result (c.push_each_move.new.out.items ≡ xs))
     (ap (λ (t : List ℕ). t ++ rows) (c.in_ok-push_state.ensures ∙ ap (λ (t : List ℕ). out ++ t) (row_shown core [])) ∙ append_assoc out (core_row (machine core) []) rows)
-    c.push_moves.ensures
+    c.push_each_move.ensures

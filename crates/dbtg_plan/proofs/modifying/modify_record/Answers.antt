@@ -13,8 +13,8 @@ use Rattle.dbtg_unit.proofs.Public.{can_make_front, can_make_rest, made_append, 
 use Rattle.dbtg_plan.proofs.Plans.MadeAtOnce.{seen_by_plan}
 use Rattle.dbtg_plan.proofs.modifying.modify_record.Goals as goal
 
-pub edit_cells-requires : goal.edit_cells-requires
-edit_cells-requires c =
+pub edit_each_cell-requires : goal.edit_each_cell-requires
+edit_each_cell-requires c =
     let schema = c.args.schema.now in
     let view = in_hand c.args.held.now in
     let unit = c.args.unit.now in
@@ -43,7 +43,7 @@ change_slot-requires c =
     let all : c.of.result ++ last ≡ modify_edits schema view unit changes k items =
     ap (λ es. es ++ last) (c.of.ensures ∙ c.in_ok-edits.ensures ∙ ap front c.as_slice.ensures)
     ∙ append_assoc (calc_edits schema changes k items) (flat_map (replacing_edits schema view unit k items) (rekeyed_sets schema k.rtype (map (λ c. c.item) changes))) last in
-    can_make_rest c.of.result last old c.edit_cells.new.held.cells (subst (λ (es : List CellEdit). CanMake es old) (sym all) c.requires.can) c.edit_cells.ensures.made
+    can_make_rest c.of.result last old c.edit_each_cell.new.held.cells (subst (λ (es : List CellEdit). CanMake es old) (sym all) c.requires.can) c.edit_each_cell.ensures.made
 
 pub returns-clause-made : goal.returns-clause-made
 returns-clause-made c =
@@ -54,7 +54,7 @@ returns-clause-made c =
     let k = c.args.key.now in
     let items = c.args.items in
     let old = c.args.held.now in
-    let between = c.edit_cells.new.held.cells in
+    let between = c.edit_each_cell.new.held.cells in
     let new = c.change_slot.new.held.cells in
     let last : List CellEdit = slot_edit k (ChangeItems items) ∷ (slot_edit k RaiseVersion ∷ []) in
     let front : List Value → List CellEdit = λ items. calc_edits schema changes k items ++ flat_map (replacing_edits schema view unit k items) (rekeyed_sets schema k.rtype (map (λ c. c.item) changes)) in
@@ -63,7 +63,7 @@ returns-clause-made c =
     ∙ append_assoc (calc_edits schema changes k items) (flat_map (replacing_edits schema view unit k items) (rekeyed_sets schema k.rtype (map (λ c. c.item) changes))) last in
     seen_by_plan schema unit c.renote.new.self old c.change_slot.new.held (modifying schema view unit changes k) c.done_answer.result c.done_answer.ensures
     (c.renote.ensures.change ∙ ap (λ v. record unit { kept = noted_again k v unit.kept }) c.next_version-version.ensures)
-    (c.change_slot.ensures.areas ∙ c.edit_cells.ensures.areas)
-    (made_values (c.of.result ++ last) old.cells new (made_append c.of.result last old.cells between new c.edit_cells.ensures.made c.change_slot.ensures.made)
+    (c.change_slot.ensures.areas ∙ c.edit_each_cell.ensures.areas)
+    (made_values (c.of.result ++ last) old.cells new (made_append c.of.result last old.cells between new c.edit_each_cell.ensures.made c.change_slot.ensures.made)
     ∙ ap (λ (es : List CellEdit). edited_values es (values_of old.cells)) (all ∙ ap (modify_edits schema view unit changes k) c.requires.changed))
-    (c.change_slot.ensures.guesses ∙ c.edit_cells.ensures.guesses)
+    (c.change_slot.ensures.guesses ∙ c.edit_each_cell.ensures.guesses)

@@ -7,12 +7,12 @@ use Rattle.dbtg_plan.proofs.storing.missing_of_key.Goals as goal
 
 pub returns-then-is_some : goal.returns-then-is_some
 returns-then-is_some c =
-    c.missing_in_sets-ring.ensures
+    c.missing_in_any_set-ring.ensures
     ∙ sym (missing_here c.args.held.now (store_rings c.args.schema.now c.args.unit.now c.args.key.now) (slot_name c.args.key.now ∷ [])
-    (ap is_some (sym c.missing_in_sets-ring.ensures) ∙ sym c.is_some.ensures ∙ c.if-is_some.true))
+    (ap is_some (sym c.missing_in_any_set-ring.ensures) ∙ sym c.is_some.ensures ∙ c.if-is_some.true))
 
 pub returns : goal.returns
 returns c =
     c.missing_slot.ensures
     ∙ sym (missing_behind c.args.held.now (store_rings c.args.schema.now c.args.unit.now c.args.key.now) (slot_name c.args.key.now ∷ [])
-    (ap is_some (sym c.missing_in_sets-ring.ensures) ∙ sym c.is_some.ensures ∙ c.if-is_some.false))
+    (ap is_some (sym c.missing_in_any_set-ring.ensures) ∙ sym c.is_some.ensures ∙ c.if-is_some.false))

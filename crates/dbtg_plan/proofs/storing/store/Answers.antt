@@ -12,7 +12,7 @@ use Rattle.dbtg_unit.specs.Hands.Making.{CanMake}
 use Rattle.dbtg_unit.specs.Hands.PlanOf.{storing}
 use Rattle.dbtg_unit.specs.Hands.Prepared.{edited_values, values_of}
 use Rattle.dbtg_unit.proofs.Public.{made_values}
-use Rattle.dbtg_plan.specs.Inside.Store.{entering_edit, opening_edits}
+use Rattle.dbtg_plan.specs.Inside.Store.{entering_edit, edits_of_opening}
 use Rattle.dbtg_plan.proofs.Plans.MadeAtOnce.{seen_by_plan}
 use Rattle.dbtg_plan.proofs.Store.StoreSteps.{edits_made}
 use Rattle.dbtg_plan.proofs.storing.store.Goals as goal
@@ -26,7 +26,7 @@ change_cells-requires c =
     let edits =
     edits_made schema unit k items c.in_ok-entering.entering c.in_ok-filling.filling c.of.result
     (c.in_ok-entering.ensures ∙ ap (entering_edit schema k) c.as_slice.ensures)
-    (c.of.ensures ∙ c.in_ok-push_joins.ensures
+    (c.of.ensures ∙ c.in_ok-push_each_join.ensures
     ∙ (λ i. c.new-joins.ensures.items i ++ flat_map (λ s. joining_edits schema unit s k (key_item schema s k.rtype (c.as_slice-2.ensures i))) (automatic_sets schema k.rtype)))
     (c.in_ok-filling.ensures ∙ ap (λ (owners : List (Option Owner)). slot_edit k (Fill k.generation items owners)) c.first_owners-owners.ensures) in
     subst (λ (es : List CellEdit). CanMake es c.make_places.new.held.cells) (sym edits)
@@ -39,11 +39,11 @@ returns-clause-made c =
     let k = c.args.key.now in
     let items = c.args.items.now in
     let suppress = c.args.suppress.now in
-    let made : List CellEdit = c.in_ok-entering.entering ∷ (c.of.result ++ (opening_edits schema k ++ c.in_ok-filling.filling ∷ [])) in
+    let made : List CellEdit = c.in_ok-entering.entering ∷ (c.of.result ++ (edits_of_opening schema k ++ c.in_ok-filling.filling ∷ [])) in
     let edits : made ≡ store_edits schema unit k items =
     edits_made schema unit k items c.in_ok-entering.entering c.in_ok-filling.filling c.of.result
     (c.in_ok-entering.ensures ∙ ap (entering_edit schema k) c.as_slice.ensures)
-    (c.of.ensures ∙ c.in_ok-push_joins.ensures
+    (c.of.ensures ∙ c.in_ok-push_each_join.ensures
     ∙ (λ i. c.new-joins.ensures.items i ++ flat_map (λ s. joining_edits schema unit s k (key_item schema s k.rtype (c.as_slice-2.ensures i))) (automatic_sets schema k.rtype)))
     (c.in_ok-filling.ensures ∙ ap (λ (owners : List (Option Owner)). slot_edit k (Fill k.generation items owners)) c.first_owners-owners.ensures) in
     seen_by_plan schema unit c.see.new.self c.args.held.now c.set_guesses.new.self (storing schema unit items suppress k) _ refl

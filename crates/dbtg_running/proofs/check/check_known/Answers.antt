@@ -13,5 +13,5 @@ returns-clause-done g c =
       lists = lists;
       schema = c.requires.read;
       programs = read.0;
-      is_text = c.in_ok-push_program_lines.ensures ∙ ap (λ ps. c.push_schema_line.new.out.items ++ program_lines 1 ps) (c.as_slice.ensures.value ∙ read.1) ∙ ap (λ (xs : List ℕ). xs ++ program_lines 1 (map (program lists) read.0.texts)) line;
+      is_text = c.in_ok-push_each_program_line.ensures ∙ ap (λ ps. c.push_schema_line.new.out.items ++ program_lines 1 ps) (c.as_slice.ensures.value ∙ read.1) ∙ ap (λ (xs : List ℕ). xs ++ program_lines 1 (map (program lists) read.0.texts)) line;
     }

@@ -2,7 +2,7 @@ use Rattle.std.proofs.Common.{length, ap, ◌∙◌}
 use Rattle.dbtg_schema.specs.declared.role.Role.TheVariants as role
 use Rattle.dbtg_schema.specs.Texts.SchemaLists.{item_from}
 use Rattle.dbtg_schema.specs.Inside.Views.{views}
-use Rattle.dbtg_schema.proofs.Known.Places.{length_mapped}
+use Rattle.dbtg_schema.proofs.Indexes.Places.{length_mapped}
 use Rattle.dbtg_schema.proofs.build.record_type.Goals as goal
 
 pub calc-requires : goal.calc-requires

@@ -1,5 +1,5 @@
 use Rattle.std.proofs.Common.{arith}
-use Rattle.dbtg_schema.proofs.Known.Connectings.{all_right}
+use Rattle.dbtg_schema.proofs.Indexes.Connectings.{all_right}
 use Rattle.dbtg_schema.proofs.connecting.sets_connecting.Goals as goal
 
 pub returns : goal.returns

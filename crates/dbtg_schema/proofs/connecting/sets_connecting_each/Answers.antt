@@ -1,6 +1,6 @@
 use Rattle.std.proofs.Common.{Bool, List, [], ◌∷◌, ◌∙◌, ap, sym, subst, length, length-append, arith}
 use Rattle.dbtg_schema.specs.Inside.Connecting.{AreConnecting, AreConnectingOfEach}
-use Rattle.dbtg_schema.proofs.Known.EachAt.{none_at, one_more_at}
+use Rattle.dbtg_schema.proofs.Indexes.EachAt.{none_at, one_more_at}
 use Rattle.dbtg_schema.proofs.connecting.sets_connecting_each.Goals as goal
 
 pub loop-t-init : goal.loop-t-init

@@ -1,6 +1,6 @@
 use Rattle.std.proofs.Common.{◌∙◌, ap, length, arith}
 use Rattle.dbtg_schema.specs.Inside.Erasing.{is_given}
-use Rattle.dbtg_schema.proofs.Known.Erasings.{given_is_touched, touched}
+use Rattle.dbtg_schema.proofs.Indexes.Erasings.{given_is_touched, touched}
 use Rattle.dbtg_schema.proofs.erasing.areas_reached.Goals as goal
 
 pub returns : goal.returns

@@ -3,7 +3,7 @@ use Rattle.std.specs.Cmp.{booleans_Decides}
 use Rattle.std.proofs.lemmas.Slice.Eq.{slice_eq-Decides}
 use Rattle.dbtg_schema.specs.Erasing.{marked}
 use Rattle.dbtg_schema.specs.Inside.Erasing.{is_given}
-use Rattle.dbtg_schema.proofs.Known.Erasings.{next_round, none_marked, off, all_rounds, given_is_next, settled}
+use Rattle.dbtg_schema.proofs.Indexes.Erasings.{next_round, none_marked, off, all_rounds, given_is_next, settled}
 use Rattle.dbtg_schema.proofs.erasing.reachable.Goals as goal
 
 pub loop-round-init : goal.loop-round-init

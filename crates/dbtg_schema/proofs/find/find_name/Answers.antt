@@ -1,6 +1,6 @@
 use Rattle.std.proofs.Common.{sym, ap, ◌∙◌}
 use Rattle.std.specs.Str.{bytes_eq}
-use Rattle.dbtg_schema.proofs.Known.Places.{here, further}
+use Rattle.dbtg_schema.proofs.Indexes.Places.{here, further}
 use Rattle.dbtg_schema.proofs.find.find_name.Goals as goal
 
 pub returns-then-eq : goal.returns-then-eq

@@ -1,7 +1,7 @@
 use Rattle.std.proofs.Common.{List, map, subst}
 use Rattle.dbtg_schema.specs.Inside.NameIndexes.{IsIndexOf}
 use Rattle.dbtg_schema.specs.declared.shape.Item.{Item}
-use Rattle.dbtg_schema.proofs.Known.NameIndexes.{one_type_more}
+use Rattle.dbtg_schema.proofs.Indexes.NameIndexes.{one_type_more}
 use Rattle.dbtg_schema.proofs.index.item_indexes.Goals as goal
 
 pub loop-rtype-preserved : goal.loop-rtype-preserved

@@ -8,7 +8,7 @@ use Rattle.dbtg_schema.specs.Texts.SchemaLists.{area_from, record_type_from, sch
 use Rattle.dbtg_schema.specs.Lists.{Lists}
 use Rattle.dbtg_schema.specs.WellFormed.{IsSchema}
 use Rattle.dbtg_schema.specs.Inside.Views.{views}
-use Rattle.dbtg_schema.proofs.Known.Places.{length_mapped}
+use Rattle.dbtg_schema.proofs.Indexes.Places.{length_mapped}
 use Rattle.dbtg_schema.proofs.Sound.Fit.{items_fit}
 use Rattle.dbtg_schema.proofs.schema.from_words.Goals as goal
 

@@ -7,7 +7,7 @@ use Rattle.dbtg_schema.specs.Inside.NameIndexes.{IsSchemaIndex}
 use Rattle.dbtg_schema.specs.declared.shape.Area.{Area}
 use Rattle.dbtg_schema.specs.declared.shape.RecordType.{RecordType}
 use Rattle.dbtg_schema.specs.declared.shape.SetType.{SetType}
-use Rattle.dbtg_schema.proofs.Known.EachAt.{none_at}
+use Rattle.dbtg_schema.proofs.Indexes.EachAt.{none_at}
 use Rattle.dbtg_schema.proofs.schema.of_lists.Goals as goal
 
 pub invariant_of-schema : goal.invariant_of-schema

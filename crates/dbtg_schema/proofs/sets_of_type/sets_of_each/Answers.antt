@@ -1,7 +1,7 @@
 use Rattle.std.proofs.Common.{◌∷◌, ◌∙◌, [], ap, sym, subst, length, length-append, arith, ℕ}
 use Rattle.dbtg_schema.specs.Inside.Lookups.{EachAt}
 use Rattle.dbtg_schema.specs.Inside.SetsOfTypes.{sets_alone, AreSetsOf}
-use Rattle.dbtg_schema.proofs.Known.EachAt.{none_at, one_more_at}
+use Rattle.dbtg_schema.proofs.Indexes.EachAt.{none_at, one_more_at}
 use Rattle.dbtg_schema.proofs.sets_of_type.sets_of_each.Goals as goal
 
 pub loop-t-init : goal.loop-t-init

@@ -6,7 +6,7 @@ use Rattle.dbtg_schema.specs.Inside.Connecting.{connects_in}
 use Rattle.dbtg_schema.specs.Lookups.{some_and}
 use Rattle.dbtg_schema.specs.Inside.SetsOfTypes.{sets_alone}
 use Rattle.dbtg_schema.specs.Structure.{is_automatic, owns}
-use Rattle.dbtg_schema.proofs.Known.SetsOfTypes.{one_more_tested}
+use Rattle.dbtg_schema.proofs.Indexes.SetsOfTypes.{one_more_tested}
 use Rattle.dbtg_schema.proofs.sets_of_type.sets_of_type.Goals as goal
 
 pub loop-s-preserved : goal.loop-s-preserved

@@ -47,7 +47,7 @@ loop-line-init c =
       same = rw c.new-words.ensures refl;
       reached = rw none refl;
       said = rw none refl;
-      known = c.none-known.ensures c.args.schema.now c.new-statements.result.items;
+      cache = c.none-cache.ensures c.args.schema.now c.new-statements.result.items;
       at_once = λ f wrong. (none, subst (λ (fs : List Fault). first fs ≡ Some f) (short_told c.args.schema.now c.args.text.now (omega arith)) wrong);
       in_range = omega arith;
     }
@@ -70,7 +70,7 @@ loop-line-preserved c =
           ∙ ap (λ (ls : List (List ℕ)). lines_verdict schema (length ss) number ls) (sym found) ∙ c.loop-line.invariant.reached;
       said = ap (λ (xs : List Statement). xs ++ statements_of schema after) taken ∙ one_more (line_statement schema (trimmed line)) ss (statements_of schema after)
           ∙ ap (λ (ls : List (List ℕ)). ss ++ statements_of schema ls) (sym found) ∙ c.loop-line.invariant.said;
-      known = rw same at c.in_default-take_line.ensures.known;
+      cache = rw same at c.in_default-take_line.ensures.cache;
       at_once = λ f wrong.
           let now = c.loop-line.invariant.at_once f wrong in
           let left = subst (λ (ls : List (List ℕ)). first (lines_faults_at_once schema number ls) ≡ Some f) found now.1 in

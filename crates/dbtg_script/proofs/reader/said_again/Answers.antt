@@ -1,5 +1,5 @@
 use Rattle.std.proofs.Common.{arith}
-use Rattle.dbtg_script.proofs.Reading.KnownLines.{at_index, says_again}
+use Rattle.dbtg_script.proofs.Reading.CachedLines.{at_index, says_again}
 use Rattle.dbtg_script.proofs.Reading.AtOnce.{known_may, on_err}
 use Rattle.dbtg_script.proofs.reader.said_again.Goals as goal
 

@@ -1,11 +1,11 @@
 use Rattle.std.proofs.Common.{◌∙◌, length, sym, true≢false}
 use Rattle.dbtg_script.proofs.Reading.AtOnce.{not_a_note, not_at_once, not_where_taken}
-use Rattle.dbtg_script.proofs.Reading.KnownLines.{still_known, said_behind}
+use Rattle.dbtg_script.proofs.Reading.CachedLines.{still_cached, said_behind}
 use Rattle.dbtg_script.proofs.reader.take_line.Goals as goal
 
-pub returns-in_ok-push-in-Some-clause-known : goal.returns-in_ok-push-in-Some-clause-known
-returns-in_ok-push-in-Some-clause-known c =
-    rw c.in_ok-push-in-Some.ensures.items (still_known c.args.words.now.schema c.args.statements.now.items c.in-Some.said c.args.known.now.places c.requires)
+pub returns-in_ok-push-in-Some-clause-cache : goal.returns-in_ok-push-in-Some-clause-cache
+returns-in_ok-push-in-Some-clause-cache c =
+    rw c.in_ok-push-in-Some.ensures.items (still_cached c.args.words.now.schema c.args.statements.now.items c.in-Some.said c.args.cache.now.places c.requires)
 
 pub returns-in_ok-push-in-Some-clause-accepted : goal.returns-in_ok-push-in-Some-clause-accepted
 returns-in_ok-push-in-Some-clause-accepted c =

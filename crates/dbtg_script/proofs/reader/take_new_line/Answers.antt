@@ -2,11 +2,11 @@ use Rattle.std.proofs.Common.{◌≡◌, ◌∷◌, ◌++◌, ◌∙◌, [], len
 use Rattle.dbtg_script.specs.Inside.LineCache.{Says}
 use Rattle.dbtg_script.specs.LineCache.{IsRead}
 use Rattle.dbtg_script.proofs.Reading.AtOnce.{not_a_note}
-use Rattle.dbtg_script.proofs.Reading.KnownLines.{new_read, still_known}
+use Rattle.dbtg_script.proofs.Reading.CachedLines.{new_read, still_cached}
 use Rattle.dbtg_script.proofs.reader.take_new_line.Goals as goal
 
-pub returns-in_ok-push-in-Ok-Some-clause-known : goal.returns-in_ok-push-in-Ok-Some-clause-known
-returns-in_ok-push-in-Ok-Some-clause-known c =
+pub returns-in_ok-push-in-Ok-Some-clause-cache : goal.returns-in_ok-push-in-Ok-Some-clause-cache
+returns-in_ok-push-in-Ok-Some-clause-cache c =
     let schema = c.args.words.now.schema in
     let ss = c.args.statements.now.items in
     let s = c.in-Ok-Some.statement in
@@ -16,7 +16,7 @@ returns-in_ok-push-in-Ok-Some-clause-known c =
     let says : Says schema (length ss) line s = record { faultless = faultless; said = sym c.in-Ok-Some.ensures.statement ∙ c.in-Ok-Some.field-0-is } in
     let at : length ss ≡ c.len-in-Ok-Some.result = omega arith in
     let read : IsRead schema (ss ++ s ∷ []) line c.len-in-Ok-Some.result = subst (λ (n : ℕ). IsRead schema (ss ++ s ∷ []) line n) at (new_read schema ss s line says) in
-    rw c.in_ok-push-in-Ok-Some.ensures.items (c.note.ensures schema (ss ++ s ∷ []) (still_known schema ss s c.args.known.now.places c.requires) read)
+    rw c.in_ok-push-in-Ok-Some.ensures.items (c.note.ensures schema (ss ++ s ∷ []) (still_cached schema ss s c.args.cache.now.places c.requires) read)
 
 pub returns-in-Err-clause-at_once : goal.returns-in-Err-clause-at_once
 returns-in-Err-clause-at_once c =

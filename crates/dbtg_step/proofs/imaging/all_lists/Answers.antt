@@ -7,4 +7,4 @@ pub loop-set-preserved : goal.loop-set-preserved
 loop-set-preserved c =
     let lists = lists_of c.args.schema.now c.args.capacity (found_in c.args.schema.now c.args.capacity c.args.source) in
     map_pushed lists 0 c.loop-set.set c.loop-set.set (omega arith) c.of.result c.loop-set.all.items c.push.new.self.items c.loop-set.invariant c.in_ok-push.ensures.items
-    (c.of.ensures ∙ c.in_ok-add_lists.ensures ∙ ap (λ xs. xs ++ lists c.new.result) c.new-lists.ensures.items ∙ ap lists c.new.ensures)
+    (c.of.ensures ∙ c.in_ok-add_each_list.ensures ∙ ap (λ xs. xs ++ lists c.new.result) c.new-lists.ensures.items ∙ ap lists c.new.ensures)

@@ -12,5 +12,5 @@ returns-in-Ok c =
     let schema = c.args.schema.now in
     let capacity = c.args.capacity in
     let scripts = c.args.scripts in
-    let all = subst (λ (m : Making). HasMadeAll m (in_turn_from 1 scripts) c.make_scripts.new.database) (c.in_ok-database.ensures ∙ ap (λ n. making schema capacity n []) c.len-units.ensures) c.in-Ok.ensures in
-    IfOk-weaker c.into_run.result _ _ (λ given run. serial_made schema capacity scripts c.make_scripts.new.database given all run) c.into_run.ensures
+    let all = subst (λ (m : Making). HasMadeAll m (in_turn_from 1 scripts) c.make_each_script.new.database) (c.in_ok-database.ensures ∙ ap (λ n. making schema capacity n []) c.len-units.ensures) c.in-Ok.ensures in
+    IfOk-weaker c.into_run.result _ _ (λ given run. serial_made schema capacity scripts c.make_each_script.new.database given all run) c.into_run.ensures

@@ -2,9 +2,9 @@ use Rattle.std.proofs.Common.{rules, ◌≡◌, ◌∷◌, ◌++◌, [], List, S
 use Rattle.dbtg_script.specs.Lines.{is_statement, trimmed}
 use Rattle.dbtg_script.specs.LineCache.{IsRead}
 use Rattle.dbtg_script.specs.Statements.{line_statement}
-use Rattle.dbtg_script.proofs.Public.{still_known}
+use Rattle.dbtg_script.proofs.Public.{still_cached}
 use Rattle.dbtg_trace.specs.Inside.Reading.{statements_in}
-use Rattle.dbtg_trace.proofs.KnownSteps.{read_alone, read_next}
+use Rattle.dbtg_trace.proofs.CachedSteps.{read_alone, read_next}
 use Rattle.dbtg_trace.proofs.EntrySteps.{at_once_of_line, part_refused, part_told}
 use Rattle.dbtg_trace.proofs.reader.read_new.Goals as goal
 
@@ -24,8 +24,8 @@ returns-in-Ok-Some-clause-at_once c = λ cause wrong.
     let k = at_once_of_line c.args.schema.now c.args.part.now cause one wrong in
     c.in-Ok-Some.ensures.at_once k.0 k.1
 
-pub returns-in-Ok-Some-clause-known : goal.returns-in-Ok-Some-clause-known
-returns-in-Ok-Some-clause-known c =
+pub returns-in-Ok-Some-clause-cache : goal.returns-in-Ok-Some-clause-cache
+returns-in-Ok-Some-clause-cache c =
     let schema = c.args.schema.now in
     let ts = c.args.so_far.now.entries.items in
     let s = c.in-Ok-Some.statement in
@@ -36,4 +36,4 @@ returns-in-Ok-Some-clause-known c =
     let ss = statements_in ts ++ s ∷ [] in
     let here = subst (λ (n : ℕ). IsRead schema ss line n) at read in
     let kept = subst (λ (l : List ℕ). IsRead schema ss l c.len.result) (sym c.trimmed-in-Ok-Some.ensures) here in
-    c.note.ensures schema ss (still_known schema (statements_in ts) s c.args.so_far.now.known.places c.requires) kept
+    c.note.ensures schema ss (still_cached schema (statements_in ts) s c.args.so_far.now.cache.places c.requires) kept

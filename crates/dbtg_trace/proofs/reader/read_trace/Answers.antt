@@ -49,7 +49,7 @@ loop-line-init c =
       fitting = λ sound. rw none refl;
       named = rw none refl;
       at_once = λ f wrong. (none, subst (λ (fs : List Fault). first fs ≡ Some f) (short_told c.args.schema.now c.args.units c.args.text.now (omega arith)) wrong);
-      kept = rw none (record { known = c.none.ensures c.args.schema.now []; said = c.none-2.ensures c.args.schema.now [] });
+      kept = rw none (record { cache = c.none.ensures c.args.schema.now []; said = c.none-2.ensures c.args.schema.now [] });
       in_range = omega arith;
     }
 

@@ -19,7 +19,7 @@ invariant-loop-line l = record {
   fitting : IsSound l.schema → list_all (λ t. fits l.schema t.statement) l.so_far.entries.items ≡ true;
   named : list_all (λ t. is_unit l.fn.units t.unit) l.so_far.entries.items ≡ true;
   at_once : (f : Fault) → first (faults_at_once l.schema l.fn.units l.fn.text) ≡ Some f → (l.so_far.entries.items ≡ []) × (first (lines_faults_at_once l.schema l.fn.units l.number (lines l.left.rest.now)) ≡ Some f);
-  kept : AreCached l.schema l.so_far.entries.items l.so_far.known.places l.so_far.answers.places;
+  kept : AreCached l.schema l.so_far.entries.items l.so_far.cache.places l.so_far.answers.places;
   in_range : l.number + length l.left.rest.now ≤ length l.fn.text + 1;
 }
 

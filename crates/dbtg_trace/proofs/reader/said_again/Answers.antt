@@ -4,7 +4,7 @@ use Rattle.dbtg_script.specs.LineCache.{IsRead}
 use Rattle.dbtg_script.proofs.Public.{at_index}
 use Rattle.dbtg_trace.specs.declared.traced.Traced.{Traced}
 use Rattle.dbtg_trace.specs.Inside.Reading.{statements_in}
-use Rattle.dbtg_trace.proofs.KnownSteps.{on_err, read_again}
+use Rattle.dbtg_trace.proofs.CachedSteps.{on_err, read_again}
 use Rattle.dbtg_trace.proofs.reader.said_again.Goals as goal
 
 pub returns-in_ok-copy-in-Some-get-clause-says : goal.returns-in_ok-copy-in-Some-get-clause-says

@@ -20,7 +20,7 @@ use Rattle.dbtg_unit.specs.Database.Statements.Conditions.{calc_taken, changed_i
 use Rattle.dbtg_unit.specs.Database.Statements.Found.{is_lost}
 use Rattle.dbtg_unit.specs.Database.State.Units.{kept_version}
 use Rattle.dbtg_unit.specs.Database.Statements.StoredFacts.{StoredFacts}
-use Rattle.dbtg_unit.proofs.Lists.Agreeing.{flat_map_agrees, map_agrees}
+use Rattle.dbtg_unit.proofs.Lists.Agreeing.{flat_map_agrees, map_agrees_on_list}
 use Rattle.dbtg_unit.proofs.Lists.Membership.{In}
 
 -- the same for a record
@@ -125,4 +125,4 @@ module _ (v w : StoredFacts) (unit : Unit) where
             ap (λ items. first_cause (rest v items)) same.items
             ∙ behind_check _ _ DuplicatesNotAllowed _ _
             (and_agrees (names_calc schema k.rtype changes) _ _ (λ named. calc_taken_agrees schema k.rtype (changed_items changes (w.items k)) (Some k) (calc named there)))
-            (λ free. ap first_cause (map_agrees _ _ sets (λ s i. λ j. (refuses_equal (order_of schema s) && taken_agrees (changed_items changes (w.items k)) s i j, DuplicatesNotAllowed))))
+            (λ free. ap first_cause (map_agrees_on_list _ _ sets (λ s i. λ j. (refuses_equal (order_of schema s) && taken_agrees (changed_items changes (w.items k)) s i j, DuplicatesNotAllowed))))

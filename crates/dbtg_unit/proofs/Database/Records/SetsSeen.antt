@@ -14,7 +14,7 @@ use Rattle.dbtg_cells.specs.declared.key.Owner.TheVariants.{Rec}
 use Rattle.dbtg_unit.specs.declared.statement.Suppress.{Suppress}
 use Rattle.dbtg_unit.specs.declared.unit.Place.{Place}
 use Rattle.dbtg_unit.specs.Database.State.Units.{suppresses, seen_place}
-use Rattle.dbtg_unit.specs.Inside.Seen.{seen_as_owner, seen_in_list, seen_in_sets}
+use Rattle.dbtg_unit.specs.Inside.Seen.{seen_as_owner, seen_in_list, seen_in_each_set}
 use Rattle.dbtg_unit.proofs.Database.Records.OwnersFound.{set_within}
 use Rattle.dbtg_unit.proofs.Lists.Membership.{In, any_in, in_filter, in_range}
 use Rattle.dbtg_unit.proofs.Lists.Numbered.{made_twice, written, written_first, written_nowhere}
@@ -98,7 +98,7 @@ module _ (schema : Lists) (k : DbKey) where
 
   -- the sets in whose lists the record is, and then those that its type owns
   pub seen_both : (owners : List (Option Owner)) (suppress : Suppress) (places : List (Option Place))
-      → map (seen_as_owner schema k suppress) (enumerate_from 0 (map (seen_in_list k owners suppress) (enumerate_from 0 places))) ≡ seen_in_sets schema k owners suppress places
+      → map (seen_as_owner schema k suppress) (enumerate_from 0 (map (seen_in_list k owners suppress) (enumerate_from 0 places))) ≡ seen_in_each_set schema k owners suppress places
   seen_both owners suppress places =
       made_twice (seen_in_list k owners suppress) (seen_as_owner schema k suppress) 0 places
       ∙ (λ i. map (λ e. by (suppresses suppress e.0) (owns schema e.0 k.rtype) (at owners e.0) e.1 i) (enumerate_from 0 places))

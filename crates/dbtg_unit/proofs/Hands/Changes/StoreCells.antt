@@ -235,14 +235,14 @@ module _ (schema : Lists) (capacity : ℕ) (db : Database) (unit : Unit) (k : Db
   joining : ℕ → List CellEdit
   joining s = joining_edits schema unit s k (key_item schema s k.rtype items)
 
-  opening_edits : ℕ → List CellEdit
-  opening_edits s = record { name = Ring s (Some (k.rtype, k.number)); edit = OpenRing (Rec k) } ∷ []
+  edits_of_opening : ℕ → List CellEdit
+  edits_of_opening s = record { name = Ring s (Some (k.rtype, k.number)); edit = OpenRing (Rec k) } ∷ []
 
   joined_cells : CellName → CellValue → CellValue
   joined_cells c value = edited_at c (flat_map joining (automatic_sets schema k.rtype)) value
 
   opened_cells : CellName → CellValue → CellValue
-  opened_cells c value = edited_at c (flat_map opening_edits (filter (λ s. owns schema s k.rtype) (set_numbers schema))) value
+  opened_cells c value = edited_at c (flat_map edits_of_opening (filter (λ s. owns schema s k.rtype) (set_numbers schema))) value
 
   -- edits that are of rings alone miss every other cell
   joining_misses : (c : CellName) (s : ℕ) (value : CellValue) → ((p : Option (ℕ × ℕ)) → name_eq c (Ring s p) ≡ false) → edited_at c (joining s) value ≡ value
@@ -257,19 +257,19 @@ module _ (schema : Lists) (capacity : ℕ) (db : Database) (unit : Unit) (k : Db
       → edited_at c (store_edits schema unit k items) value
       ≡ edited_at c (slot_edit k (Fill k.generation items (first_owners schema unit k.rtype)) ∷ [])
       (opened_cells c (joined_cells c (cond (name_eq c (Extent k.rtype)) (edited (EnterNumber k.number (calc_items schema k.rtype items)) value) value)))
-  unfolding joined_cells opened_cells joining opening_edits
+  unfolding joined_cells opened_cells joining edits_of_opening
   edits_in_turn c value =
       let filled = slot_edit k (Fill k.generation items (first_owners schema unit k.rtype)) ∷ [] in
-      let own = flat_map opening_edits (filter (λ s. owns schema s k.rtype) (set_numbers schema)) in
+      let own = flat_map edits_of_opening (filter (λ s. owns schema s k.rtype) (set_numbers schema)) in
       let first = cond (name_eq c (Extent k.rtype)) (edited (EnterNumber k.number (calc_items schema k.rtype items)) value) value in
       edited_at_append c (flat_map joining (automatic_sets schema k.rtype)) (own ++ filled) first
       ∙ edited_at_append c own filled (edited_at c (flat_map joining (automatic_sets schema k.rtype)) first)
 
   -- no edit of a ring is of a cell of another kind
   rings_miss : (c : CellName) (value : CellValue) → ((s : ℕ) (p : Option (ℕ × ℕ)) → name_eq c (Ring s p) ≡ false) → opened_cells c (joined_cells c value) ≡ value
-  unfolding joined_cells opened_cells joining opening_edits
+  unfolding joined_cells opened_cells joining edits_of_opening
   rings_miss c value miss =
-      edits_miss c opening_edits (filter (λ s. owns schema s k.rtype) (set_numbers schema)) (joined_cells c value) (λ s v h. ap (λ b. cond b (edited (OpenRing (Rec k)) v) v) (miss s (Some (k.rtype, k.number))))
+      edits_miss c edits_of_opening (filter (λ s. owns schema s k.rtype) (set_numbers schema)) (joined_cells c value) (λ s v h. ap (λ b. cond b (edited (OpenRing (Rec k)) v) v) (miss s (Some (k.rtype, k.number))))
       ∙ edits_miss c joining (automatic_sets schema k.rtype) value (λ s v h. joining_misses c s v (miss s))
 
   -- the rings of other sets
@@ -277,9 +277,9 @@ module _ (schema : Lists) (capacity : ℕ) (db : Database) (unit : Unit) (k : Db
   joining_other s s' q value other = joining_misses (Ring s' q) s value (λ p. ap (λ b. b && place_eq q p) (ne_eqb s' s (λ h. other (sym h))))
 
   opened_elsewhere : (s : ℕ) (q : Option (ℕ × ℕ)) (value : CellValue) → place_eq q (Some (k.rtype, k.number)) ≡ false → opened_cells (Ring s q) value ≡ value
-  unfolding opened_cells opening_edits
+  unfolding opened_cells edits_of_opening
   opened_elsewhere s q value e =
-      edits_miss (Ring s q) opening_edits (filter (λ s'. owns schema s' k.rtype) (set_numbers schema)) value
+      edits_miss (Ring s q) edits_of_opening (filter (λ s'. owns schema s' k.rtype) (set_numbers schema)) value
       (λ s' v h. ap (λ b. cond b (edited (OpenRing (Rec k)) v) v) (ap (λ b. eqb s s' && b) e ∙ and_never (eqb s s')))
 
   joined_elsewhere : (s : ℕ) (q : Option (ℕ × ℕ)) (value : CellValue) → ((place : Place) → place_in schema unit s ≡ Some place → has_number s (automatic_sets schema k.rtype) ≡ true → place_eq q (place_of place.owner) ≡ false)
@@ -347,17 +347,17 @@ module _ (schema : Lists) (capacity : ℕ) (db : Database) (unit : Unit) (k : Db
       ap (λ l. RingValue (option_map (ring_of schema db s o) l)) (no_list s o (ap (λ b. owns schema s k.rtype && b) vacant ∙ and_never (owns schema s k.rtype)))
 
   opened_own : (s : ℕ) → opened_cells (Ring s (Some (k.rtype, k.number))) (RingValue None) ≡ RingValue (cond (owns schema s k.rtype) (Some (record { owner = Rec k; members = [] })) None)
-  unfolding opened_cells opening_edits
+  unfolding opened_cells edits_of_opening
   opened_own s =
       let name = Ring s (Some (k.rtype, k.number)) in
       elim (cases_Bool (owns schema s k.rtype)) [
         | inl e ↦
-            edits_hit name opening_edits (filter (λ s'. owns schema s' k.rtype) (set_numbers schema)) s (RingValue None) (pairwise_filter _ _ (set_numbers schema) (range_distinct 0 (length schema.sets))) (has_owned s e)
+            edits_hit name edits_of_opening (filter (λ s'. owns schema s' k.rtype) (set_numbers schema)) s (RingValue None) (pairwise_filter _ _ (set_numbers schema) (range_distinct 0 (length schema.sets))) (has_owned s e)
             (λ s' v other. ap (λ b. cond b (edited (OpenRing (Rec k)) v) v) (ap (λ b. b && place_eq (Some (k.rtype, k.number)) (Some (k.rtype, k.number))) (ne_eqb s s' (λ h. other (sym h)))))
             ∙ ap (λ b. cond b (edited (OpenRing (Rec k)) (RingValue None)) (RingValue None)) (and_from _ _ (eq-eqb s s refl) (place_eq_refl (Some (k.rtype, k.number))))
             ∙ ap (λ b. RingValue (cond b (Some (record { owner = Rec k; members = [] })) None)) (sym e)
         | inr e ↦
-            edits_miss name opening_edits (filter (λ s'. owns schema s' k.rtype) (set_numbers schema)) (RingValue None)
+            edits_miss name edits_of_opening (filter (λ s'. owns schema s' k.rtype) (set_numbers schema)) (RingValue None)
             (λ s' v h. ap (λ b. cond b (edited (OpenRing (Rec k)) v) v) (ap (λ b. b && place_eq (Some (k.rtype, k.number)) (Some (k.rtype, k.number)))
             (ne_eqb s s' (λ same. false≢true (sym e ∙ ap (λ x. owns schema x k.rtype) same ∙ has_number_passes (λ x. owns schema x k.rtype) s' (set_numbers schema) h)))))
             ∙ ap (λ b. RingValue (cond b (Some (record { owner = Rec k; members = [] })) None)) (sym e)

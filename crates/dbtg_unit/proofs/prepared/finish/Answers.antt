@@ -11,8 +11,8 @@ erase-requires c =
     can_make_front (erased_edits c.prepared.inside.erased) c.prepared.inside.cells c.args.held.now.cells
     (subst (λ (p : Plan). CanMake p.cells c.args.held.now.cells) (sym c.prepared.view_is) c.requires)
 
-pub edit_cells-requires : goal.edit_cells-requires
-edit_cells-requires c =
+pub edit_each_cell-requires : goal.edit_each_cell-requires
+edit_each_cell-requires c =
     can_make_rest (erased_edits c.prepared.inside.erased) c.prepared.inside.cells c.args.held.now.cells c.erase.new.held.cells
     (subst (λ (p : Plan). CanMake p.cells c.args.held.now.cells) (sym c.prepared.view_is) c.requires) c.erase.ensures.made
 
@@ -20,8 +20,8 @@ pub returns-clause-cells : goal.returns-clause-cells
 returns-clause-cells c =
     let all = erased_edits c.prepared.inside.erased ++ c.prepared.inside.cells in
     ap (λ (h : Hands). values_of h.cells) c.change_unit.ensures.held
-    ∙ made_values all c.args.held.now.cells c.edit_cells.new.held.cells
-    (made_append (erased_edits c.prepared.inside.erased) c.prepared.inside.cells c.args.held.now.cells c.erase.new.held.cells c.edit_cells.new.held.cells c.erase.ensures.made c.edit_cells.ensures.made)
+    ∙ made_values all c.args.held.now.cells c.edit_each_cell.new.held.cells
+    (made_append (erased_edits c.prepared.inside.erased) c.prepared.inside.cells c.args.held.now.cells c.erase.new.held.cells c.edit_each_cell.new.held.cells c.erase.ensures.made c.edit_each_cell.ensures.made)
     ∙ ap (λ (p : Plan). edited_values p.cells (values_of c.args.held.now.cells)) c.prepared.view_is
 
 pub returns-clause-made : goal.returns-clause-made

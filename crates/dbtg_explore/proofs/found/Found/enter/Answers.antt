@@ -1,4 +1,4 @@
-use Rattle.dbtg_explore.proofs.Entering.{is_entered, is_known}
+use Rattle.dbtg_explore.proofs.Entering.{is_entered, is_entered_before}
 use Rattle.dbtg_explore.proofs.found.Found.enter.Goals as goal
 
 pub returns-in_ok-push : goal.returns-in_ok-push
@@ -7,4 +7,4 @@ returns-in_ok-push c =
 
 pub returns-else-is_new : goal.returns-else-is_new
 returns-else-is_new c =
-    is_known (λ k. k.items) c.self.inside.keys.keys c.insert_full.new.self.keys c.args.key c.in_ok-place.is_new c.in_ok-place.ensures.added c.in_ok-place.ensures.keys c.self.inside.orders.items c.args.self.now c.self.view_is c.args.order c.if-is_new.false
+    is_entered_before (λ k. k.items) c.self.inside.keys.keys c.insert_full.new.self.keys c.args.key c.in_ok-place.is_new c.in_ok-place.ensures.added c.in_ok-place.ensures.keys c.self.inside.orders.items c.args.self.now c.self.view_is c.args.order c.if-is_new.false

@@ -4,7 +4,7 @@ use Rattle.std.specs.Option.{option_or}
 use Rattle.std.specs.Str.{bytes_eq}
 use Rattle.indexmap.proofs.CallerLemmas.{insert_entry-new}
 use Rattle.dbtg_schema.specs.Inside.NameIndexes.{leads_to}
-use Rattle.dbtg_schema.proofs.Known.NameIndexes.{lookup_more}
+use Rattle.dbtg_schema.proofs.Indexes.NameIndexes.{lookup_more}
 use Rattle.dbtg_schema.proofs.index.NameIndex.enter.Goals as goal
 use Rattle.dbtg_schema.proofs.Options.{none_is}
 

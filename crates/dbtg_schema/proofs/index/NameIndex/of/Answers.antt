@@ -2,7 +2,7 @@ use Rattle.std.proofs.Common.{ℕ, List, Some, None, cond, ap, ◌∙◌}
 use Rattle.std.specs.Option.{option_or}
 use Rattle.std.specs.Str.{bytes_eq}
 use Rattle.dbtg_schema.specs.Inside.NameIndexes.{leads_to}
-use Rattle.dbtg_schema.proofs.Known.NameIndexes.{entered_name}
+use Rattle.dbtg_schema.proofs.Indexes.NameIndexes.{entered_name}
 use Rattle.dbtg_schema.proofs.index.NameIndex.of.Goals as goal
 
 pub loop-i-preserved : goal.loop-i-preserved

@@ -1,7 +1,7 @@
 use Rattle.std.proofs.Common.{List, subst, sym}
 use Rattle.dbtg_schema.specs.Inside.NameIndexes.{AreItemIndexes}
 use Rattle.dbtg_schema.specs.declared.index.NameIndex.{NameIndex}
-use Rattle.dbtg_schema.proofs.Known.NameIndexes.{indexed}
+use Rattle.dbtg_schema.proofs.Indexes.NameIndexes.{indexed}
 use Rattle.dbtg_schema.proofs.index.SchemaIndex.of.Goals as goal
 
 pub returns : goal.returns

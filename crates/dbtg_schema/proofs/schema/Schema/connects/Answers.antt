@@ -1,5 +1,5 @@
 use Rattle.std.proofs.Common.{◌∙◌}
-use Rattle.dbtg_schema.proofs.Known.Connectings.{one_right}
+use Rattle.dbtg_schema.proofs.Indexes.Connectings.{one_right}
 use Rattle.dbtg_schema.proofs.schema.Schema.connects.Goals as goal
 
 pub returns-in-Some : goal.returns-in-Some

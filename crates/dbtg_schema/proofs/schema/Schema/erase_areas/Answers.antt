@@ -1,4 +1,4 @@
-use Rattle.dbtg_schema.proofs.Known.Erasings.{erase_known}
+use Rattle.dbtg_schema.proofs.Indexes.Erasings.{erase_known}
 use Rattle.dbtg_schema.proofs.schema.Schema.erase_areas.Goals as goal
 
 pub returns-in-Some-clause-known : goal.returns-in-Some-clause-known

@@ -1,7 +1,7 @@
 use Rattle.std.proofs.Common.{map, ap, ◌∙◌}
 use Rattle.dbtg_schema.specs.Lists.{Lists}
 use Rattle.dbtg_schema.specs.Structure.{place_of, item_list}
-use Rattle.dbtg_schema.proofs.Known.NameIndexes.{are_indexed, items_found}
+use Rattle.dbtg_schema.proofs.Indexes.NameIndexes.{are_indexed, items_found}
 use Rattle.dbtg_schema.proofs.schema.Schema.item.Goals as goal
 
 pub returns : goal.returns

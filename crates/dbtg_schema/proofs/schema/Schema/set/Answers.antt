@@ -1,7 +1,7 @@
 use Rattle.std.proofs.Common.{map, ap, ◌∙◌}
 use Rattle.dbtg_schema.specs.Lists.{Lists}
 use Rattle.dbtg_schema.specs.Structure.{place_of}
-use Rattle.dbtg_schema.proofs.Known.NameIndexes.{are_indexed}
+use Rattle.dbtg_schema.proofs.Indexes.NameIndexes.{are_indexed}
 use Rattle.dbtg_schema.proofs.schema.Schema.set.Goals as goal
 
 pub returns : goal.returns

@@ -2,7 +2,7 @@ use Rattle.std.proofs.Common.{◌∙◌, ℕ, [], ap, slice_get, subst}
 use Rattle.std.specs.Prelude.{IfNone, IfSome}
 use Rattle.dbtg_schema.specs.Lists.{Lists}
 use Rattle.dbtg_schema.specs.Inside.SetsOfTypes.{AreSetsOf}
-use Rattle.dbtg_schema.proofs.Known.SetsOfTypes.{found_are_sets_of, none_found_is_none}
+use Rattle.dbtg_schema.proofs.Indexes.SetsOfTypes.{found_are_sets_of, none_found_is_none}
 use Rattle.dbtg_schema.proofs.schema.Schema.sets_of.Goals as goal
 
 pub returns-clause-listed : goal.returns-clause-listed

@@ -1,4 +1,4 @@
-use Rattle.dbtg_script.proofs.Reading.KnownLines.{found}
+use Rattle.dbtg_script.proofs.Reading.CachedLines.{found}
 use Rattle.dbtg_script.proofs.line_cache.LineCache.find.Goals as goal
 
 pub returns-in-Some : goal.returns-in-Some

@@ -1,4 +1,4 @@
-use Rattle.dbtg_script.proofs.Reading.KnownLines.{known_with}
+use Rattle.dbtg_script.proofs.Reading.CachedLines.{known_with}
 use Rattle.dbtg_script.proofs.line_cache.LineCache.note.Goals as goal
 
 pub returns : goal.returns

@@ -35,8 +35,8 @@ returns-else-has_role-2 c =
     let h : is role.ItemName w ≡ false = sym c.has_role.ensures ∙ c.if-has_role.false in
     let both : (is role.TypeName w || is role.RecordName w) ≡ false = rw (← c.has_role-else-has_role.ensures, ← c.has_role-else-has_role-2.ensures) c.if-has_role-2.false in
     let p = or_parts (is role.TypeName w) (is role.RecordName w) both in
-    let known : IfSome c.self.inside.picture (λ p. p ≡ item_picture schema (type_in schema ws) (named role.ItemName ws)) =
+    let cache : IfSome c.self.inside.picture (λ p. p ≡ item_picture schema (type_in schema ws) (named role.ItemName ws)) =
     subst (λ (v : LineWords). IfSome c.self.inside.picture (λ p. p ≡ item_picture v.schema (type_in v.schema v.words) (named role.ItemName v.words))) c.self.view_is c.self.invariant.picture_is in
     let typed : IfSome c.self.inside.picture (λ p. p ≡ item_picture schema (type_in schema (ws ++ w ∷ [])) (named role.ItemName ws)) =
-    subst (λ (r : ℕ). IfSome c.self.inside.picture (λ p. p ≡ item_picture schema r (named role.ItemName ws))) (sym (ap (type_no schema) (type_kept ws w p.0 p.1))) known in
+    subst (λ (r : ℕ). IfSome c.self.inside.picture (λ p. p ≡ item_picture schema r (named role.ItemName ws))) (sym (ap (type_no schema) (type_kept ws w p.0 p.1))) cache in
     subst (λ (t : List ℕ). IfSome c.self.inside.picture (λ p. p ≡ item_picture schema (type_in schema (ws ++ w ∷ [])) t)) (sym (named_kept role.ItemName ws w h)) typed

@@ -31,6 +31,6 @@ returns-else-has_role-2 c =
     let schema = c.args.self.now.schema in
     let other : is role.TypeName w ≡ false = sym c.has_role.ensures ∙ c.if-has_role.false in
     let h : is role.RecordName w ≡ false = sym c.has_role-else-has_role.ensures ∙ c.if-has_role-2.false in
-    let known : IfSome c.self.inside.rtype (λ r. r ≡ type_named schema (type_text ws)) =
+    let cache : IfSome c.self.inside.rtype (λ r. r ≡ type_named schema (type_text ws)) =
     subst (λ (v : LineWords). IfSome c.self.inside.rtype (λ r. r ≡ type_named v.schema (type_text v.words))) c.self.view_is c.self.invariant.type_is in
-    subst (λ (t : List ℕ). IfSome c.self.inside.rtype (λ r. r ≡ type_named schema t)) (sym (type_kept ws w other h)) known
+    subst (λ (t : List ℕ). IfSome c.self.inside.rtype (λ r. r ≡ type_named schema t)) (sym (type_kept ws w other h)) cache

@@ -1,6 +1,0 @@
-use Rattle.std.proofs.Common.{◌≡◌, ◌++◌, drop}
-use Rattle.dbtg_draw.specs.Dot.{area_cells}
-use Rattle.dbtg_draw.proofs.dot.push_areas.Given as goal
-
-abbrev pub invariant-loop-i : goal.invariant-loop-i
-invariant-loop-i l = l.out.items ++ area_cells l.i (drop l.i l.areas) ≡ l.initial.out.items ++ area_cells 0 l.areas

@@ -1,6 +1,0 @@
-use Rattle.std.proofs.Common.{◌≡◌, ◌++◌, ◌+◌, drop}
-use Rattle.dbtg_timeline.specs.Text.{lanes_text}
-use Rattle.dbtg_timeline.proofs.text.push_lanes.Given as goal
-
-abbrev pub invariant-loop-midway : goal.invariant-loop-midway
-invariant-loop-midway l = record { text : l.out.items ++ lanes_text l.unit l.n (drop l.midway-index l.lanes) ≡ l.initial.out.items ++ lanes_text l.unit 1 l.lanes; count : l.n ≡ 1 + l.midway-index }
