@@ -16,7 +16,7 @@ ghost use Rattle.dbtg_unit.specs.Database.Statements.Conditions.{joined_place};
 ghost use Rattle.dbtg_unit.specs.Hands.PlanOf.{joining_edit};
 ghost use Rattle.dbtg_plan.specs.Inside.Joining.{inserting_with};
 
-use crate::joining::{current_owner, joined_place, joining_edit, make_room, place_refusal};
+use crate::joining::{current_owner, joining_edit, make_room, place_refusal};
 use crate::members::{change_slot, slot_edit, sort_key_in};
 use crate::missing::{missing_ring, missing_slot};
 use crate::unit_alone;
@@ -78,7 +78,7 @@ fn edits_of(
 ) -> Result<Row<CellEdit>, AllocError>
     ensures { IfOk result (λ edits. edits ≡ joining_edit schema.now unit.now set key.now sort_key ∷ slot_edit key.now (Edit.ChangeOwner set (Some (joined_place schema.now unit.now set).owner)) ∷ slot_edit key.now Edit.RaiseVersion ∷ []) }
 {
-    let owner = Some(joined_place(schema, unit, set).owner);
+    let owner = Some(unit.joined_place(schema, set).owner);
     let mut edits = Vec::new(alloc);
     edits.push(joining_edit(schema, unit, set, key, sort_key))?;
     edits.push(slot_edit(key, Edit::ChangeOwner { set, owner }))?;
@@ -108,7 +108,7 @@ fn inserted(
         items: None,
     };
     let place = Place {
-        owner: joined_place(schema, unit, set).owner,
+        owner: unit.joined_place(schema, set).owner,
         at: Some(*key),
     };
     Ok(Prepared::new(
@@ -163,10 +163,10 @@ fn insert_record(
     ensures { seen result unit.new held.new ≡ made_by schema.now unit.old held.old (inserting_with schema.now unit.old set key.now sort_key version) }
 {
     let place = Place {
-        owner: joined_place(schema, unit, set).owner,
+        owner: unit.joined_place(schema, set).owner,
         at: Some(*key),
     };
-    let owner = Some(joined_place(schema, unit, set).owner);
+    let owner = Some(unit.joined_place(schema, set).owner);
     edit_held(held, joining_edit(schema, unit, set, key, sort_key));
     change_slot(held, key, Edit::ChangeOwner { set, owner });
     unit.renote(*key, version);

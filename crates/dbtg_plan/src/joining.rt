@@ -17,23 +17,8 @@ ghost use Rattle.dbtg_unit.specs.Hands.PlanOf.{joining_edit};
 
 use dbtg_cells::{CellName, DbKey, Owner, Ring, Value};
 use dbtg_schema::{Duplicates, Order, Schema, SetNo};
-use dbtg_unit::{Cause, CellEdit, Edit, Held, Place, Unit, occurrence, reserve_member, ring_name};
+use dbtg_unit::{Cause, CellEdit, Edit, Held, Unit, occurrence, reserve_member, ring_name};
 use std::alloc::AllocError;
-
-/// The current of a set; SYSTEM if there is none.
-pub(crate) fn joined_place(schema: &Schema, unit: &Unit, set: SetNo) -> Place
-    ensures { result ≡ joined_place schema.now unit.now set }
-{
-    match unit.place_in(schema, set) {
-        Some(place) => place,
-        None => {
-            Place {
-                owner: Owner::System,
-                at: None,
-            }
-        }
-    }
-}
 
 /// Is the position a key that is no longer in the list?
 pub(crate) fn is_position_lost(at: Option<DbKey>, ring: &Ring) -> bool
@@ -79,7 +64,7 @@ pub(crate) fn place_refusal(
 ) -> Option<Cause>
     ensures { result ≡ first_cause (place_checks schema.now (in_hand held.now) unit.now set sort_key.now) }
 {
-    let place = joined_place(schema, unit, set);
+    let place = unit.joined_place(schema, set);
     let order = schema.order_of(set);
     let Some(ring) = occurrence(held, set, &place.owner) else {
         return Some(Cause::Deleted);
@@ -103,7 +88,7 @@ pub(crate) fn joining_edit(
 ) -> CellEdit
     ensures { result ≡ joining_edit schema.now unit.now set key.now sort_key }
 {
-    let place = joined_place(schema, unit, set);
+    let place = unit.joined_place(schema, set);
     CellEdit {
         name: ring_name(set, &place.owner),
         edit: Edit::PlaceMember {
@@ -137,6 +122,6 @@ pub(crate) fn make_room(
     ensures others { KeepsOthers (CellName.Ring set (place_of (joined_place schema.now unit.now set).owner)) held.old.cells held.new.cells }
     ensures room { OnOk result (OfHeld (CellName.Ring set (place_of (joined_place schema.now unit.now set).owner)) held.new.cells (CanTakeMember key.now)) }
 {
-    let owner = joined_place(schema, unit, set).owner;
+    let owner = unit.joined_place(schema, set).owner;
     reserve_member(held, &ring_name(set, &owner), key)
 }

@@ -24,11 +24,11 @@ use crate::missing::{missing, missing_ring, missing_slot};
 use crate::unit_alone;
 use crate::unit_alone::done_answer;
 use dbtg_cells::{CellName, DbKey, Owner, Value, copy_items};
-use dbtg_schema::{Duplicates, Order, RecordNo, Row, Schema, SetNo};
+use dbtg_schema::{RecordNo, Row, Schema, SetNo};
 use dbtg_unit::{
     Answer, Cause, CellEdit, Change, Edit, Held, Prepared, Status, Unit, UnitEdit, edit_each_cell,
-    is_rekeyed_in, names_calc, next_version, occurrence, own_refusal, owner_in, refused, ring_name,
-    set_count, stored,
+    is_rekeyed_in, names_calc, next_version, occurrence, own_refusal, owner_in, refused,
+    refuses_equal, ring_name, set_count, stored,
 };
 use std::alloc::{AllocError, Global};
 
@@ -137,18 +137,6 @@ fn changed(
     match stored(held, key) {
         Some(stored) => copy_changed(alloc, &stored.items, changes),
         None => copy_changed(alloc, &Row::of(Vec::new(alloc)), changes),
-    }
-}
-
-fn refuses_equal(order: Order) -> bool
-    ensures { result ≡ refuses_equal order }
-{
-    match order {
-        Order::Sorted {
-            ascending: _,
-            duplicates: Duplicates::NotAllowed,
-        } => true,
-        _ => false,
     }
 }
 

@@ -22,7 +22,7 @@ use crate::finding::{
 };
 use crate::imaged::{live_in, owner_in, version_in};
 use crate::obstacle::Obstacle;
-use crate::placing::{Items, in_store, joined_place, member_of, members_in};
+use crate::placing::{Items, in_store, member_of, members_in};
 use dbtg_cells::{DbKey, Owner};
 use dbtg_schema::{Schema, SetNo};
 use dbtg_unit::{Cause, Form, Image, Statement, Unit, set_count};
@@ -69,7 +69,7 @@ fn deleted_for(
 fn lost_in(schema: &Schema, unit: &Unit, set: SetNo) -> Option<Obstacle>
     ensures { result ≡ option_map (obstacle.Member set (joined_place schema.now unit.now set).owner) (joined_place schema.now unit.now set).at }
 {
-    let place = joined_place(schema, unit, set);
+    let place = unit.joined_place(schema, set);
     member_of(set, place.owner, place.at)
 }
 

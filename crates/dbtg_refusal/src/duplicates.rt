@@ -14,13 +14,12 @@ ghost use Rattle.dbtg_refusal.specs.Obstacles.{duplicate_for, in_modify, rekeyed
 use crate::finding::record_of;
 use crate::imaged::{items_in, owner_in};
 use crate::obstacle::Obstacle;
-use crate::placing::{
-    Items, at_place, in_store, is_other, joined_place, member_of, member_with, refuses_equal,
-    same_item,
-};
+use crate::placing::{Items, at_place, in_store, is_other, member_of, member_with, same_item};
 use dbtg_cells::{DbKey, Value};
 use dbtg_schema::{ItemNo, RecordNo, Row, Schema, SetNo};
-use dbtg_unit::{Cause, Change, Image, Statement, Unit, is_rekeyed_in, names_calc, set_count};
+use dbtg_unit::{
+    Cause, Change, Image, Statement, Unit, is_rekeyed_in, names_calc, refuses_equal, set_count,
+};
 use std::alloc::{AllocError, Global};
 
 // Do two records have the same values of these items?
@@ -266,7 +265,7 @@ fn in_inserting(schema: &Schema, image: &Image, unit: &Unit, set: SetNo) -> Opti
                 rtype: key.rtype,
                 values,
             };
-            let place = joined_place(schema, unit, set);
+            let place = unit.joined_place(schema, set);
             at_place(
                 schema,
                 image,

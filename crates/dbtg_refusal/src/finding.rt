@@ -3,14 +3,13 @@ ghost use Rattle.std.specs.Prelude.{◌≡◌, is_none, option_map};
 ghost use Rattle.std.specs.List.{find};
 ghost use Rattle.dbtg_schema.specs.Structure.{automatic_sets};
 ghost use Rattle.dbtg_unit.specs.Database.State.Units.{place_in};
-ghost use Rattle.dbtg_unit.specs.Database.Statements.Conditions.{current_type, joined_place};
+ghost use Rattle.dbtg_unit.specs.Database.Statements.Conditions.{current_type};
 ghost use Rattle.dbtg_unit.specs.declared.statement.Statement.TheVariants.{Find};
 ghost use Rattle.dbtg_unit.specs.declared.statement.Suppress.{Suppress};
 ghost use Rattle.dbtg_refusal.specs.declared.obstacle.Obstacle.TheVariants as obstacle;
 ghost use Rattle.dbtg_refusal.specs.Obstacles.{class_of, current_for, searched, start_of, stored_type, unlisted, without_current};
 
 use crate::obstacle::Obstacle;
-use crate::placing::joined_place;
 use dbtg_cells::DbKey;
 use dbtg_schema::{RecordNo, Schema, SetNo};
 use dbtg_unit::{Form, Statement, Unit, entry_at};
@@ -106,7 +105,7 @@ pub(crate) fn current_occurrence(schema: &Schema, unit: &Unit, set: SetNo) -> Ob
 {
     Obstacle::Occurrence {
         set,
-        owner: joined_place(schema, unit, set).owner,
+        owner: unit.joined_place(schema, set).owner,
     }
 }
 

@@ -16,29 +16,14 @@ ghost use Rattle.dbtg_refusal.specs.Obstacles.{at_place, in_store, member_with, 
 use crate::imaged::{has_key, items_in, list_in};
 use crate::obstacle::Obstacle;
 use dbtg_cells::{DbKey, Owner, Value, value_eq};
-use dbtg_schema::{Duplicates, ItemNo, Order, RecordNo, Schema, SetNo};
-use dbtg_unit::{Cause, Image, Place, Unit};
+use dbtg_schema::{ItemNo, Order, RecordNo, Schema, SetNo};
+use dbtg_unit::{Cause, Image, Place, Unit, refuses_equal};
 
 /// The items of a record of a type, stored or not.
 #[derive(Clone, Copy)]
 pub(crate) struct Items<'a> {
     pub(crate) rtype: RecordNo,
     pub(crate) values: &'a [Value],
-}
-
-/// The current of a set; SYSTEM if there is none.
-pub(crate) fn joined_place(schema: &Schema, unit: &Unit, set: SetNo) -> Place
-    ensures { result ≡ joined_place schema.now unit.now set }
-{
-    match unit.place_in(schema, set) {
-        Some(place) => place,
-        None => {
-            Place {
-                owner: Owner::System,
-                at: None,
-            }
-        }
-    }
 }
 
 /// Is this not the key that is left out?
@@ -154,19 +139,6 @@ fn loses_position(order: Order, at: Option<DbKey>, members: &[DbKey]) -> bool
     }
 }
 
-/// Are sort keys unique in a set of this order?
-pub(crate) fn refuses_equal(order: Order) -> bool
-    ensures { result ≡ refuses_equal order }
-{
-    match order {
-        Order::Sorted {
-            ascending: _,
-            duplicates: Duplicates::NotAllowed,
-        } => true,
-        _ => false,
-    }
-}
-
 // Does a member have the sort key of these items, and does the order refuse equal ones?
 fn takes_twice(schema: &Schema, image: &Image, set: SetNo, owner: &Owner, items: &Items<'_>) -> bool
     ensures { result ≡ (refuses_equal (order_of schema.now set) && is_some (member_with schema.now (imaged schema.now image.now) set owner.now None (key_item schema.now set items.now.rtype items.now.values.now))) }
@@ -185,7 +157,7 @@ fn place_refusal(
 ) -> Option<Cause>
     ensures { result ≡ first_cause (place_checks schema.now (imaged schema.now image.now) unit.now set (key_item schema.now set items.now.rtype items.now.values.now)) }
 {
-    let place = joined_place(schema, unit, set);
+    let place = unit.joined_place(schema, set);
     let Some(members) = list_in(image, set, &place.owner) else {
         return Some(Cause::Deleted);
     };
@@ -256,7 +228,7 @@ pub(crate) fn in_store(
 {
     match refusing_set(schema, image, unit, items) {
         Some(set) => {
-            let place = joined_place(schema, unit, set);
+            let place = unit.joined_place(schema, set);
             at_place(schema, image, set, place, items, cause)
         }
         None => None,

@@ -1,11 +1,12 @@
-//! Where a run-unit is in a set, and which record that is.
+//! Where a run-unit is in a set, which record that is, and at which place a record joins the set.
 ghost use Rattle.std.specs.Prelude.{◌≡◌, option_and_then};
 ghost use Rattle.dbtg_unit.specs.Database.State.Units.{key_of_owner, key_of_place, place_in};
+ghost use Rattle.dbtg_unit.specs.Database.Statements.Conditions.{joined_place, refuses_equal};
 
 use crate::entries::entry_at;
 use crate::unit::{Place, Unit};
 use dbtg_cells::{DbKey, Owner};
-use dbtg_schema::{Schema, SetNo};
+use dbtg_schema::{Duplicates, Order, Schema, SetNo};
 
 fn key_of_owner(owner: Owner) -> Option<DbKey>
     ensures { result ≡ key_of_owner owner }
@@ -48,6 +49,21 @@ impl Unit {
         }
     }
 
+    /// The place at which a record joins a set: the current of the set; SYSTEM if there is none.
+    pub fn joined_place(&self, schema: &Schema, set: SetNo) -> Place
+        ensures { result ≡ joined_place schema.now self.now set }
+    {
+        match self.place_in(schema, set) {
+            Some(place) => place,
+            None => {
+                Place {
+                    owner: Owner::System,
+                    at: None,
+                }
+            }
+        }
+    }
+
     /// The record at which the unit is in a set.
     pub fn key_in(&self, schema: &Schema, set: SetNo) -> Option<DbKey>
         ensures { result ≡ option_and_then key_of_place (place_in schema.now self.now set) }
@@ -56,5 +72,18 @@ impl Unit {
             Some(place) => place.key(),
             None => None,
         }
+    }
+}
+
+/// Are sort keys unique in a set of this order?
+pub fn refuses_equal(order: Order) -> bool
+    ensures { result ≡ refuses_equal order }
+{
+    match order {
+        Order::Sorted {
+            ascending: _,
+            duplicates: Duplicates::NotAllowed,
+        } => true,
+        _ => false,
     }
 }
