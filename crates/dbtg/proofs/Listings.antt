@@ -1,5 +1,5 @@
--- What `outcomes` prints, of a wish too: statuses have four digits, the texts of results stand one after another, and what was read is
--- told as the texts say.
+-- What `outcomes` prints, also for a wish: statuses have four digits, the texts of results follow one another, and what was read is
+-- reported as the texts say.
 use Rattle.std.proofs.Common.{◌≡◌, ℕ, Bool, true, ◌+◌, ◌-◌, ◌<◌, ◌≤◌, ◌⊎◌, inl, inr, suc, List, [], ◌∷◌, ◌++◌, take, drop, map, length, Option, Some, None, refl, sym, ap, ◌∙◌, subst, arith, get_or}
 use Rattle.std.specs.Prelude.{Contains, codes, nat_lt}
 use Rattle.std.proofs.lemmas.Bool.{and_from, lt-ltb}
@@ -82,7 +82,7 @@ short_status : (x : Statement) (status : Status) → status_code x status < 1000
 short_status x Done = omega arith
 short_status x (Refused cause) = let front = statement_short x in let back = cause_short cause in omega arith
 
--- what a test holds of, of each that the list contains, it holds of all
+-- a test that holds for each element of the list holds for all of it
 all_of : {A : Type 0} (p : A → Bool) (xs : List A) → ((x : A) → Contains xs x → p x ≡ true) → list_all p xs ≡ true
 all_of p [] each = refl
 all_of p (x ∷ xs) each = and_from _ _ (each x (0, omega arith, refl)) (all_of p xs (λ y c. each y (suc c.0, (let low = c.1 in omega arith), c.2)))
@@ -94,7 +94,7 @@ all_short m all are = all_of are_short all.answered.items (λ a among. all_of (�
 
 -- TEXTS OF RESULTS
 
--- of another number that is the same, and behind the same results before
+-- the text is the same for an equal number, and after the same earlier results
 moved : (m : Meeting) (before others : Option (List Told)) (j k : ℕ) (one : OneResult) (text : List ℕ) → (is : IsResultText m before j one text) → before ≡ others → j ≡ k
     → (of : IsResultText m others k one text) × (of.given ≡ is.given)
 moved m before others j k one text is same number = (
@@ -127,9 +127,9 @@ one_more m before after k (o ∷ ones) one out text are is =
 texts_behind : (old a b c d : List ℕ) → old ++ a ++ b ++ c ++ d ≡ old ++ (a ++ b ++ c ++ d)
 texts_behind old a b c d = ap (λ x. x ++ c ++ d) (append_assoc old a b) ∙ ap (λ x. x ++ d) (append_assoc old (a ++ b) c) ∙ append_assoc old (a ++ b ++ c) d
 
--- of a result that is made by its turns
+-- a result that is made by its turns
 module _ (m : Meeting) (one : OneResult) (moves : List Move) (given : Run) (run : IsRunByTurns m.schema m.capacity m.scripts one.turns moves given) where
-  -- the text, where these numbers of turns and moves in front are left out
+  -- its text, if these numbers of turns and moves at the beginning are left out
   pub result_told : (showing after : Showing) (k : ℕ) (shown : List Move) (old new : List ℕ) → IsFront m showing.front → shown ≡ moves → length moves ≤ MOST_MOVES
       → new ≡ old ++ result_line k one ++ worded (codes "turns") (turns_text (drop showing.front.turns one.turns)) ++ worded (codes "moves") (moves_words_text (drop showing.front.moves shown)) ++ shown_text m showing.before given
       → after ≡ record { front = showing.front; before = and_told m showing.before given }
@@ -149,14 +149,14 @@ module _ (m : Meeting) (one : OneResult) (moves : List Move) (given : Run) (run 
         shown_is = after_is;
       }
 
-  -- where its moves are not given it is too long
+  -- if its moves are not given, it is too long
   pub long_told : (said : Option (List Move)) → AreGiven MOST_MOVES moves said → (told : Fault) → (told ≡ Memory) ⊎ ((told ≡ MovesOver) × (said ≡ None)) → (told ≡ Memory) ⊎ ((told ≡ MovesOver) × IsLong m one)
   long_told said are told (inl e) = inl e
   long_told said are told (inr h) = inr (h.0, record { moves = moves; stand = (given, run); many = subst (AreGiven MOST_MOVES moves) h.1 are })
 
--- the next of the results that can come out
+-- the next result
 module _ (m : Meeting) (all : Outcomes) (i : ℕ) (one : OneResult) (below : i < length all.results.items) (at : one ≡ get_or all.results.items i one) where
-  -- with its text the texts are those of one more
+  -- with its text, the texts are those of one more result
   pub one_more_taken : (before : Option (List Told)) (showing shown : Showing) (out new texts : List ℕ) (k : ℕ) → k ≡ i + 1 → out ≡ summary_text all ++ texts
       → AreResultTexts m before showing.before 1 (take i all.results.items) texts → IsShown m k one out new showing shown
       → (ts : List ℕ) × (new ≡ summary_text all ++ ts) × AreResultTexts m before shown.before 1 (take (i + 1) all.results.items) ts
@@ -173,7 +173,7 @@ module _ (m : Meeting) (all : Outcomes) (i : ℕ) (one : OneResult) (below : i <
             (one_more m before showing.before 1 (take i all.results.items) one texts is.text are of.0)),
       )
 
-  -- it may be too long
+  -- the result may be too long
   pub untold_of : (told : Fault) → (told ≡ Memory) ⊎ ((told ≡ MovesOver) × IsLong m one) → IsUntold m all told
   untold_of told (inl e) = inl e
   untold_of told (inr long) = inr (long.0, one, (i, below, sym at), long.1)

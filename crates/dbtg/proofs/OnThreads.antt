@@ -1,4 +1,4 @@
--- What the units of a new database make on threads, and where the last of them makes its script before the others.
+-- What the units of a new database make on threads, also if the last of them makes its script before the others.
 use Rattle.std.proofs.Common.{◌≡◌, ℕ, All, Bool, true, zero, suc, ◌+◌, ◌<◌, ◌≤◌, List, [], ◌∷◌, ◌++◌, length, map, refl, sym, ap, ◌∙◌, subst, inl, inr, ⊎_elim, arith, get_or, Some}
 use Rattle.std.specs.Prelude.{slice_get}
 use Rattle.std.specs.List.{list_all, range_with_len}
@@ -44,7 +44,7 @@ opened_at db count k d below =
 one_more : (k : ℕ) → 1 + k ≡ k + 1
 one_more k = omega arith
 
--- a unit that made its whole script made just its statements, and one that did not has a full journal
+-- a unit that made its whole script made exactly its statements, and one that did not has a full journal
 are_of : (script : List Statement) (number : ℕ) (db : Database) (after : UnitView) (history : List Entry)
     → Ran script (opened_unit db number) after → IsWhole script (opened_unit db number) after
     → entries_of number history ≡ after.journal → AreOf script (entries_of number history)
@@ -103,16 +103,16 @@ none_made : (made : List Entry) (left : List Statement) → [] ≡ map (λ (e : 
 none_made [] left e = refl
 none_made (m ∷ ms) left e = absurd (cc (e))
 
--- at a place before the last element, whatever that is
+-- the element at a place before the last one, whatever the last is
 in_front : {A : Type 0} (xs ys zs : List A) (y z d : A) (k : ℕ) → ys ≡ xs ++ y ∷ [] → zs ≡ xs ++ z ∷ [] → k < length xs → get_or ys k d ≡ get_or zs k d
 in_front xs ys zs y z d k ys_are zs_are below =
     ap (λ es. get_or es k d) ys_are ∙ get_or_append_left xs (y ∷ []) d k below ∙ sym (get_or_append_left xs (z ∷ []) d k below) ∙ sym (ap (λ es. get_or es k d) zs_are)
 
--- at the place of the last element
+-- the element at the last place
 at_end : {A : Type 0} (xs ys : List A) (y d : A) (k : ℕ) → ys ≡ xs ++ y ∷ [] → length xs ≡ k → get_or ys k d ≡ y
 at_end xs ys y d k ys_are long = ap (λ es. get_or es k d) ys_are ∙ get_or_push xs y d k long
 
--- what is so of all, with another last one of which it is so
+-- what holds of all elements still holds if the last is replaced by one of which it holds
 pub all_but_last : {A : Type 0} (P : A → Type 0) (front xs ys : List A) (x y : A) → xs ≡ front ++ x ∷ [] → ys ≡ front ++ y ∷ [] → All P xs → P y → All P ys
 all_but_last P front xs ys x y xs_are ys_are all last = subst (All P) (sym ys_are) (All-push P front y in_front_of last)
   where

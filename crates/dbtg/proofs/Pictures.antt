@@ -1,4 +1,4 @@
--- What was read is pictured as the texts say.
+-- The picture of what was read is the one of what the texts say.
 use Rattle.std.proofs.Common.{◌≡◌, ℕ, Bool, true, List, ◌++◌, map, ap, sym, ◌∙◌, subst}
 use Rattle.dbtg_schema.specs.Lists.{Lists}
 use Rattle.dbtg_unit.specs.declared.moves.Move.{Move}
@@ -35,7 +35,7 @@ picture_is_made holds lists count order first form capacity out right read scrip
   },
 )
 
--- the same for what was read: nothing that says the order, moves, or turns
+-- the same for what was read, with no order, moves, or turns
 module _ (holds : TextPlace → List ℕ → Type 0) (lists : Lists) (count capacity : ℕ) (first : Bool) (form : Form) (out : List ℕ) (right : is_count count ≡ true) (read : ReadSchema holds lists) (scripts : ReadScripts holds lists count)
     (statements : List (List Statement)) (same : statements ≡ map (script lists) scripts.texts) (texts : List (List ℕ)) (are : texts ≡ scripts.texts) where
   pictures_in : (order : Order (List ℕ)) → HoldsOrder holds order → AcceptsOrder order → IsPictured lists capacity statements texts form (AreInOrder first lists capacity statements order) out → TimelineHeld holds count (kind_of order) first capacity form out

@@ -1,4 +1,4 @@
--- The turns that are saved of a run on threads: `replay` by them prints the same.
+-- The turns that are saved after a run on threads: `replay` by them prints the same.
 use Rattle.std.proofs.Common.{◌≡◌, ℕ, zero, suc, ◌+◌, Bool, true, List, ◌++◌, length, map, None, Some, sym, ap, ◌∙◌, subst, arith}
 use Rattle.dbtg_schema.specs.Lists.{Lists}
 use Rattle.dbtg_unit.specs.declared.statement.Statement.{Statement}
@@ -48,7 +48,7 @@ saved_again first form text scripts capacity out turns right accepted printed_is
     let again = made_again_behind first form text scripts capacity printed_is.given printed_is.behind turns right accepted law printed_is.in_turn printed_is.are_turns in
     (again.0, λ printed r. printed_is.is_text ∙ ap (λ xs. xs ++ audit_line) (sym (again.1 printed r)))
 
--- what the statements that were read come to on threads is what the texts do
+-- what the statements that were read lead to on threads is what the texts do
 pub runs_on_threads : (holds : TextPlace → List ℕ → Type 0) (lists : Lists) (count : ℕ) (first : Bool) (form : AnswerForm) (capacity : ℕ) (out turns : List ℕ)
     → is_count count ≡ true → ReadSchema holds lists → (scripts : ReadScripts holds lists count)
     → IsPrintedOnThreads first form lists capacity (map (script lists) scripts.texts) scripts.texts out turns → ThreadsHeld holds count first form capacity out turns

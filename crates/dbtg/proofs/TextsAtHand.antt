@@ -1,4 +1,4 @@
--- What is printed of texts at hand is what a source that gives them has printed.
+-- What is printed of texts in memory is what is printed of a source that gives them.
 use Rattle.std.proofs.Common.{◌≡◌, ℕ, Bool, false, List, length, ◌∙◌, subst}
 use Rattle.dbtg_command.specs.declared.order.Order.{Order}
 use Rattle.dbtg_command.specs.declared.order.Order.TheVariants.{Serial}

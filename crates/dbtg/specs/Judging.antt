@@ -1,4 +1,4 @@
--- What `outcomes` prints of a wish for the status of a statement, and when there is a fault in place of that.
+-- What `outcomes` prints of a wish for the status of a statement, and the fault that may come instead.
 -- m is a meeting, w a wish; options are those of the command.
 use Rattle.std.specs.Prelude.{ℕ, ◌≡◌, ◌<◌, ◌++◌, ◌∷◌, ◌⊎◌, true, false, List, [], Some, None, codes, decimal, drop, length, map, if◌then◌else◌}
 use Rattle.dbtg_schema.specs.Lists.{Lists}
@@ -52,7 +52,7 @@ pub record IsJudgedOf (text : List ℕ) (scripts : List (List ℕ)) (options : L
 abbrev pub JudgedHeld : (TextPlace → List ℕ → Type 0) → ℕ → ListingOptions → Wish → Judged → Type 0
 JudgedHeld holds count options w judged = (texts : Texts holds count kind.Serial) × IsJudgedOf texts.schema texts.scripts options w judged
 
--- all texts are held and accepted, and the fault tells of too many states
+-- all texts are held and accepted, and the fault reports too many states
 pub record ToldOfStates (holds : TextPlace → List ℕ → Type 0) (fault : Fault) (count : ℕ) (options : ListingOptions) : Type 0 where
   pub lists : Lists
   pub right : is_count count ≡ true
@@ -60,6 +60,6 @@ pub record ToldOfStates (holds : TextPlace → List ℕ → Type 0) (fault : Fau
   pub scripts : ReadScripts holds lists count
   pub over : IsUnjudged (meeting_of lists (map (script lists) scripts.texts) options) options.limit fault
 
--- what is told in place of what comes of a wish: a fault of a run, or too many states
+-- what is reported instead of the result of a wish: a fault of a run, or too many states
 abbrev pub ToldOfJudging : (TextPlace → List ℕ → Type 0) → (TextPlace → Fault → Type 0) → Fault → ℕ → ListingOptions → Type 0
 ToldOfJudging holds fails fault count options = ToldOfRun holds fails fault count kind.Serial ⊎ ToldOfStates holds fault count options

@@ -1,7 +1,7 @@
 -- What `outcomes` prints: how many orders and results there are, each statement that has more than one status, and then, result by
 -- result, the first order that leads to it and what its moves print, or in brief how that differs from the first result.
--- text and scripts are bytes, lists the schema that a text says, m is a meeting, all is what can come out, one is a result and k its
--- number; before are the results before it, where results are shown in brief; options are those of the command.
+-- text and scripts are bytes, lists is the schema that a text says, m is a meeting, all is what can come out, one is a result and k its
+-- number; before are the earlier results, if results are shown in brief; options are those of the command.
 use Rattle.std.specs.Prelude.{ℕ, ◌≡◌, ◌<◌, ◌≤◌, ◌+◌, ◌++◌, ◌∷◌, ◌⊎◌, nat_lt, Bool, true, List, [], Option, Some, None, Contains, codes, decimal, drop, length, map, option_map, if◌then◌else◌}
 use Rattle.std.specs.List.{flat_map}
 use Rattle.dbtg_schema.specs.Lists.{Lists}
@@ -30,7 +30,7 @@ use Rattle.dbtg_command.specs.Refusals.{AcceptsTexts, is_count, schema_in}
 use Rattle.dbtg_replay.specs.Replaying.{given_text}
 use Rattle.dbtg_command.specs.Sources.{ReadSchema, ReadScripts, Texts, ToldOfRun}
 
--- a number of orders, in digits where 64 bits can count it
+-- a number of orders, in digits if 64 bits can count it
 abbrev pub orders_text : Option ℕ → List ℕ
 orders_text (Some n) = decimal n
 orders_text None = codes "over 18446744073709551615"
@@ -52,7 +52,7 @@ count_text all = codes "orders " ++ orders_text all.orders ++ codes ", results "
 abbrev pub summary_text : Outcomes → List ℕ
 summary_text all = count_text all ++ flat_map differing_text all.answered.items
 
--- a word before a line; if there is no line the word is one
+-- a word before a line; if there is no line, only the word
 abbrev pub worded : List ℕ → List ℕ → List ℕ
 worded word [] = word ++ 10 ∷ []
 worded word (c ∷ line) = word ++ 32 ∷ c ∷ line
@@ -61,12 +61,12 @@ worded word (c ∷ line) = word ++ 32 ∷ c ∷ line
 abbrev pub result_line : ℕ → OneResult → List ℕ
 result_line k one = codes "result " ++ decimal k ++ codes ", orders " ++ orders_text one.orders ++ 10 ∷ []
 
--- what is printed of the run of a result: all of it, or what is shown in brief behind others
+-- what is printed of the run of a result: all of it, or what is shown in brief after others
 abbrev pub shown_text : Meeting → Option (List Told) → Run → List ℕ
 shown_text m None given = given_text m.schema given
 shown_text m (Some before) given = shown_behind before (told_of m given) (given_text m.schema given)
 
--- behind those before stands this one too
+-- the results before, and then this one
 abbrev pub and_told : Meeting → Option (List Told) → Run → Option (List Told)
 and_told m before given = option_map (λ them. them ++ told_of m given ∷ []) before
 
@@ -86,7 +86,7 @@ pub record IsResultText (m : Meeting) (before : Option (List Told)) (k : ℕ) (o
   pub are_first : AreFirstMoves m.first m.schema m.capacity m.scripts front
   pub is_text : out ≡ result_text k one (drop (length (first_turns m.first m.scripts)) one.turns) (drop (length front) moves) (shown_text m before given)
 
--- the texts of results, one after another, the first of them number k; in brief behind those before, and after them all stand behind
+-- the texts of results, one after another, the first of them number k; in brief each after the earlier ones, and then all are earlier ones
 abbrev pub AreResultTexts : Meeting → Option (List Told) → Option (List Told) → ℕ → List OneResult → List ℕ → Type 0
 AreResultTexts m before after k [] out = (out ≡ []) × (after ≡ before)
 AreResultTexts m before after k (one ∷ rest) out =
@@ -149,7 +149,7 @@ pub record IsOutcomesText (text : List ℕ) (scripts : List (List ℕ)) (options
 abbrev pub OutcomesHeld : (TextPlace → List ℕ → Type 0) → ℕ → ListingOptions → List ℕ → Type 0
 OutcomesHeld holds count options out = (texts : Texts holds count kind.Serial) × IsOutcomesText texts.schema texts.scripts options out
 
--- all texts are held and accepted, and the fault tells of too many states or moves
+-- all texts are held and accepted, and the fault reports too many states or moves
 pub record ToldOfListing (holds : TextPlace → List ℕ → Type 0) (fault : Fault) (count : ℕ) (options : ListingOptions) : Type 0 where
   pub lists : Lists
   pub right : is_count count ≡ true
@@ -157,6 +157,6 @@ pub record ToldOfListing (holds : TextPlace → List ℕ → Type 0) (fault : Fa
   pub scripts : ReadScripts holds lists count
   pub over : IsOver (meeting_of lists (map (script lists) scripts.texts) options) options.limit fault
 
--- what `outcomes` tells: a fault of a run, or of its listing
+-- what `outcomes` reports: a fault of a run, or of its listing
 abbrev pub ToldOfOutcomes : (TextPlace → List ℕ → Type 0) → (TextPlace → Fault → Type 0) → Fault → ℕ → ListingOptions → Type 0
 ToldOfOutcomes holds fails fault count options = ToldOfRun holds fails fault count kind.Serial ⊎ ToldOfListing holds fault count options

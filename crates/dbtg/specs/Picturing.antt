@@ -1,6 +1,6 @@
 -- What `timeline` and `page` print: the picture of the events that moves make, or the page of their run. Without moves or turns these
 -- are the moves of the serial run.
--- text, scripts and order are bytes, lists the schema that a text says.
+-- text, scripts and order are bytes, lists is the schema that a text says.
 use Rattle.std.specs.Prelude.{ℕ, ◌≡◌, Bool, true, false, List, ◌++◌, length, map}
 use Rattle.dbtg_schema.specs.Lists.{Lists}
 use Rattle.dbtg_unit.specs.declared.moves.Move.{Move}
@@ -25,7 +25,7 @@ use Rattle.dbtg_replay.specs.Ordering.{AreFirstMoves, StandFor, first_turns, ser
 use Rattle.dbtg_command.specs.Refusals.{AcceptsOrder, AcceptsTexts, is_count, moves_in, schema_in, turns_in}
 use Rattle.dbtg_command.specs.Sources.{Texts}
 
--- the events of the run; where it is explained, each ticket with what is said of its statement
+-- the events of the run; if it is explained, each ticket with what is said of its statement
 abbrev pub events_shown : Bool → Lists → ℕ → List (List Statement) → List Move → List Event
 events_shown false lists capacity scripts moves = events_of_run lists capacity scripts moves
 events_shown true lists capacity scripts moves = map (noted (said_of_run lists capacity scripts moves)) (events_of_run lists capacity scripts moves)
@@ -36,7 +36,7 @@ picture (Text explained) lists capacity scripts texts moves = timeline_text (map
 picture (Svg explained) lists capacity scripts texts moves = timeline_svg (map statement_lines texts) (events_shown explained lists capacity scripts moves)
 picture Page lists capacity scripts texts moves = page_text lists capacity scripts (map statement_lines texts) CAUSES.now moves
 
--- these moves say the order, or its turns stand for them; where one script is made first, its moves or turns stand before them
+-- these moves say the order, or its turns stand for them; if one script is made first, its moves or turns come before them
 abbrev pub AreInOrder : Bool → Lists → ℕ → List (List Statement) → Order (List ℕ) → List Move → Type 0
 AreInOrder first lists capacity scripts Serial moves = StandFor lists capacity scripts (first_turns first scripts ++ serial_turns 1 scripts) moves
 AreInOrder first lists capacity scripts (Moves text) moves = (before : List Move) × AreFirstMoves first lists capacity scripts before × (moves ≡ before ++ moves_in text)

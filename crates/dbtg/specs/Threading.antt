@@ -1,6 +1,6 @@
 -- What `threads` prints.
 -- lists is the schema that a text says; script k + 1 is that of the unit with number k + 1; first says whether the last of the scripts
--- is made before all others, form what stands in front of the image, and texts are those of the scripts.
+-- is made before all others, form is what comes before the image, and texts are those of the scripts.
 use Rattle.std.specs.Prelude.{ℕ, ◌≡◌, ◌≤◌, ◌⊎◌, ◌+◌, Bool, true, List, [], ◌++◌, length, map, None, Some, slice_get}
 use Rattle.dbtg_schema.specs.Lists.{Lists}
 use Rattle.dbtg_unit.specs.declared.limits.TheConstants.{MOST_STATEMENTS}
@@ -24,7 +24,7 @@ use Rattle.dbtg_replay.specs.declared.replay.AnswerForm.{AnswerForm}
 use Rattle.dbtg_replay.specs.Replaying.{IsShownReplay, shown_text}
 use Rattle.dbtg_running.specs.Threading.{audit_line}
 
--- the entries are those of the script's statements, in order: of all, or of as many as a journal has room for
+-- the entries are those of the script's statements, in order: of all of them, or of as many as a journal has room for
 pub record AreOf (script : List Statement) (entries : List Entry) : Type 0 where
   pub left : List Statement
   pub script_is : script ≡ map (λ (e : Entry). e.statement) entries ++ left
@@ -37,7 +37,7 @@ pub record IsHistoryOfAll (lists : Lists) (capacity : ℕ) (scripts : List (List
   pub own : (k : ℕ) (script : List Statement) → slice_get scripts k ≡ Some script → AreOf script (entries_of (k + 1) history)
 
 -- the text is what is shown of such a history, its image and its units, and the line of the audit. The units that made its entries
--- are in turn that of the script that is made first, as often as this has statements, and then those of the turns
+-- are in turn that of the script that is made first, once for each of its statements, and then those of the turns
 pub record IsPrintedOnThreads (first : Bool) (form : AnswerForm) (lists : Lists) (capacity : ℕ) (scripts : List (List Statement)) (texts : List (List ℕ)) (out turns : List ℕ) : Type 0 where
   pub given : Run
   pub is_history : IsHistoryOfAll lists capacity scripts given.history given.image given.units
@@ -47,7 +47,7 @@ pub record IsPrintedOnThreads (first : Bool) (form : AnswerForm) (lists : Lists)
   pub are_turns : turns ≡ turns_text behind
 
 -- 1 to 8 scripts, nothing is refused, and the text is what is printed of running on threads what the texts say. The turns are
--- accepted, and `replay` by them prints the same but for the last line
+-- accepted, and `replay` by them prints the same except for the last line
 pub record IsThreads (first : Bool) (form : AnswerForm) (text : List ℕ) (scripts : List (List ℕ)) (capacity : ℕ) (out turns : List ℕ) : Type 0 where
   pub count : is_count (length scripts) ≡ true
   pub texts : AcceptsTexts text scripts

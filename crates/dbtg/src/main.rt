@@ -147,7 +147,7 @@ fn answer_form(call: &Call) -> AnswerForm {
     }
 }
 
-// What a command prints that reads files, whatever gives their order.
+// What a command that reads files prints, whatever gives their order.
 fn printed(rt: &HostRuntime, files: &Files<HostRuntime>, call: &Call) -> Result<Vec<u8>, Fault> {
     let alloc = rt.alloc();
     match call.named {
@@ -231,8 +231,8 @@ fn begins_with_file(call: &Call) -> bool {
     runs && call.first && call.schema != "-" && call.scripts.last().is_some_and(|path| *path != "-")
 }
 
-// Which statements of the script that is made first were refused. Nothing is told where memory is wanting, and that is a fault; nor where
-// the files have become others since the run, and that is none.
+// Which statements of the script that is made first were refused. Nothing is printed if memory is wanting, which is a fault; nor if the
+// files have changed since the run, which is no fault.
 fn tell_refusals(rt: &HostRuntime, files: &Files<HostRuntime>, call: &Call) -> Result<(), Fault> {
     if !begins_with_file(call) {
         return Ok(());
@@ -264,7 +264,7 @@ fn print_threads<R: Threads + Wait + Sync>(rt: &HostRuntime, threads: &R, call: 
     }
 }
 
-// Writes turns into their file, if one is named; false if that fails, and it is told.
+// Writes turns into their file, if one is named; false if that fails, which is reported.
 fn are_saved(rt: &HostRuntime, turns: &[u8], saved: Option<&str>) -> bool {
     if let Some(path) = saved {
         if write_file(rt, path, turns).is_err() {

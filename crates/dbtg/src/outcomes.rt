@@ -117,7 +117,7 @@ fn push_summary(out: &mut Vec<u8>, all: &Outcomes) -> Result<(), AllocError>
     Ok(())
 }
 
-// A line of a word and a text that ends its line itself; no text ends it here.
+// A line of a word and a text. The text ends the line itself; if there is no text the line is ended here.
 pub fn push_line(out: &mut Vec<u8>, word: &[u8], text: &[u8]) -> Result<(), AllocError>
     ensures { OnOk result (out.new.items ≡ out.old.items ++ worded word.now text.now) }
 {
@@ -157,7 +157,7 @@ fn push_turned(
     Ok(())
 }
 
-// What is shown of the run of a result. In brief it then stands behind those before.
+// What is shown of the run of a result. In brief it is then appended to the earlier ones.
 fn push_run_shown(
     alloc: Global,
     out: &mut Vec<u8>,

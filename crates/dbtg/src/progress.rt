@@ -17,7 +17,7 @@ const MEMORY: &[u8] = b"VmRSS:";
 /// Back to the beginning of the line, which is cleared.
 const CLEAR: &str = "\r\x1b[K";
 
-/// When a search began, where it is told of, and in which second it was told of last.
+/// When a search began, if its progress is shown, and in which second it was last shown.
 #[derive(Drop)]
 pub struct Progress<'a> {
     rt: &'a HostRuntime,

@@ -35,7 +35,7 @@ pub struct OnThreads {
     pub turns: Vec<u8>,
 }
 
-// What a database came to, as what a run gives; nothing is said of moves.
+// The result of a database as that of a run, without results of moves.
 fn given_of(alloc: Global, settled: Settled) -> Run
     ensures history { result.history ≡ settled.history }
     ensures image { result.image ≡ settled.image }
@@ -75,7 +75,7 @@ fn audited_text(
     Ok(out)
 }
 
-// What a run has to say, if the first tickets were drawn in these turns.
+// The result of a run, if the first tickets were drawn in these turns.
 fn said_of(
     alloc: Global,
     schema: &Schema,
@@ -121,7 +121,7 @@ fn run_of<R: Threads + Wait + Sync>(
     }
 }
 
-// The last unit makes its script alone. What is left are the scripts of the others, and an empty one for it.
+// The last unit makes its script alone. The scripts of the others are left, and an empty one for it.
 fn make_first<R: Wait>(
     rt: &R,
     alloc: Global,
@@ -204,7 +204,7 @@ fn run_scripts<R: Threads + Wait + Sync>(
     Ok(given_of(alloc, settled))
 }
 
-// Runs scripts on threads, and gives the result. A script that is made first draws the first tickets, since no thread is started
+// Runs scripts on threads, and gives the result. A script that is made first draws the first tickets, because no thread is started
 // before its end. No contract of units says so: a run in which it did otherwise would be repeated.
 fn threads_text<R: Threads + Wait + Sync>(
     rt: &R,

@@ -1,4 +1,4 @@
--- Worked rows: what is said of answers; a trace with its first difference. What is expected was worked out by hand from the pages.
+-- Worked rows: what is said of answers; a trace with its first difference. The expected values were worked out by hand from the pages.
 use Rattle.std.proofs.Common.{◌≡◌, ℕ, true, false, List, [], ◌∷◌, ◌++◌, Some, None, refl}
 use Rattle.dbtg_cells.specs.declared.key.DbKey.{DbKey}
 use Rattle.dbtg_cells.specs.declared.key.Value.{Value}
@@ -53,7 +53,7 @@ its_status = refl
 another_status : is_so false (status 413) got ≡ false
 another_status = refl
 
--- the first two digits are the statement's
+-- the first two digits are those of the statement
 its_cause_of_another_statement : is_so false (status 605) refused ≡ false
 its_cause_of_another_statement = refl
 
@@ -66,7 +66,7 @@ its_key = refl
 another_key : is_so false (with_key 0 (customer_key 2)) got ≡ false
 another_key = refl
 
--- a refusal has no key, so none that is said is so
+-- a refusal has no key, so a key that is said does not hold
 key_of_a_refusal : is_so false (with_key 505 (customer_key 1)) refused ≡ false
 key_of_a_refusal = refl
 
@@ -76,7 +76,7 @@ its_items = refl
 other_items : is_so false (with_items 0 (customer_key 1) (Num 8 ∷ text "ADA     " ∷ [])) got ≡ false
 other_items = refl
 
--- with statuses only key and items are nothing
+-- with statuses only, key and items do not count
 other_items_by_status : is_so true (with_items 0 (customer_key 2) (Num 8 ∷ [])) got ≡ true
 other_items_by_status = refl
 
@@ -92,7 +92,7 @@ store_ada = store customers (Num 7 ∷ text "ADA     " ∷ [])
 abbrev line : ℕ → ℕ → Statement → Said → Traced
 line number unit statement said = record { line = number; unit = unit; statement = statement; said = said }
 
--- what unit 1 has stored, unit 2 stores again; the trace says that it is done, and that a GET after it is
+-- unit 2 stores again what unit 1 has stored; the trace says that this is done, and that a GET after it is
 abbrev before : List Traced
 before = line 1 1 (OpenArea main Update) (status 0) ∷ line 2 1 store_ada (with_key 0 (customer_key 1)) ∷ line 4 2 (OpenArea main Update) (status 0) ∷ []
 
@@ -128,7 +128,7 @@ line_5_is_told = record {
 
 -- THE SCRIPT THAT IS MADE FIRST
 
--- what was the trace's beginning, as a script that unit 3 makes first; unit 2 then stores again
+-- the beginning of the trace, as a script that unit 3 makes first; unit 2 then stores again
 abbrev loaded : Recorded
 loaded = record { units = 2; load = Some (OpenArea main Update ∷ store_ada ∷ []); traced = line 1 2 (OpenArea main Update) (status 0) ∷ line 2 2 store_ada (status 505) ∷ [] }
 
@@ -143,13 +143,13 @@ nothing_is_said_of_the_load = refl
 
 -- EVERY LINE
 
--- the one of two lines that differs is told
+-- of two lines, the one that differs is reported
 the_second_is_told : differences_text false card (line 4 1 (Get None) (with_key 0 (customer_key 1)) ∷ line 7 1 (Get None) (status 413) ∷ []) (got ∷ got ∷ []) ≡ difference_text card 7 (status 413) got ++ []
 the_second_is_told = refl
 
 both_are_told : differences_text true card (line 1 2 store_ada (status 0) ∷ line 2 2 store_ada (status 511) ∷ []) (refused ∷ refused ∷ []) ≡ difference_text card 1 (status 0) refused ++ (difference_text card 2 (status 511) refused ++ [])
 both_are_told = refl
 
--- with statuses only another key is not told
+-- with statuses only, a different key is not reported
 nothing_is_told : differences_text true card (line 4 1 (Get None) (with_key 0 (customer_key 2)) ∷ []) (got ∷ []) ≡ []
 nothing_is_told = refl

@@ -1,4 +1,4 @@
--- The steps of an audit: one statement more is made, and all is so or this is not; and what is found at the end.
+-- The steps of an audit: one more statement is made, and all that is said holds, or this does not; and the result at the end.
 use Rattle.std.proofs.Common.{ℕ, zero, suc, ◌+◌, ◌-◌, ◌≡◌, Bool, true, false, List, [], ◌∷◌, ◌++◌, length, drop, Option, Some, None, slice_get, refl, sym, ap, ◌∙◌, subst, arith, length-append, append_assoc, append-nil, ◌&&◌}
 use Rattle.std.specs.Prelude.{option_map}
 use Rattle.std.specs.List.{list_all}
@@ -25,16 +25,16 @@ use Rattle.dbtg_audit.specs.Auditing.{Answers, AreDifferences, IsEqual, IsFirstD
 use Rattle.dbtg_audit.specs.declared.auditing.Recorded.{Recorded}
 use Rattle.dbtg_audit.specs.Inside.Audits.{HasMadeOther, HasMadeSo, HasMadeThese, HasToldAll, IsLoaded}
 
--- ONE STATEMENT MORE
+-- ONE MORE STATEMENT
 
--- the newest of a list
+-- the newest element of a list
 newest : {X : Type 0} (xs all : List X) (x : X) → all ≡ xs ++ x ∷ [] → slice_get all (length all - 1) ≡ Some x
 newest xs all x e =
     let l = length-append xs (x ∷ []) in
     let back : length (xs ++ x ∷ []) - 1 ≡ length xs = omega (arith, l) in
     subst (λ ys. slice_get ys (length ys - 1) ≡ Some x) (sym e) (ap (slice_get (xs ++ x ∷ [])) back ∙ get_behind xs x [])
 
--- one more is so, or not
+-- what is said of one more statement holds, or does not
 and_assoc : (a b c : Bool) → (a && (b && c)) ≡ ((a && b) && c)
 and_assoc true b c = refl
 and_assoc false b c = refl
@@ -52,7 +52,7 @@ so_behind statuses (b ∷ before) (p ∷ made) here e h =
     let below : statements_of made ≡ asked before = cc (h) in
     ap (λ (so : Bool). is_so statuses b.said p && so) (so_behind statuses before made here e below) ∙ and_assoc (is_so statuses b.said p) (all_so statuses before made) (is_so statuses here.said e)
 
--- one more is told of, after what is told of the others
+-- one more line is reported, after what is reported of the others
 told_behind : (statuses : Bool) (schema : Lists) (before : List Traced) (made : List Entry) (here : Traced) (e : Entry) → statements_of made ≡ asked before
     → differences_text statuses schema (before ++ here ∷ []) (made ++ e ∷ []) ≡ differences_text statuses schema before made ++ told_text statuses schema here.line here.said e
 told_behind statuses schema [] [] here e h = append-nil (told_text statuses schema here.line here.said e)
@@ -83,14 +83,14 @@ module _ (old mid new : Making) (before : List Traced) (here : Traced) (so_far :
   newest_is : slice_get new.history (length new.history - 1) ≡ Some newer
   newest_is = newest mid.history new.history newer (ap (λ (m : Making). m.history) has.new_is)
 
--- before the first
+-- before the first statement
 abbrev pub nothing_made : (m : Making) → HasMadeThese m [] m
 nothing_made m = record { made = []; same = ap (λ (es : List Entry). record m { history = es }) (sym (append-nil m.history)); statements = refl }
 
 pub nothing_told : (statuses : Bool) (schema : Lists) (m : Making) (told : List ℕ) → HasToldAll statuses schema m [] m told told true
 nothing_told statuses schema m told = record { these = nothing_made m; told_is = sym (append-nil told); so_is = refl }
 
--- how many are left
+-- how many statements are left
 pub nothing_left : {X : Type 0} (xs : List X) → length xs ≡ 0 → xs ≡ []
 nothing_left [] h = refl
 nothing_left (x ∷ xs) h = absurd (omega arith)
@@ -98,7 +98,7 @@ nothing_left (x ∷ xs) h = absurd (omega arith)
 pub one_fewer : {X : Type 0} (n : ℕ) (xs ys : List X) (x : X) (m : ℕ) → xs ≡ x ∷ ys → m + 1 ≡ n → n ≡ length xs → m ≡ length ys
 one_fewer n xs ys x m e gone many = let shorter = ap length e in omega (arith, gone, many, shorter)
 
--- where nothing is left all is made
+-- if nothing is left, everything is made
 all_of : (before left traced : List Traced) → left ≡ [] → before ++ left ≡ traced → before ≡ traced
 all_of before left traced e split = sym (append-nil before) ∙ ap (λ (ts : List Traced). before ++ ts) (sym e) ∙ split
 
@@ -109,7 +109,7 @@ pub all_told : (statuses : Bool) (schema : Lists) (old new : Making) (first told
     → HasToldAll statuses schema old traced new first told so
 all_told statuses schema old new first told so before left traced e split h = subst (λ (ts : List Traced). HasToldAll statuses schema old ts new first told so) (all_of before left traced e split) h
 
--- what is left behind the first of those that were left
+-- what is left after the first of those that were left
 pub all_left : (p : Traced → Bool) (left behind : List Traced) (here : Traced) → left ≡ here ∷ behind → list_all p left ≡ true → list_all p behind ≡ true
 all_left p left behind here e h = (and_parts _ _ (sym (ap (list_all p) e) ∙ h)).1
 
@@ -120,7 +120,7 @@ module _ (statuses : Bool) (old mid new : Making) (before : List Traced) (here :
   test_is : test ≡ is_so statuses here.said (newer old mid new before here so_far.these has)
   test_is = tested _ (newest_is old mid new before here so_far.these has)
 
-  -- the first of those that are left is made, and what it says is not so
+  -- the first statement that is left is made, and what is said of it does not hold
   pub one_other : test ≡ false → (traced left behind : List Traced) → left ≡ here ∷ behind → before ++ left ≡ traced → HasMadeOther statuses old traced here.line here.said new
   one_other fails traced left behind e split =
       let more = one_more old mid new before here so_far.these has in
@@ -139,7 +139,7 @@ module _ (statuses : Bool) (old mid new : Making) (before : List Traced) (here :
         differs = sym test_is ∙ fails;
       }
 
-  -- or it is so
+  -- or it holds
   pub one_less : test ≡ true → (traced left behind : List Traced) → left ≡ here ∷ behind → before ++ left ≡ traced
       → list_all (λ (t : Traced). fits old.schema t.statement) left ≡ true → list_all (λ (t : Traced). is_unit old.units t.unit) left ≡ true
       → (n m : ℕ) → n ≡ length left → m + 1 ≡ n
@@ -157,7 +157,7 @@ module _ (statuses : Bool) (old mid new : Making) (before : List Traced) (here :
   )
 
 module _ (statuses : Bool) (schema : Lists) (old mid new : Making) (before : List Traced) (here : Traced) (first told more : List ℕ) (so test : Bool) (so_far : HasToldAll statuses schema old before mid first told so) (has : HasMade mid here.unit here.statement new) (tested : (e : Entry) → slice_get new.history (length new.history - 1) ≡ Some e → test ≡ is_so statuses here.said e) (tells : (e : Entry) → slice_get new.history (length new.history - 1) ≡ Some e → more ≡ told ++ told_text statuses schema here.line here.said e) where
-  -- one line more is told of, or there is nothing to tell of it
+  -- one more line is reported, or there is nothing to report of it
   pub one_told : HasToldAll statuses schema old (before ++ here ∷ []) new first more (so && test)
   one_told =
       let e = newer old mid new before here so_far.these has in
@@ -171,10 +171,10 @@ module _ (statuses : Bool) (schema : Lists) (old mid new : Making) (before : Lis
         so_is = ap (λ (b : Bool). b && test) so_far.so_is ∙ ap (λ (b : Bool). all_so statuses before so_far.these.made && b) (tested e is) ∙ sym (so_behind statuses before so_far.these.made here e so_far.these.statements);
       }
 
--- WHAT IS NOT SO OF ONE HISTORY IS SO OF NONE
+-- WHAT DOES NOT HOLD OF ONE HISTORY HOLDS OF NONE
 
 module _ (statuses : Bool) (schema : Lists) (capacity : ℕ) (here : Traced) (behind : List Traced) (entry : Entry) (differs : is_so statuses here.said entry ≡ false) where
-  -- the same statement is answered alike
+  -- the same statement gets the same answer
   same_answer : (state : State) (e : Entry) → ◌≡◌ {A = ℕ × Statement} (entry.unit, entry.statement) (e.unit, e.statement) → answer_to schema capacity state entry ≡ Some entry.answer → answer_to schema capacity state e ≡ Some e.answer → entry.answer ≡ e.answer
   same_answer state e p h g = same_Some entry.answer e.answer (sym h ∙ ap (λ (q : ℕ × Statement). option_map (λ (o : StatementEffect). o.answer) (effect_of_unit schema capacity state q.0 q.1)) p ∙ g)
 
@@ -206,7 +206,7 @@ false_if : (b : Bool) → (b ≡ true → ⊥) → b ≡ false
 false_if true n = absurd (n refl)
 false_if false n = refl
 
--- BEHIND THE SCRIPT THAT IS MADE FIRST
+-- AFTER THE SCRIPT THAT IS MADE FIRST
 
 drop_all : {X : Type 0} (xs ys : List X) (n : ℕ) → length xs ≡ n → drop n (xs ++ ys) ≡ ys
 drop_all [] ys zero h = refl
@@ -226,7 +226,7 @@ behind_loaded es made load h = drop_all es made (length load) (many_statements e
 statements_behind : (es made : List Entry) (load more : List (ℕ × Statement)) → statements_of es ≡ load → statements_of made ≡ more → statements_of (es ++ made) ≡ load ++ more
 statements_behind es made load more h g = map-append (λ (e : Entry). (e.unit, e.statement)) es made ∙ (λ i. h i ++ g i)
 
--- a number of units that is not less has all of them
+-- a number of units that is no less includes all of them
 pub units_of_trace : (units : ℕ) (load : Option (List Statement)) (traced : List Traced) → list_all (λ (t : Traced). is_unit units t.unit) traced ≡ true → list_all (λ (t : Traced). is_unit (units_with units load) t.unit) traced ≡ true
 units_of_trace units None traced h = h
 units_of_trace units (Some script) traced h = one_further traced h
@@ -238,7 +238,7 @@ units_of_trace units (Some script) traced h = one_further traced h
     one_further [] h = refl
     one_further (t ∷ ts) h = let parts = and_parts (is_unit units t.unit) _ h in and_from (is_unit (units + 1) t.unit) _ (still t.unit parts.0) (one_further ts parts.1)
 
--- two histories of the same first statements lead to the same
+-- two histories that begin with the same statements lead to the same
 module _ (schema : Lists) (capacity : ℕ) where
   record Together (xs ys : List (ℕ × Statement)) (made history : List Entry) : Type 0 where
     state : State
@@ -260,13 +260,13 @@ module _ (schema : Lists) (capacity : ℕ) where
       let t_behind : statements_of history ≡ load ++ ys = cc (t) in
       together (after_entry schema capacity state e) load xs ys made history (subst (λ (x : State). AnswersHold schema capacity x made) next h.1) g.1 s_behind t_behind
 
--- WHAT IS FOUND AT THE END
+-- THE RESULT AT THE END
 
 module _ (statuses : Bool) (old new : Making) (recorded : Recorded) (loaded : IsLoaded old.schema old.capacity recorded.units recorded.load old) where
   abbrev load : List (ℕ × Statement)
   load = loads recorded.units recorded.load
 
-  -- what is made after the first script, in the history as a whole
+  -- what is made after the first script, within the whole history
   behind_is : (made : List Entry) → behind_load recorded (old.history ++ made) ≡ made
   behind_is made = behind_loaded old.history made load loaded.statements
 
@@ -285,7 +285,7 @@ module _ (statuses : Bool) (old new : Making) (recorded : Recorded) (loaded : Is
   so_of : (traced : List Traced) (history made : List Entry) → history ≡ old.history ++ made → all_so statuses traced (behind_load recorded history) ≡ all_so statuses traced made
   so_of traced history made is = ap (λ (es : List Entry). all_so statuses traced (behind_load recorded es)) is ∙ ap (all_so statuses traced) (behind_is made)
 
-  -- something else is said of the last of these entries: what is said is so of no history
+  -- if something else is said of the last of these entries, what is said holds of no history
   module _ (traced before behind : List Traced) (here : Traced) (past : List Entry) (entry : Entry) (split : traced ≡ before ++ here ∷ behind) (statements : statements_of (past ++ entry ∷ []) ≡ asked (before ++ here ∷ [])) (differs : is_so statuses here.said entry ≡ false) (made_of : IsHistoryOf old.schema old.capacity old.units (old.history ++ (past ++ entry ∷ []))) where
     unequal_of : (history : List Entry) → Answers old.schema old.capacity recorded traced history → all_so statuses traced (behind_load recorded history) ≡ false
     unequal_of history a =
@@ -297,7 +297,7 @@ module _ (statuses : Bool) (old new : Making) (recorded : Recorded) (loaded : Is
         (subst (AnswersHold old.schema old.capacity both.state) (behind_is (past ++ entry ∷ [])) both.made_hold) both.history_hold statements both.history_are (subst (λ (ts : List Traced). all_so statuses ts (behind_load recorded history) ≡ true) split so))
 
   module _ (given : Run) (run : IsMadeRun new given) where
-    -- the run of the first making, with these entries after its own
+    -- the run of the first script, followed by these entries
     run_of : (made : List Entry) → new ≡ record old { history = old.history ++ made } → IsMadeRun (record old { history = old.history ++ made }) given
     run_of made same = subst (λ (m : Making). IsMadeRun m given) same run
 
@@ -349,7 +349,7 @@ module _ (statuses : Bool) (old new : Making) (recorded : Recorded) (loaded : Is
         let made = h.past ++ h.entry ∷ [] in
         unequal_of recorded.traced h.before h.behind h.here h.past h.entry h.traced_is h.statements h.differs (run_of made h.same).history_of
 
-  -- every line that differs is told
+  -- every line that differs is reported
   pub all_differ : (told : List ℕ) (so : Bool) → so ≡ false → IsHistoryOf new.schema new.capacity new.units new.history → HasToldAll statuses old.schema old recorded.traced new [] told so → AreDifferences statuses old.schema old.capacity recorded told
   all_differ told so fails of_new h =
       let made = h.these.made in

@@ -77,7 +77,7 @@ pub record IsEqual (statuses : Bool) (schema : Lists) (capacity : ℕ) (recorded
   pub leads : LeadsTo schema capacity (all_units recorded) given.history given.image given.units
   pub so : all_so statuses recorded.traced (behind_load recorded given.history) ≡ true
 
--- what is said of the statements before one holds, and of that one it does not: its answer is that of the last entry
+-- what is said of the statements before one holds, and what is said of that one does not: its answer is that of the last entry
 pub record IsFirstDifference (statuses : Bool) (schema : Lists) (capacity : ℕ) (recorded : Recorded) (found : Difference) : Type 0 where
   pub before : List Traced
   pub here : Traced

@@ -11,7 +11,7 @@ use Rattle.dbtg_audit.specs.declared.auditing.Audited.TheVariants.{Equal, Differ
 use Rattle.dbtg_audit.specs.declared.auditing.Recorded.{Recorded}
 use Rattle.dbtg_audit.specs.Auditing.{IsAudited}
 
--- what is read of the trace of a history, whose statements are spelled as these texts have them, a text for each unit
+-- what is read of the trace of a history, with its statements spelled as in these texts, one for each unit
 abbrev pub recorded_of : Lists → List (List ℕ) → List Entry → Recorded
 recorded_of schema texts history = record { units = length texts; load = None; traced = trace schema (length texts) (trace_text schema texts history) }
 
@@ -20,7 +20,7 @@ abbrev pub EndsIn : List Entry → Audited → Type 0
 EndsIn history (Equal given) = given.history ≡ history
 EndsIn history (Differs found) = ⊥
 
--- a trace of a history of the sequential database that is read back is equal, and leads to just this history
+-- the audit of a trace of a history of the sequential database that is read back is equal, and leads to just this history
 abbrev pub PrintedTraceIsEqual : Type 0
 PrintedTraceIsEqual =
     (schema : Lists) (capacity : ℕ) (texts : List (List ℕ)) (history : List Entry) → IsReadBack schema texts history → IsHistoryOf schema capacity (length texts) history

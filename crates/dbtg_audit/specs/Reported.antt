@@ -1,5 +1,5 @@
 -- What `audit` prints of a schema and a trace that a source gives, and which fault it reports.
--- lists is the schema that a text says; statuses says that they alone are compared. A second text beside the schema is a script that is
+-- lists is the schema that a text says; statuses says that only these are compared. A second text beside the schema is a script that is
 -- made first; count is how many texts there are beside the schema.
 use Rattle.std.specs.Prelude.{ℕ, ◌≡◌, ◌⊎◌, Bool, true, false, List, [], ◌∷◌, ◌++◌, Option, Some, None, codes, nat_le}
 use Rattle.dbtg_schema.specs.Lists.{Lists}

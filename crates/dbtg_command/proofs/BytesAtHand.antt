@@ -1,4 +1,4 @@
--- Bytes at hand as a source: the texts that it gives are those that are at hand.
+-- Bytes in memory as a source: the texts that it gives are just those bytes.
 use Rattle.std.proofs.Common.{◌≡◌, ℕ, ◌+◌, ◌-◌, List, [], ◌∷◌, ◌++◌, length, Some, None, inl, inr, ⊎_elim, refl, sym, ap, ◌∙◌, subst, arith}
 use Rattle.std.specs.Prelude.{slice_get}
 use Rattle.std.proofs.Math.Seq.{get_or-append_seam}
@@ -22,7 +22,7 @@ use Rattle.dbtg_command.specs.Inside.Sources.{StandsIn}
 use Rattle.dbtg_command.proofs.InTurn.{memory_refuses, refused_behind}
 use Rattle.dbtg_command.proofs.TextsRead.{all_accepted, held_behind}
 
--- the texts that are held from a number on are the next ones
+-- the texts that are held from a number on are the next ones in memory
 first_are : (schema : List ℕ) (order : Order (List ℕ)) (front rest texts : List (List ℕ)) → HoldsScripts (StandsIn schema (front ++ rest) order) (length front + 1) texts → (tail : List (List ℕ)) × (rest ≡ texts ++ tail)
 first_are schema order front rest [] held = (rest, refl)
 first_are schema order front [] (text ∷ texts) held =
@@ -63,7 +63,7 @@ at_hand_check schema scripts out held =
     subst (λ (s : List ℕ). IsCheck s scripts out) texts.holds_schema
     (subst (λ (ss : List (List ℕ)). IsCheck texts.schema ss out) (all_are schema by.Serial scripts texts.scripts texts.holds_scripts texts.many) held.1)
 
--- no text at hand is wanting, but for memory
+-- a text in memory can fail to be given only for want of memory
 abbrev pub OnlyMemory : TextPlace → Fault → Type 0
 OnlyMemory place fault = fault ≡ Memory
 

@@ -1,4 +1,4 @@
--- A call that is of what was matched is of the words in which that was matched.
+-- If a call follows from what was matched in some words, it is the call of these words.
 use Rattle.std.proofs.Common.{◌≡◌, ◌∙◌, List, ℕ, Result, Ok, Err, IfOk, sym, subst}
 use Rattle.clap.specs.Simple.{App, HasMatchesOf}
 use Rattle.clap.specs.declared.parser.matches.ArgMatches.{ArgMatches}

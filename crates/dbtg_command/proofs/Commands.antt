@@ -1,4 +1,4 @@
--- What `clap` is told of the program.
+-- What `clap` is given of the program.
 use Rattle.std.proofs.Common.{◌≡◌, ◌∙◌, ◌+◌, ◌++◌, ◌==◌, ◌||◌, ◌<◌, Bool, true, false, List, ℕ, [], ◌∷◌, refl, ap, sym, length, map, take, slice_index_or, arith}
 use Rattle.std.specs.Borrow.{Bor}
 use Rattle.std.proofs.lemmas.List.{length-append, map_more}
@@ -10,7 +10,7 @@ use Rattle.dbtg_command.specs.Commands.{program}
 use Rattle.dbtg_command.specs.Inside.Commands.{IsArg, alone, rule_for}
 use Rattle.dbtg_command.specs.declared.arguments.Word.{Word}
 
--- `clap` says what it matches of a program like this one
+-- the program is so simple that `clap` says what it matches
 pub program_is_simple : is_simple program ≡ true
 program_is_simple = refl
 
@@ -37,7 +37,7 @@ in_conflict old new rule id is adds =
       local = ap (λ (a : Arg). a.global) adds.0 ∙ is.local;
     }
 
--- a command with one word more
+-- a command with one more word
 pub word_behind : (name : List ℕ) (words : List Word) (i : ℕ) (d : Word) (old new : App) → i < length words → new ≡ with_rule old (rule_for (slice_index_or words i d)) → old ≡ alone name (map rule_for (take i words))
     → new ≡ alone name (map rule_for (take (i + 1) words))
 word_behind name words i d old new lt added before =

@@ -1,4 +1,4 @@
--- Scripts that are read one after another: what is true of those before and of those after is true of all.
+-- Scripts that are read one after another: what holds of the first ones and of the rest holds of all.
 use Rattle.std.proofs.Common.{◌≡◌, ℕ, suc, ◌+◌, List, [], ◌∷◌, ◌++◌, length, inl, inr, refl, sym, ap, ◌∙◌, subst, arith}
 use Rattle.std.proofs.lemmas.List.{append_assoc}
 use Rattle.dbtg_schema.specs.Lists.{Lists}

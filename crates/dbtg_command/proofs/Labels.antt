@@ -3,7 +3,7 @@ use Rattle.std.proofs.Common.{◌≡◌, ◌∙◌, ℕ, Bool, true, false, cond
 use Rattle.std.specs.Borrow.{Bor}
 use Rattle.std.proofs.lemmas.List.Sums.{take_while-cons}
 
--- a word that is no label
+-- a word that is not a label
 abbrev is_other : List ℕ → Bool
 is_other word = not (bytes_eq word (codes "NAME"))
 

@@ -1,4 +1,4 @@
--- Worked rows: the names that are offered in place of a word, and texts of another kind than is wanted.
+-- Worked rows: the names that are offered in place of a word, and texts of a kind other than the one wanted.
 use Rattle.std.proofs.Common.{◌≡◌, List, ℕ, [], ◌∷◌, ◌++◌, refl, replicate}
 use Rattle.std.specs.Prelude.{codes}
 use Rattle.dbtg_script.specs.Tokens.{into, onto, tokens}
@@ -43,7 +43,7 @@ declared = codes "SCHEMA" ∷ codes "NAME" ∷ codes "CARD" ∷ codes "." ∷ co
     ∷ codes "A" ∷ codes "WITHIN" ∷ codes "MAIN" ∷ codes "." ∷ codes "02" ∷ codes "N" ∷ codes "PIC" ∷ codes "9" ∷ codes "." ∷ codes "02" ∷ codes "T" ∷ codes "PIC" ∷ codes "X" ∷ codes "." ∷ codes "RECORD" ∷ codes "NAME"
     ∷ codes "B" ∷ codes "WITHIN" ∷ codes "SIDE" ∷ codes "." ∷ codes "02" ∷ codes "M" ∷ codes "PIC" ∷ codes "9" ∷ codes "." ∷ []
 
--- a set, with a member whose key is sought
+-- a set, with a member whose key is wanted
 abbrev a_member : List (List ℕ)
 a_member = codes "SET" ∷ codes "NAME" ∷ codes "S" ∷ codes "." ∷ codes "OWNER" ∷ codes "A" ∷ codes "." ∷ codes "MEMBER" ∷ codes "A" ∷ codes "KEY" ∷ []
 
@@ -59,14 +59,14 @@ sets = refl
 items : names_in 9 (codes "A") (declared ++ a_member) declared ≡ codes "N" ∷ codes "T" ∷ []
 items = refl
 
--- of a member's key the member's; of a CALC item those of the record type that is declared last
+-- after a member's KEY the record type is the member's; for a CALC item it is the one declared last
 for_a_key : type_wanted (declared ++ a_member) ≡ codes "A"
 for_a_key = refl
 
 for_an_item : type_wanted declared ≡ codes "B"
 for_an_item = refl
 
--- TEXTS OF ANOTHER KIND
+-- TEXTS OF A DIFFERENT KIND
 
 a_script : other_kind kind.Schema (codes "\n OPEN AREA MAIN") ≡ codes "; this is a script, and a schema is wanted"
 a_script = refl

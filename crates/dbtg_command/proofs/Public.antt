@@ -2,23 +2,23 @@
 
 -- BYTES AT HAND
 
--- scripts that are held in the places of those at hand, as many, are those at hand
+-- if as many scripts are held as there are in memory, in the places of these, they are the same scripts
 pub use Rattle.dbtg_command.proofs.BytesAtHand.{all_are}
--- no text at hand is wanting, but for memory
+-- a text in memory can fail to be given only for want of memory
 pub use Rattle.dbtg_command.proofs.BytesAtHand.{OnlyMemory}
--- an order that is held in the place of the one at hand, and of its kind, is the one at hand
+-- an order that is held in the place of the one in memory, and is of the same kind, is the same order
 pub use Rattle.dbtg_command.proofs.BytesAtHand.{order_is}
--- a fault that is told of texts at hand is their first
+-- a fault that is reported for texts in memory is their first
 pub use Rattle.dbtg_command.proofs.BytesAtHand.{run_told}
--- the same order, said by another thing, is of the same kind
+-- an order keeps its kind if something else says it
 pub use Rattle.dbtg_command.proofs.BytesAtHand.{same_kind}
 -- TEXTS THAT WERE READ
 
--- what was read is accepted, as the schema's text says it
+-- the texts that were read are accepted by the schema that was read
 pub use Rattle.dbtg_command.proofs.TextsRead.{all_accepted}
 -- a text that is held after others
 pub use Rattle.dbtg_command.proofs.TextsRead.{held_behind}
 -- the texts that were read, in this order
 pub use Rattle.dbtg_command.proofs.TextsRead.{read_texts}
--- the statements of the scripts that were read, with their texts, and of one more
+-- the statements of the scripts that were read, with their texts, and then of one more
 pub use Rattle.dbtg_command.proofs.TextsRead.{texts_behind}

@@ -1,4 +1,4 @@
--- The rows of a table are its lines: the first stands before the first line feed, the others after it.
+-- The rows of a table are its lines: the first is before the first line feed, the others after it.
 use Rattle.std.proofs.Common.{◌≡◌, ◌<◌, ◌≤◌, ℕ, Bool, true, false, eqb, List, [], ◌∷◌, length, refl, arith}
 use Rattle.dbtg_script.specs.Lines.{lines}
 use Rattle.dbtg_script.specs.Printing.Spelling.{in_front, behind}
@@ -8,7 +8,7 @@ unfolding lines
 no_row [] h = refl
 no_row (b ∷ bs) h = absurd (omega arith)
 
--- the row of a byte and what is behind it, where that has rows of its own
+-- one byte more in the first row, if the text begins with a row
 onto : (b : ℕ) (bs : List ℕ) → lines bs ≡ in_front 10 bs ∷ lines (behind 10 bs) → lines (b ∷ bs) ≡ in_front 10 (b ∷ bs) ∷ lines (behind 10 (b ∷ bs))
 unfolding lines
 onto b bs h = by (eqb b 10) refl
@@ -28,7 +28,7 @@ row_first (b ∷ []) some = by (eqb b 10) refl
     by false e = rw e refl
 row_first (b ∷ c ∷ cs) some = onto b (c ∷ cs) (row_first (c ∷ cs) (λ h. absurd (omega arith)))
 
--- what is behind a line feed is shorter
+-- what follows a line feed is shorter than the text, or as short
 behind_le : (text : List ℕ) → length (behind 10 text) ≤ length text
 behind_le [] = omega arith
 behind_le (b ∷ bs) = by (eqb b 10) refl (behind_le bs)

@@ -1,4 +1,4 @@
--- What is said of a word has the parts that the definitions say.
+-- What is said of a word has the parts that the definitions give it.
 use Rattle.std.proofs.Common.{◌≡◌, ◌∷◌, ℕ, List, [], refl}
 use Rattle.dbtg_schema.specs.Lists.{Lists}
 use Rattle.dbtg_command.specs.declared.explain.Kind.TheVariants.{Script}

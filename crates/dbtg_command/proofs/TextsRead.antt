@@ -1,4 +1,4 @@
--- Texts that are read one after another, and what is then true of all.
+-- Texts that are read one after another, and what then holds of all.
 use Rattle.std.proofs.Common.{◌≡◌, ℕ, suc, ◌+◌, ◌<◌, List, [], ◌∷◌, ◌++◌, length, map, None, refl, sym, ap, ◌∙◌, subst, arith}
 use Rattle.std.proofs.lemmas.List.{append-nil, append_assoc, length-append, map_push}
 use Rattle.dbtg_schema.specs.Lists.{Lists}
@@ -35,7 +35,7 @@ one_more holds lists n text read held accepted =
       accepted = accepted_behind lists read.texts (text ∷ []) read.accepted (accepted, tt);
     }
 
--- the lines of the scripts that were read, and of one more
+-- the lines of the scripts that were read, and then of one more
 pub line_behind : (holds : TextPlace → List ℕ → Type 0) (lists : Lists) (n : ℕ) (text start before after : List ℕ)
     → (read : ReadScripts holds lists n) × (before ≡ start ++ script_lines lists 1 read.texts) → holds (Script (n + 1)) text → script_refusal lists text ≡ None
     → after ≡ before ++ script_line (n + 1) (length (script lists text)) → (read : ReadScripts holds lists (n + 1)) × (after ≡ start ++ script_lines lists 1 read.texts)
@@ -53,7 +53,7 @@ line_behind holds lists n text start before after so_far held e line =
           ∙ ap (λ (xs : List ℕ). start ++ xs) (sym (lines_behind lists 1 texts (text ∷ []))),
     )
 
--- the statements of the scripts that were read, with their texts, and of one more
+-- the statements of the scripts that were read, with their texts, and then of one more
 pub texts_behind : (holds : TextPlace → List ℕ → Type 0) (lists : Lists) (n : ℕ) (text : List ℕ) (before after : List (List Statement)) (texts more : List (List ℕ))
     → (read : ReadScripts holds lists n) × (before ≡ map (script lists) read.texts) × (texts ≡ read.texts) → holds (Script (n + 1)) text → script_refusal lists text ≡ None
     → after ≡ before ++ script lists text ∷ [] → more ≡ texts ++ text ∷ [] → (read : ReadScripts holds lists (n + 1)) × (after ≡ map (script lists) read.texts) × (more ≡ read.texts)
@@ -69,7 +69,7 @@ pub told_here : (holds : TextPlace → List ℕ → Type 0) (fails : TextPlace �
     → ToldIn holds fails fault (Script (i + 1)) (RefusesScriptText fault (i + 1) lists) → ToldOfScripts holds fails fault lists count
 told_here holds fails fault lists i count read within told = record { before = i; read = read; within = within; told = told }
 
--- what was read is accepted, as the schema's text says it
+-- the texts that were read are accepted by the schema that was read
 pub all_accepted : (holds : TextPlace → List ℕ → Type 0) (lists : Lists) (count : ℕ) (read : ReadSchema holds lists) (scripts : ReadScripts holds lists count) → AcceptsTexts read.text scripts.texts
 all_accepted holds lists count read scripts = (read.accepted, subst (λ (s : Lists). AllAccepted s scripts.texts) read.says scripts.accepted)
 

@@ -1,4 +1,4 @@
--- Worked rows: what words ask the program for.
+-- Worked rows: what the words ask the program for.
 use Rattle.std.proofs.Common.{◌≡◌, ℕ, true, false, List, [], ◌∷◌, ◌++◌, Option, Some, None, refl}
 use Rattle.std.specs.Prelude.{codes, option_and_then, option_map}
 use Rattle.clap.proofs.OnLiterals.{clap_on_literals}
@@ -26,7 +26,7 @@ replay_is_asked : asked meeting ≡ Some (codes "replay")
 unfolding clap_on_literals
 replay_is_asked = refl
 
--- the first word that is no option is the schema, and those after it are scripts
+-- the first word that is not an option is the schema, and those after it are scripts
 schema_is_first : given meeting (codes "schema") ≡ Some (codes "a.schema" ∷ [])
 unfolding clap_on_literals
 schema_is_first = refl
@@ -51,7 +51,7 @@ nothing_is_explained : is_given meeting (codes "explain") ≡ Some (codes "false
 unfolding clap_on_literals
 nothing_is_explained = refl
 
--- where no capacity is given it is 100
+-- if no capacity is given it is 100
 capacity_is_100 : given meeting (codes "capacity") ≡ Some (codes "100" ∷ [])
 unfolding clap_on_literals
 capacity_is_100 = refl
@@ -60,7 +60,7 @@ capacity_is_7 : given (codes "shell" ∷ codes "--capacity=7" ∷ codes "a.schem
 unfolding clap_on_literals
 capacity_is_7 = refl
 
--- the trace follows the schema, and statuses alone are compared where that is asked
+-- the trace follows the schema, and only statuses are compared if that is asked
 trace_follows : given (codes "audit" ∷ codes "--status" ∷ codes "a.schema" ∷ codes "t" ∷ []) (codes "traced") ≡ Some (codes "t" ∷ [])
 unfolding clap_on_literals
 trace_follows = refl
@@ -78,17 +78,17 @@ run_is_not_traced : is_given (codes "run" ∷ codes "a.schema" ∷ codes "b" ∷
 unfolding clap_on_literals
 run_is_not_traced = refl
 
--- where no number of units is given there are 2
+-- if no number of units is given there are 2
 units_are_2 : given (codes "audit" ∷ codes "a.schema" ∷ codes "t" ∷ []) (codes "units") ≡ Some (codes "2" ∷ [])
 unfolding clap_on_literals
 units_are_2 = refl
 
--- the turns of the command turns stand before the schema
+-- in the command `turns`, the turns come before the schema
 turns_are_first : given (codes "turns" ∷ codes "t" ∷ codes "a.schema" ∷ codes "b" ∷ []) (codes "turns") ≡ Some (codes "t" ∷ [])
 unfolding clap_on_literals
 turns_are_first = refl
 
--- the two words after a wish are its own, and the schema comes after them
+-- the two words after a wish belong to it, and the schema comes after them
 never_has_two : given (codes "outcomes" ∷ codes "--never" ∷ codes "2.5" ∷ codes "0803" ∷ codes "a.schema" ∷ []) (codes "never") ≡ Some (codes "2.5" ∷ codes "0803" ∷ [])
 unfolding clap_on_literals
 never_has_two = refl

@@ -1,4 +1,4 @@
--- What `check` prints, and which faults it reports if it is to report those of each text.
+-- What `check` prints, and which faults it reports when it has to report those of each text.
 use Rattle.std.specs.Prelude.{ℕ, zero, suc, ◌≡◌, ◌+◌, Bool, true, false, List, [], ◌∷◌, ◌++◌, None, ◌⊎◌, length}
 use Rattle.dbtg_schema.specs.Lists.{Lists}
 use Rattle.dbtg_program.specs.Faults.{refusal as program_refusal}

@@ -34,7 +34,7 @@ all = flag (codes "all")
 abbrev pub wish_option : List ℕ → Rule
 wish_option name = record (new_rule name) { long = Some name; action = Some Set; value_names = 2; range = Some (record { start_inclusive = 2; end_inclusive = 2 }) }
 
--- it excludes the wish that a status never comes
+-- the option excludes the wish that a status never comes
 abbrev pub always : Rule
 always = record (wish_option (codes "always")) { is_free = false }
 
@@ -106,11 +106,11 @@ topic = words (codes "topic")
 abbrev pub trace : Rule
 trace = file_word (codes "traced")
 
--- a trace in place of the answers, of a command that has no echo
+-- a trace in place of the answers, for a command that has no echo
 abbrev pub trace_alone : Rule
 trace_alone = flag (codes "trace")
 
--- the same of one that has, which it excludes: it is not free
+-- the same for a command that has an echo, which the trace excludes: so it is not free
 abbrev pub trace_option : Rule
 trace_option = record trace_alone { is_free = false }
 

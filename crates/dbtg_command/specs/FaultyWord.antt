@@ -1,4 +1,4 @@
--- The word of a schema's text at which its fault is: the text is laid out with each word on a line of its own, so the line of
+-- The word of a schema's text that has the fault: the text is laid out with each word on a line of its own, so the line of
 -- its refusal says the word.
 use Rattle.std.specs.Prelude.{ℕ, zero, suc, ◌-◌, not, codes, find, length, unwrap_or, ◌==◌, ◌&&◌, ◌||◌, nat_le, Bool, List, [], ◌∷◌, ◌++◌, Option, Some, None, if◌then◌else◌}
 use Rattle.std.specs.List.{flat_map}

@@ -75,7 +75,7 @@ words_behind first (word ∷ more) = word_behind first word more ++ words_behind
 abbrev pub last_of : List (List ℕ) → List ℕ
 last_of words = unwrap_or (slice_get words (length words - 1)) []
 
--- the record type of which an item is wanted after these words: after KEY that of the last member, otherwise the last one declared
+-- the record type whose item is wanted after these words: after KEY that of the last member, otherwise the last one declared
 abbrev pub type_wanted : List (List ℕ) → List ℕ
 type_wanted front = last_of (if bytes_eq (last_of front) (codes "KEY") then words_behind (codes "MEMBER") front else names_of_entries (codes "RECORD") front)
 

@@ -64,7 +64,7 @@ SaysOfSchema has lacks path number said =
 abbrev pub has_script_fault : Lists → ℕ → List ℕ → Bool
 has_script_fault schema number line = some_and (λ cause. script_cause_number cause == number) (first (line_faults schema 0 (trimmed line)))
 
--- what is said of the word of a line of a text of this kind: for a program's line nothing, unless it has the fault as a line of a script too
+-- what is said of the word of a line in a text of this kind; in a program nothing, unless the line has the same fault in a script
 abbrev pub said_in_text : Kind → Lists → ℕ → List ℕ → List ℕ
 said_in_text kind.Program schema number line = if has_script_fault schema number line then said_of_word schema number line else []
 said_in_text kind.Schema schema number line = said_of_word schema number line
@@ -73,12 +73,12 @@ said_in_text kind.Moves schema number line = said_of_word schema number line
 said_in_text kind.Turns schema number line = said_of_word schema number line
 said_in_text kind.Trace schema number line = said_of_word schema number line
 
--- this is said of the word of a line, by the schema that is in the file with this path
+-- this is said of the word of a line, according to the schema in the file with this path
 abbrev pub SaysOfLine : (List ℕ → ℕ → List ℕ → Type 0) → (List ℕ → ℕ → Type 0) → Kind → List ℕ → ℕ → List ℕ → List ℕ → Type 0
 SaysOfLine has lacks which schema number line said =
     (IsNoSchema has lacks schema × (said ≡ [])) ⊎ ((text : List ℕ) × has schema 65537 text × (refusal text ≡ None) × (said ≡ said_in_text which (schema_in text) number line))
 
--- this is said of the word of a line of the script or program that is in the file with this path, by the schema in another file
+-- this is said of the word of a line of the script or program in the file with this path, according to the schema in another file
 abbrev pub SaysOfScript : (List ℕ → ℕ → List ℕ → Type 0) → (List ℕ → ℕ → Type 0) → Kind → List ℕ → List ℕ → ℕ → ℕ → List ℕ → Type 0
 SaysOfScript has lacks which schema path line number said =
     (IsScriptNotRead lacks schema path × (said ≡ []))
@@ -92,7 +92,7 @@ first_letters text = take_while is_ascii_alphabetic (drop (prefix_len is_ascii_w
 abbrev pub begins_statement : List ℕ → Bool
 begins_statement word = is_some (start_with fits (plain word) (starts statement))
 
--- what is said of a whole text of another kind than is wanted: it begins like a script in a schema's place, or like a schema in a script's
+-- what is said of a text as a whole if it is of another kind: a script in a schema's place, or a schema in a script's, as it begins
 abbrev pub other_kind : Kind → List ℕ → List ℕ
 other_kind kind.Schema text = if begins_statement (first_letters text) then codes "; this is a script, and a schema is wanted" else []
 other_kind kind.Script text = if bytes_eq (first_letters text) (codes "SCHEMA") then codes "; this is a schema, and a script is wanted" else []
@@ -131,7 +131,7 @@ no_unit line =
     else (if not (is_number (in_front 58 line)) then codes "no unit: other bytes than digits before the first colon"
     else codes "no unit: a unit that is not from 1 to the number of units")
 
--- what is said of a line of a trace with this fault: why it has no unit, and nothing of other faults
+-- what is said of a line of a trace with this fault: why it has no unit; nothing for other faults
 abbrev pub said_of_unit : ℕ → ℕ → List ℕ → List ℕ
 said_of_unit number line text = if number == 31 then no_unit (line_at line text) else []
 
@@ -198,6 +198,6 @@ HasNoReason (StatesOver limit) = Unit {0}
 HasNoReason ScriptCount = Unit {0}
 HasNoReason Memory = Unit {0}
 
--- the line has this, except for bytes that are not text
+-- the line is such a text, except for bytes that are not text
 abbrev pub IsReasonLine : (List ℕ → ℕ → List ℕ → Type 0) → (List ℕ → ℕ → Type 0) → List ℕ → List (List ℕ) → Order (List ℕ) → Fault → List ℕ → Type 0
 IsReasonLine has lacks schema scripts order fault line = (out : List ℕ) × IsReason has lacks schema scripts order fault out × (line ≡ utf8_lossy out)

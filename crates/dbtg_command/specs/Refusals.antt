@@ -114,7 +114,7 @@ SchemaMayTakeMemory text = (schema_refusal text ≡ None) ⊎ ((length text ≤ 
 abbrev pub ScriptMayTakeMemory : Lists → List ℕ → Type 0
 ScriptMayTakeMemory lists text = (script_refusal lists text ≡ None) ⊎ (first (script_faults_at_once lists text) ≡ None)
 
--- moves are accepted, or the first word has no other shape
+-- moves are accepted, or they do not begin with a word of another shape
 abbrev pub MovesMayTakeMemory : List ℕ → Type 0
 MovesMayTakeMemory text = (moves_refusal text ≡ None) ⊎ RefusedAtOnce spelled_move text ⊥
 

@@ -33,7 +33,7 @@ written (literal text) = 34 ∷ text ++ 34 ∷ []
 abbrev pub faulty_text : Lists → List ℕ → List ℕ
 faulty_text schema line = unwrap_or (option_map written (faulty_token schema (trimmed line))) []
 
--- a fault of the line as a whole or of the text is about no word, and that of a key's record type about what names it
+-- a fault of the line as a whole or of the text is about no word; that of a key's record type is about what names this type
 abbrev pub told_part : ℕ → List ℕ → List ℕ
 told_part number text = if number == 1 || number == 14 then [] else (if number == 5 then in_front 58 text else text)
 

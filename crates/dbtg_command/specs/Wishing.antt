@@ -16,7 +16,7 @@ abbrev pub wish_in : Bool → List ℕ → List ℕ → Option Wished
 wish_in never place status =
     option_and_then (λ u. option_and_then (λ i. option_map (λ s. record { never = never; unit = u; place = i; status = s }) (status_in status)) (count_in MOST_STATEMENTS (behind 46 place))) (count_in MOST_UNITS (in_front 46 place))
 
--- what the two words of an option say; nothing is wished where it has none
+-- the wish that the two words of an option say; none if the option has no words
 abbrev pub wish_for : Bool → List (List ℕ) → Option (Option Wished)
 wish_for never [] = Some None
 wish_for never (place ∷ []) = None

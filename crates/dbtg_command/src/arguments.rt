@@ -50,11 +50,11 @@ const WISH_WORDS: [&str; 2] = ["U.I", "STATUS"];
 pub const EXPLAIN_ECHO: &str =
     "Also says where a fault is and what is wrong [default: on a terminal]; with --echo also what is in the way of a refused statement";
 
-/// The same of a picture.
+/// The same for a picture.
 pub const EXPLAIN_PICTURE: &str =
     "Tells also where a fault is and what is wrong [default: on a terminal], and what is in the way of a refusal";
 
-/// What is said of a schema.
+/// Help for a schema.
 pub const SCHEMA: &str = "The file of the schema; - for standard input";
 
 /// Help for a script that is made first.

@@ -25,13 +25,13 @@ use std::alloc::{AllocError, Global};
 #[derive(Drop)]
 pub struct Call<'a> {
     pub named: Named,
-    /// The first fault of each file is told, or every line of a trace that differs.
+    /// The first fault of each file is reported, or every line of a trace that differs.
     pub all: bool,
     /// A fault has a second line.
     pub explains: bool,
     /// A fault has no second line.
     pub no_explain: bool,
-    /// Each answer has its statement in front.
+    /// Each answer has its statement before it.
     pub echo: bool,
     /// A trace is printed in place of the answers.
     pub trace: bool,

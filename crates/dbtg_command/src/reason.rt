@@ -48,7 +48,7 @@ fn begins_statement(word: &[u8]) -> bool
         || word == b"FREE".as_slice()
 }
 
-/// Says that a file has a text of another kind than is wanted there.
+/// Says that a file has a text of a kind other than is wanted there.
 fn other_kind(kind: Kind, text: &[u8]) -> &'static str
     ensures { result.now ≡ other_kind kind text.now }
 {
@@ -371,7 +371,7 @@ fn said_of_unit(text: &[u8], line: u64, number: u8) -> &'static str
     }
 }
 
-/// The same of the file that is read again; nothing if it is not.
+/// The same for the file, which is read again; nothing if it is not.
 fn said_in_trace<F: FileReader>(files: &Files<F>, path: &str, line: u64, number: u8) -> &'static str
     ensures { SaysOfTrace (F.has files.now.reader.now) (F.lacks files.now.reader.now) path.now line number result.now }
 {

@@ -1,4 +1,4 @@
--- What comes after a state depends on its essence alone.
+-- What comes after a state depends only on its essence.
 -- m is a meeting, u a unit, o and p are orders.
 use Rattle.std.proofs.Common.{◌≡◌, ℕ, zero, suc, ◌+◌, ◌-◌, Bool, true, false, ◌&&◌, List, [], ◌∷◌, ◌++◌, length, Option, Some, None, refl, ap, sym, ◌∙◌, slice_get, arith}
 use Rattle.std.specs.Prelude.{◌==◌, if◌then◌else◌, is_some, not, option_and_then, option_map, slice_set}
@@ -41,13 +41,13 @@ abbrev pub comes_then : Lists → Program → Answer → Due → Due
 comes_then schema program answer (due at s) = next schema program (told program at s answer)
 comes_then schema program answer (ended at how) = ended at how
 
--- the programs, where that of unit u goes on
+-- the programs, after that of unit u has gone on
 abbrev pub programs_then : Lists → List Due → ℕ → Answer → Option Program → Option Due → List Due
 programs_then schema dues u answer (Some program) (Some d) = with_unit_at dues u (comes_then schema program answer d)
 programs_then schema dues u answer (Some program) None = dues
 programs_then schema dues u answer None d = dues
 
--- the state where the statement of unit u has had this outcome
+-- the state after this outcome of the statement of unit u
 abbrev pub with_outcome : Meeting → MeetingState → ℕ → Option StatementEffect → MeetingState
 with_outcome m state u None = state
 with_outcome m state u (Some o) = record {
@@ -55,7 +55,7 @@ with_outcome m state u (Some o) = record {
   programs = programs_then m.schema state.programs u o.answer (unit_at m.programs u) (unit_at state.programs u);
 }
 
--- where it is made
+-- the state after the statement, if there is one
 abbrev pub with_made : Meeting → MeetingState → ℕ → Option Statement → MeetingState
 with_made m state u None = state
 with_made m state u (Some s) = with_outcome m state u (effect_of_unit m.schema m.capacity state.sequential u s)
@@ -92,7 +92,7 @@ module _ (m : Meeting) where
   can_turn_is history u =
       λ i. is_some (due_is history u i) && not (m.last_waits && (u == length m.programs && list_any (λ v. is_some (due_is history v i)) (range_with_len 1 (length m.programs - 1))))
 
-  -- ONE ENTRY MORE
+  -- ONE MORE ENTRY
 
   module _ (history : List Entry) (u : ℕ) (s : Statement) (answer : Answer) where
     abbrev entry : Entry
@@ -131,9 +131,9 @@ module _ (m : Meeting) where
       by zero e f = absurd cc
       by (suc i) e f = come_then 1 i m.programs p at (omega (arith, e)) f d
 
-  -- ONE TURN MORE
+  -- ONE MORE TURN
 
-  -- what is due is due in the state of a program
+  -- the statement that is due, and the state of its program
   record IsDueOf (history : List Entry) (u : ℕ) (s : Statement) : Type 0 where
     program : Program
     found : unit_at m.programs u ≡ Some program
@@ -171,7 +171,7 @@ module _ (m : Meeting) where
     by None is = refl
     by (Some s) is = made_state history u s (due_there history u s is) (effect_of_unit m.schema m.capacity (sequential_after m history) u s) refl
 
-  -- STATES WITH THE SAME ESSENCE GO ON ALIKE
+  -- STATES WITH THE SAME ESSENCE CONTINUE ALIKE
 
   -- the programs after an answer to a statement of unit u
   abbrev programs_by : List Due → ℕ → Option Answer → List Due
@@ -214,11 +214,11 @@ module _ (m : Meeting) where
 
   -- ORDERS
 
-  -- the state after one turn more
+  -- the state after one more turn
   pub state_of_on : (o : List ℕ) (u : ℕ) → state_of m (o ++ u ∷ []) ≡ state_then m (state_of m o) u
   state_of_on o u = ap (state_after m) (history_on m o u) ∙ state_on (history_of m o) u
 
-  -- where two orders lead to the same state, what can follow one can follow the other, and leads to the same state
+  -- if two orders lead to the same state, what can follow one can follow the other, and leads to the same state
   pub order_after : (o p : List ℕ) (u : ℕ) → IsOrder m p → essence_of m o ≡ essence_of m p → IsOrder m (o ++ u ∷ []) → IsOrder m (p ++ u ∷ [])
   order_after o p u is e on = order_on m p u is (sym (can_turn_alike (history_of m o) (history_of m p) u e) ∙ last_can m o u on)
 

@@ -57,7 +57,7 @@ before_push a b u v (inr l) = let e = l.0 in inr (omega (arith, length_push a u,
 pub before_last : (a : List ℕ) (u v : ℕ) → u < v → IsBefore (a ++ u ∷ []) (a ++ v ∷ [])
 before_last a u v low = inr (omega (arith, length_push a u, length_push a v), lower_last a u v low)
 
--- an order is before each that goes on from it
+-- an order is before each order that continues it
 pub before_next : (a : List ℕ) (u : ℕ) → IsBefore a (a ++ u ∷ [])
 before_next a u = inl (omega (arith, length_push a u))
 

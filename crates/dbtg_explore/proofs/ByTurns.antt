@@ -49,7 +49,7 @@ none_of f s (suc c) h =
     let here : f s ≡ false = h s (omega arith) (omega arith) in
     cc (here, rest)
 
--- as many turns as a unit can have
+-- all turns that a unit can have
 whole_turns : (u : ℕ) → (c : ℕ) × (to_the_end u ≡ replicate c u)
 unfolding to_the_end
 whole_turns u = (MOST_STATEMENTS, refl)
@@ -92,7 +92,7 @@ module _ (m : Meeting) (around : Around) (last_is : m.last_waits ≡ around.last
           history_is = same ∙ ap (λ es. after_turn m es u) has.history_is ∙ sym (history_on m has.order u);
         }
 
-  -- TURNS THAT ARE HEARD
+  -- TURNS THAT ARE NOT IGNORED
 
   not_waiting : (es : List Entry) (u : ℕ) → is_heard around units u ≡ true → waits m es u ≡ false
   not_waiting es u e =
@@ -145,7 +145,7 @@ module _ (m : Meeting) (around : Around) (last_is : m.last_waits ≡ around.last
   -- A RUN
 
   module _ (told ts : List ℕ) (given : ProgramRun) (is : RunsToItsEnd m around told ts given) where
-    -- before the last program
+    -- the history before the last program
     abbrev before : List Entry
     before = all_turned [] (turns_before around units (Some (told ++ ts)))
 
@@ -161,7 +161,7 @@ module _ (m : Meeting) (around : Around) (last_is : m.last_waits ≡ around.last
         let start : HasOrder m (beginning m) = record { order = []; is_order = none_follow m (beginning m); history_is = sym (no_turn m (beginning m)) } in
         subst (HasOrder m) (sym before_is) (go_on ts (beginning m) start)
 
-    -- behind it
+    -- the history after it
     abbrev behind : List Entry
     behind = all_turned before (last_turns m.schema m.programs around before)
 

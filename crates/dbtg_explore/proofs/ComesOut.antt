@@ -61,7 +61,7 @@ module _ (m : Meeting) where
   abbrev stands : Program → ℕ → List Entry → ProgramState
   stands p u history = program_state_after m.schema p (program_beginning p) (entries_of u history)
 
-  -- what is left of a history behind some of its entries
+  -- what is left of a history after some of its entries
   record IsLeft (before rest : List Entry) : Type 0 where
     answers : AnswersHold m.schema m.capacity (sequential_after m before) rest
     tickets : map (λ (e : Entry). e.ticket) rest ≡ range_with_len (length before) (length rest)
@@ -159,7 +159,7 @@ module _ (m : Meeting) where
       let there : before ++ e ∷ [] ≡ history_of m (o ++ e.unit ∷ []) = sym (turn_made before e rest l) ∙ ap (λ es. after_turn m es e.unit) at ∙ sym (history_on m o e.unit) in
       subst HasOrder (append_assoc before (e ∷ []) rest) (along (o ++ e.unit ∷ []) (before ++ e ∷ []) rest (order_on m o e.unit is can) there (left_then before e rest l))
 
-  -- what comes of it: a run whose history has an order, and after which no program can go on
+  -- the conclusion: a run whose history has an order, and after which no program can go on
   pub from_order : (run : Run) → HasOrder run.history → run.image ≡ image_of m.schema m.capacity (sequential_after m run.history).database → run.units ≡ (sequential_after m run.history).units
       → ((u : ℕ) → can_go_on m run.history u ≡ false) → ComesOut m run
   from_order run has image units at_end =

@@ -1,5 +1,5 @@
--- Keys of which none is there twice, seen by the numbers that they have.
--- ks are keys, k is a key, items what numbers a key has.
+-- Keys without repetition, seen by the numbers that they have.
+-- ks are keys, k is a key, items gives the numbers of a key.
 use Rattle.std.proofs.Common.{◌≡◌, refl, sym, ◌∙◌, ap, subst, ℕ, Bool, true, false, not, List, [], ◌∷◌, ◌++◌, map, inl, inr, if◌then◌else◌}
 use Rattle.std.specs.Prelude.{Contains}
 use Rattle.std.specs.List.{list_any}
@@ -45,7 +45,7 @@ module _ {K : Type 0} (items : K → List ℕ) where
   not_false false e = e
 
   module _ (ks new_ks : List K) (k : K) (is_new : Bool) (told : is_new ≡ not (is_there ks k)) (are : new_ks ≡ (if is_there ks k then ks else ks ++ k ∷ [])) (orders : List (List ℕ)) (old : FoundOrders) (old_is : record { keys = numbers ks; orders = orders } ≡ old) (order : List ℕ) where
-    -- a new key goes behind the others
+    -- a new key comes after the others
     pub is_entered : (new_orders : List (List ℕ)) → is_new ≡ true → new_orders ≡ orders ++ order ∷ [] → IsEntered old (items k) order (record { keys = numbers new_ks; orders = new_orders })
     is_entered new_orders fresh more =
         let gone : is_there ks k ≡ false = not_true (is_there ks k) (sym fresh ∙ told) in
@@ -56,7 +56,7 @@ module _ {K : Type 0} (items : K → List ℕ) where
           orders_are = more;
         }))
 
-    -- a known one stays
+    -- a known key changes nothing
     pub is_entered_before : is_new ≡ false → IsEntered old (items k) order (record { keys = numbers new_ks; orders = orders })
     is_entered_before stale =
         let there : is_there ks k ≡ true = not_false (is_there ks k) (sym stale ∙ told) in

@@ -34,7 +34,7 @@ use Rattle.dbtg_explore.specs.Inside.Keys.{due_numbers, how_numbers, program_num
 
 -- WHAT IS DUE
 
--- a statement that is due is the one of the sentence at which the program stands
+-- a statement that is due is that of the sentence at which the program stands
 abbrev IsSaid : Lists → Program → Due → Type 0
 IsSaid schema program (due at s) = at_line schema program at (line_at program at) ≡ makes s
 IsSaid schema program (ended at how) = ⊤
@@ -80,7 +80,7 @@ how_apart (Astray l) (Size k) a b e = absurd cc
 makes_same : (s t : Statement) → makes s ≡ makes t → s ≡ t
 makes_same s t e = cc
 
--- what comes of one program is told apart by its numbers
+-- the numbers of what comes of a program tell it apart
 due_apart : (schema : Lists) (program : Program) (x y : Due) (a b : List ℕ) → IsSaid schema program x → IsSaid schema program y → due_numbers x ++ a ≡ due_numbers y ++ b → (x ≡ y) × (a ≡ b)
 due_apart schema program (due at s) (due at' t) a b said said' e =
     let rest : program_numbers at ++ a ≡ program_numbers at' ++ b = cc in
@@ -203,7 +203,7 @@ module _ (m : Meeting) where
       let image = image_same (state_of m o) (state_of m p) e in
       λ i. image_numbers (image i) ++ (list_numbers unit_numbers (e i).sequential.units ++ list_numbers due_numbers (e i).programs)
 
-  -- and the same text
+  -- states with the same essence have the same text
   pub same_text : (x y : MeetingState) → essence x ≡ essence y → state_text m x ≡ state_text m y
   same_text x y e =
       let image = image_same x y e in

@@ -1,5 +1,5 @@
--- What is noted of one order more.
--- m is a meeting, o and p are orders, seen are those that are behind, f is a failure.
+-- What is noted of one more order.
+-- m is a meeting, o and p are orders, seen are the earlier orders, f is a failure.
 use Rattle.std.proofs.Common.{◌≡◌, refl, sym, ◌∙◌, ap, subst, ℕ, ◌+◌, ◌-◌, ◌<◌, ◌≤◌, true, false, not, List, [], ◌∷◌, ◌++◌, length, map, get_or, None, Some, arith, inl, inr, ◌⊎◌, ⊎_elim, true≢false}
 use Rattle.std.specs.Prelude.{Contains, option_and_then}
 use Rattle.std.specs.List.{list_any, range_with_len}
@@ -102,7 +102,7 @@ module _ (m : Meeting) where
   pub no_failures : AreFailuresOf m [] []
   no_failures = record { fail = λ f c. absurd (contains_none f c); all = λ f o c. absurd (contains_none o c); in_order = tt }
 
-  -- the failures after one order more
+  -- the failures after one more order
   pub failures_more : (seen : List (List ℕ)) (o : List ℕ) (history : List Entry) (fs gs : List Failure) → history ≡ history_of m o → Take (FailsIn (state_after m history)) fs gs → AreFailuresOf m seen fs → AreFailuresOf m (seen ++ o ∷ []) gs
   failures_more seen o history fs gs is t h =
       let taken : Take (FailsIn (state_of m o)) fs gs = subst (λ es. Take (FailsIn (state_after m es)) fs gs) is t in
@@ -118,7 +118,7 @@ module _ (m : Meeting) where
   pub no_results_yet : AreResultsOf m [] (record { keys = []; orders = [] })
   no_results_yet = record { firsts = no_results (IsEnd m) (result_text m); keys_are = refl }
 
-  -- where a program can go on the order is no end
+  -- if a program can go on, the order has not come to an end
   pub goes_on_there : (o : List ℕ) (old : FoundOrders) → (IsEnd m o → ⊥) → NotesResult m o old old
   goes_on_there o old no_end seen behind h = record { firsts = no_result (IsEnd m) (result_text m) seen old.orders o h.firsts no_end; keys_are = h.keys_are }
 
@@ -139,7 +139,7 @@ module _ (m : Meeting) where
   cannot_go : (history : List Entry) (u : ℕ) → unit_at m.programs u ≡ None → can_go_on m history u ≡ false
   cannot_go history u none = rw none refl
 
-  -- no program can go on where none of those that there are can
+  -- if none of the programs can go on, no unit can
   pub at_end : (history : List Entry) → not (list_any (can_go_on m history) (range_with_len 1 (length m.programs))) ≡ true → (u : ℕ) → can_go_on m history u ≡ false
   at_end history none u =
       elim (cases_lt 0 u) [
@@ -165,7 +165,7 @@ module _ (m : Meeting) where
       let no_one : list_any (can_go_on m history) units ≡ false = list_any_none (can_go_on m history) units (λ k d low. none (get_or units k d)) in
       true≢false (sym (ap not no_one) ∙ some)
 
-  -- both
+  -- results and failures
   pub notes_both : (o : List ℕ) (history : List Entry) (old new : given.Ends) → history ≡ history_of m o → Take (FailsIn (state_after m history)) old.failures.items new.failures.items → NotesResult m o old.results new.results → Notes m o old new
   notes_both o history old new is takes notes seen behind h = record {
     results = notes seen behind h.results;

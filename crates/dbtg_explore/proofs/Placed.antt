@@ -1,4 +1,4 @@
--- Where a meeting is, and how a turn leads on from there.
+-- Where a meeting is, and where a turn leads from there.
 -- m is a meeting, u a unit, x a statement.
 use Rattle.std.proofs.Common.{◌≡◌, ℕ, zero, suc, ◌+◌, ◌-◌, ◌<◌, ◌≤◌, Bool, true, false, ◌&&◌, List, [], ◌∷◌, ◌++◌, length, map, Option, Some, None, inr, refl, ap, subst, sym, ◌∙◌, slice_get, take, drop, take-append-drop, append_assoc, arith}
 use Rattle.std.specs.Prelude.{flat_map, is_some, not, option_and_then, option_map, nat_lt, slice_index_or, ◌||◌}
@@ -38,7 +38,7 @@ use Rattle.dbtg_explore.proofs.Turning.{first_can, follow_both, follow_front, fo
 
 -- WHAT IS DUE
 
--- the statement x is due in the program of unit u, which is there
+-- the statement x is due in the program of unit u, which exists
 pub record Awaits (m : Meeting) (history : List Entry) (goings : List Going) (u : ℕ) (x : Statement) : Type 0 where
   pub program : Program
   pub going : Going
@@ -109,7 +109,7 @@ module _ (m : Meeting) (database : Making) (goings : List Going) (w : AreStandin
 
 -- TURNS ONE AFTER ANOTHER
 
--- where a unit can have its turn, a statement is due
+-- if a unit can have its turn, a statement is due
 module _ (m : Meeting) where
   pub turn_due : (history : List Entry) (u : ℕ) → can_turn m history u ≡ true → None ≡ due_of m history u → ⊥
   turn_due history u c e = by (due_of m history u) e c where
@@ -154,7 +154,7 @@ module _ (m : Meeting) where
     history_is = t.history_is ∙ ap (λ es. after_order m es order) (s.history_is ∙ no_turn m (beginning m));
   }
 
-  -- from the place of an order to that with one turn more
+  -- from the place of an order to that of the order with one more turn
   pub place_on : (order : List ℕ) (u : ℕ) (old new : Whereabouts) → AreWhereaboutsOf m order old → can_turn m old.database.history u ≡ true → HasTurned m u old.database new.database new.goings.items → AreWhereaboutsOf m (order ++ u ∷ []) new
   place_on order u old new is c t = record {
     is_order = follow_both m (beginning m) order (u ∷ []) is.is_order (one_follows m (history_of m order) u (ap (λ es. can_turn m es u) (sym is.history_is) ∙ c));
@@ -239,7 +239,7 @@ none_more f n h g =
 pub one_there : (f : ℕ → Bool) (n i : ℕ) → i < n → true ≡ f (i + 1) → true ≡ list_any f (range_with_len 1 n)
 one_there f n i h g = sym (any_in f (i + 1) (range_with_len 1 n) (in_range n 1 (i + 1) (omega arith) (omega (arith, h))) (sym g))
 
--- one spelled behind another
+-- three things spelled, one after another
 pub three_spelled : (start a b c x y z : List ℕ) → start ≡ [] → a ≡ start ++ x → b ≡ a ++ y → c ≡ b ++ z → c ≡ x ++ (y ++ z)
 three_spelled start a b c x y z s e f g = g ∙ ap (λ l. l ++ z) (f ∙ ap (λ l. l ++ y) (e ∙ ap (λ l. l ++ x) s)) ∙ append_assoc x y z
 

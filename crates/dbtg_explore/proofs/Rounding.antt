@@ -1,4 +1,4 @@
--- A way round, as the code goes it.
+-- A way round, as the code follows it.
 -- m is a meeting, u is a unit, o is an order.
 use Rattle.std.proofs.Common.{◌≡◌, refl, sym, ◌∙◌, ap, subst, ℕ, zero, suc, ◌+◌, ◌<◌, ◌≤◌, ◌==◌, true, false, List, [], ◌∷◌, ◌++◌, append_assoc, append-nil, length, get_or, take, arith, inl, inr, true≢false}
 use Rattle.std.specs.Prelude.{Contains}

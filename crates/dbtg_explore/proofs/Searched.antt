@@ -1,4 +1,4 @@
--- A search through all states, over what is needed of them: orders, what can follow one, the state to which one leads.
+-- A search through all states, stated for whatever orders need: what is an order, what can follow one, the state to which one leads.
 -- o and p are orders, u and v units, i a place among the orders that are found.
 use Rattle.std.proofs.Common.{◌≡◌, ℕ, zero, suc, ◌+◌, ◌<◌, ◌≤◌, Bool, true, false, List, [], ◌∷◌, ◌++◌, length, refl, sym, ◌∙◌, ap, subst, arith, inl, inr, ◌⊎◌, get_or, ⊎_elim}
 use Rattle.std.specs.Prelude.{Contains}
@@ -48,7 +48,7 @@ pairwise_push R (x ∷ xs) y h all = (
   pairwise_push R xs y h.1 (λ z c. all z (contains_behind x xs z c)),
 )
 
--- the order at the first of two places is before that at the other
+-- the order at the earlier of two places is before that at the other
 pub in_order_at : (xs : List (List ℕ)) (i j : ℕ) → ArePairwise IsBefore xs → i < j → j < length xs → IsBefore (get_or xs i []) (get_or xs j [])
 in_order_at [] i j h low in_range = absurd (omega arith)
 in_order_at (x ∷ xs) i zero h low in_range = absurd (omega arith)
@@ -57,7 +57,7 @@ in_order_at (x ∷ xs) (suc i) (suc j) h low in_range = in_order_at xs i j h.1 (
 
 -- THE SEARCH
 
--- what is needed of orders
+-- what the search needs of orders
 pub record GoOn {S : Type 0} (IsOrder : List ℕ → Type 0) (can : List ℕ → ℕ → Bool) (state : List ℕ → S) : Type 0 where
   pub first : IsOrder []
   pub more : (o : List ℕ) (u : ℕ) → IsOrder o → can o u ≡ true → IsOrder (o ++ u ∷ [])
@@ -96,17 +96,17 @@ module _ {S : Type 0} (IsOrder : List ℕ → Type 0) (can : List ℕ → ℕ �
       earlier = λ o v r c le. h.earlier o v r c (omega arith);
     }
 
-    -- the unit has no turn there
+    -- the unit cannot have its turn there
     pub no_turn : can (get_or found i []) u ≡ false → IsUnderWay IsOrder can state found i (u + 1)
     no_turn not_u = further (λ v e can_v. absurd (let both : can (get_or found i []) u ≡ true = subst (λ (w : ℕ). can (get_or found i []) w ≡ true) e can_v in cc))
 
-    -- it leads to a state that is known
+    -- its turn leads to a known state
     pub known_state : (o : List ℕ) → Contains found o → state o ≡ state (get_or found i [] ++ u ∷ []) → IsUnderWay IsOrder can state found i (u + 1)
     known_state o c same = further (λ v e can_v.
         subst (λ (w : ℕ). HasFirst state found (get_or found i [] ++ w ∷ [])) (sym e)
         (record { first = o; is_found = c; same = same; no_later = inr (h.earlier o u in_range c (omega arith)) }))
 
-    -- it leads to a new one
+    -- its turn leads to a new state
     pub new_state : can (get_or found i []) u ≡ true → ((o : List ℕ) → Contains found o → state o ≡ state (get_or found i [] ++ u ∷ []) → ⊥) → IsUnderWay IsOrder can state (found ++ (get_or found i [] ++ u ∷ []) ∷ []) i (u + 1)
     new_state can_u is_new =
         let next = get_or found i [] ++ u ∷ [] in
@@ -128,7 +128,7 @@ module _ {S : Type 0} (IsOrder : List ℕ → Type 0) (can : List ℕ → ℕ �
           earlier = λ o v r c le. rw (same i in_range) (turn o v le c);
         }
 
-    -- all units had their turn there
+    -- all units have had their turns there
     pub next_place : ((v : ℕ) → u ≤ v → can (get_or found i []) v ≡ false) → IsUnderWay IsOrder can state found (i + 1) 0
     next_place no_more = record {
       are_orders = h.are_orders;
@@ -152,7 +152,7 @@ module _ {S : Type 0} (IsOrder : List ℕ → Type 0) (can : List ℕ → ℕ �
           before_trans o (get_or found i [] ++ u ∷ []) (get_or found (i + 1) [] ++ v ∷ []) last (before_push (get_or found i []) (get_or found (i + 1) []) u v (in_order_at found i (i + 1) h.in_order (omega arith) r));
     }
 
-  -- where it is through, each order has its first
+  -- at the end, each order has a first order that leads to the same state
   pub all_found : (found : List (List ℕ)) (i : ℕ) → length found ≤ i → IsUnderWay IsOrder can state found i 0 → (o : List ℕ) → IsOrder o → HasFirst state found o
   all_found found i through h o is = by (length o) o refl is where
     by : (n : ℕ) (o : List ℕ) → length o ≡ n → IsOrder o → HasFirst state found o
@@ -205,16 +205,16 @@ module _ (IsEnd : List ℕ → Type 0) (text : List ℕ → List ℕ) where
       in_order = h.in_order;
     }
 
-    -- an order that comes to no end
+    -- an order that does not come to an end
     pub no_result : (IsEnd o → ⊥) → AreFirsts IsEnd text (seen ++ o ∷ []) results
     no_result goes_on = same_results (λ end. absurd (goes_on end))
 
     module _ (last : (p : List ℕ) → Contains seen p → IsBefore p o) where
-      -- one to a known text
+      -- an order with a known text
       pub known_result : (r : List ℕ) → Contains results r → text r ≡ text o → AreFirsts IsEnd text (seen ++ o ∷ []) results
       known_result r c same = same_results (λ end. record { first = r; is_found = c; same = same; no_later = inr (last r (h.are_seen r c)) })
 
-      -- or to a new one
+      -- an order with a new text
       pub new_result : IsEnd o → ((r : List ℕ) → Contains results r → text r ≡ text o → ⊥) → AreFirsts IsEnd text (seen ++ o ∷ []) (results ++ o ∷ [])
       new_result end is_new = record {
         are_seen = λ r c. ⊎_elim (λ d. Contains-append_left seen (o ∷ []) r (h.are_seen r d)) (λ e. subst (Contains (seen ++ o ∷ [])) e (Contains-push seen o)) (Contains-push_cases results o r c);

@@ -37,7 +37,7 @@ none_past [] n h = refl
 none_past (x ∷ xs) zero h = absurd (omega arith)
 none_past (x ∷ xs) (suc n) h = none_past xs n (omega arith)
 
--- units from 1 on have elements, as many as there are
+-- units from 1 on have elements, as long as there are any
 pub none_beyond : {X : Type 0} (xs : List X) (u : ℕ) → length xs < u → unit_at xs u ≡ None
 unfolding unit_at
 none_beyond xs zero h = absurd (omega arith)
@@ -51,7 +51,7 @@ module _ (m : Meeting) where
   cannot_turn : (history : List Entry) (u : ℕ) → unit_at m.programs u ≡ None → can_turn m history u ≡ false
   cannot_turn history u none = rw none refl
 
-  -- no other units than those of programs can have a turn
+  -- no units other than those of programs can have a turn
   pub cannot_before : (o : List ℕ) → can_follow m o 0 ≡ false
   cannot_before o = cannot_turn (history_of m o) 0 (none_before m.programs)
 
@@ -97,7 +97,7 @@ module _ (m : Meeting) where
         let way = subst (λ os. Under os 0 0) (sym begins.0) (at_beginning (IsOrder m) (can_follow m) (essence_of m) goes_on) in
         record { orders = found.orders; are_apart = record { are_orders = way.are_orders; apart = way.apart }; more = more }
 
-  -- ONE TURN MORE
+  -- ONE MORE TURN
 
   record Turned (old new : FoundOrders) (i u : ℕ) : Type 0 where
     way : Under new.orders i u
@@ -157,7 +157,7 @@ module _ (m : Meeting) where
             let long = ap (λ (f : FoundOrders). length f.orders) found_is in
             record { at = record { under_way = t.way; keys_are = t.keys_are; few = omega arith }; more = t.more; kept = t.kept; limit_is = limit_is }
 
-        -- or there are more states than there may be
+        -- or there are more states than the limit
         pub goes_over : old.limit < length found.orders → HasMoreStates m old.limit
         goes_over more =
             let way = has_turned.way in
@@ -187,7 +187,7 @@ module _ (m : Meeting) where
   pub kept_range : (i j u : ℕ) (a b : given.Search) → Goes m i u a b → j < length a.found.orders → j < length b.found.orders
   kept_range i j u a b g low = let e = ap length g.kept in let f = length-append a.found.orders g.more in omega arith
 
-  -- all units had their turn
+  -- all units have had their turns
   pub goes_to_next : (i : ℕ) (a b : given.Search) → i < length a.found.orders → Goes m i (length m.programs + 1) a b → Goes m (i + 1) 0 a b
   goes_to_next i a b low g = record {
     at = record {

@@ -1,4 +1,4 @@
--- Orders one behind another.
+-- Orders, one after another.
 -- m is a meeting, u a unit, us and vs are orders.
 use Rattle.std.proofs.Common.{◌≡◌, ℕ, true, List, [], ◌∷◌, ◌++◌, refl, ◌∙◌}
 use Rattle.dbtg_unit.specs.declared.unit.Entry.{Entry}
@@ -18,7 +18,7 @@ module _ (m : Meeting) where
   unfolding after_order
   one_turn history u = refl
 
-  -- the history of an order with one turn more
+  -- the history of an order with one more turn
   pub history_on : (us : List ℕ) (u : ℕ) → history_of m (us ++ u ∷ []) ≡ after_turn m (history_of m us) u
   history_on us u = order_behind (beginning m) us (u ∷ []) ∙ one_turn (history_of m us) u
 
@@ -50,7 +50,7 @@ module _ (m : Meeting) where
   unfolding CanFollow
   one_follows history u c = (c, tt)
 
-  -- an order with one turn more
+  -- an order with one more turn
   pub order_on : (us : List ℕ) (u : ℕ) → IsOrder m us → can_turn m (history_of m us) u ≡ true → IsOrder m (us ++ u ∷ [])
   order_on us u o c = follow_both (beginning m) us (u ∷ []) o (one_follows (history_of m us) u c)
 

@@ -1,4 +1,4 @@
--- All states, and what they come to.
+-- All states, and what they lead to.
 -- m is a meeting, o and p are orders, i is the place of an order that is found.
 use Rattle.std.proofs.Common.{◌≡◌, refl, sym, ◌∙◌, ap, subst, ℕ, ◌+◌, ◌<◌, ◌≤◌, Bool, true, false, List, [], ◌∷◌, ◌++◌, length, get_or, take, Option, None, Some, arith, if◌then◌else◌}
 use Rattle.std.specs.Prelude.{IfSome, option_and_then}
@@ -27,7 +27,7 @@ use Rattle.dbtg_explore.proofs.Keyed.{same_text}
 use Rattle.dbtg_explore.proofs.Searched.{all_found, in_order_at}
 use Rattle.dbtg_explore.proofs.Steps.{goes_on, kept_at, kept_range}
 
--- what is before place i is before the order at it
+-- orders before place i are before the order at it
 is_behind : (os : List (List ℕ)) (i : ℕ) → ArePairwise IsBefore os → i < length os → IsBehind (take i os) (get_or os i [])
 is_behind os i in_order low p c =
     let few = length-take i os in
@@ -35,14 +35,14 @@ is_behind os i in_order low p c =
     let at : get_or os c.0 [] ≡ p = sym (get_or-take i os c.0 [] (omega arith)) ∙ get_or_default (take i os) c.0 [] p c.1 ∙ c.2 in
     subst (λ q. IsBefore q (get_or os i [])) at (in_order_at os c.0 i in_order (omega arith) low)
 
--- states before place i are visited, and there may be no more than the limit
+-- the states before place i are visited, and there are no more than the limit
 pub record IsOnTheWay (m : Meeting) (limit i : ℕ) (s : search.Search) (e : ends.Ends) : Type 0 where
   pub visited : IsVisited m i s e
   pub limit_is : s.limit ≡ limit
   pub within : i ≤ length s.found.orders
 
 module _ (m : Meeting) where
-  -- one more
+  -- one more state
   pub visited_more : (i : ℕ) (old new : search.Search) (before after : ends.Ends) (o : List ℕ) → i < length old.found.orders → IsVisited m i old before → Goes m (i + 1) 0 old new → o ≡ get_or new.found.orders i [] → Notes m o before after → HasVisited m i old new after
   visited_more i old new before after o low visited goes is notes =
       let same : get_or new.found.orders i [] ≡ get_or old.found.orders i [] = kept_at m (i + 1) i 0 old new goes low in
@@ -63,7 +63,7 @@ module _ (m : Meeting) where
   pub one_on_the_way : (limit i : ℕ) (old new : search.Search) (before after : ends.Ends) → IsOnTheWay m limit i old before → HasVisited m i old new after → IsOnTheWay m limit (i + 1) new after
   one_on_the_way limit i old new before after way h = record { visited = h.visited; limit_is = h.limit_is ∙ way.limit_is; within = let low = h.within in omega arith }
 
-  -- WHERE ALL ARE VISITED
+  -- WHEN ALL ARE VISITED
 
   -- a failure in a state
   record HasFailed (state : MeetingState) (f : Failure) : Type 0 where
@@ -139,7 +139,7 @@ module _ (m : Meeting) where
     pub is_within : length s.found.orders ≤ limit
     is_within = let few = through.visited.at.few in let same = through.limit_is in omega arith
 
-    -- so all is explored, but for ways round
+    -- so everything is explored, except for ways round
     pub is_explored : (all : given.Explored) → all.states ≡ length s.found.orders → all.results ≡ e.results.orders → all.failures ≡ e.failures.items → IfSome all.endless (IsEndless m) → IsExplored m all
     is_explored all states_are results_are failures_are endless = record {
       states = subst (CountsStates m) (sym states_are) counts;

@@ -7,15 +7,15 @@ use Rattle.dbtg_explore.specs.Orders.{IsOrder, Meeting, can_turn, history_of}
 use Rattle.dbtg_explore.specs.Results.{AreFailures, AreResults}
 use Rattle.dbtg_explore.specs.States.{CountsStates, essence_of}
 
--- turns that lead to a way round, and turns that go round it: it comes back to the same state, and each program that can have its turn there has
--- one on the way. So it can be gone round for ever, and no program is kept waiting
+-- turns that lead to a way round, and turns that go round it: they come back to the same state, and each program that can have its turn there
+-- has one on the way. So they can go round for ever, and no program is kept waiting
 pub record IsEndless (m : Meeting) (e : Endless) : Type 0 where
   pub is_order : IsOrder m (e.turns ++ e.round)
   pub comes_back : essence_of m (e.turns ++ e.round) ≡ essence_of m e.turns
   pub goes : 0 < length e.round
   pub fair : (u : ℕ) → can_turn m (history_of m e.turns) u ≡ true → Contains e.round u
 
--- how many states there are, all results, all failures, and perhaps a way round
+-- the number of states, all results, all failures, and perhaps a way round
 pub record IsExplored (m : Meeting) (all : given.Explored) : Type 0 where
   pub states : CountsStates m all.states
   pub results : AreResults m all.results

@@ -23,8 +23,8 @@ use Rattle.dbtg_explore.specs.Orders.{IsEnd, Meeting, beginning, can_go_on, hist
 use Rattle.dbtg_explore.specs.Results.{reached_of, result_text}
 use Rattle.dbtg_explore.specs.States.{state_after}
 
--- the statements of a history are those of the programs, each to its end: it begins like the meeting; the entries of each unit are of its
--- program; the last program makes none after that as long as it has to wait; and at the end no program can go on
+-- the statements of a history are those of the programs, each to its end: it begins like the meeting; the entries of each unit belong to
+-- its program; the last program makes none after that as long as it has to wait; and at the end no program can go on
 pub record MakesAll (m : Meeting) (history : List Entry) : Type 0 where
   pub rest : List Entry
   pub begins : history ≡ beginning m ++ rest
@@ -52,7 +52,7 @@ EveryRunComesOut m = (scripts : List (List Statement)) (moves : List Move) (run 
 -- BY TURNS
 
 -- a run of the programs by turns, after which none of them can go on. It begins like the meeting, by the turns of the first program and by
--- told ones; then come these turns, and those of the last program
+-- the given ones; then come these turns, and those of the last program
 pub record RunsToItsEnd (m : Meeting) (around : Around) (told turns : List ℕ) (given : ProgramRun) : Type 0 where
   pub is_run : IsRunOf m.schema m.capacity m.programs (turns_of m.schema m.capacity m.programs around (Some (told ++ turns))) given
   pub begins : beginning m ≡ after_turns m.schema m.capacity m.programs [] (turns_before around (length m.programs) (Some told))

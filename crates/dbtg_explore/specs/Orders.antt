@@ -11,7 +11,7 @@ use Rattle.dbtg_step.specs.Machine.SequentialDatabase.{unit_at}
 use Rattle.dbtg_program.specs.declared.program.Program.{Program}
 use Rattle.dbtg_going.specs.Turns.{after_turns, comes, made, statement_due}
 
--- programs that meet, a unit for each; the turns that are behind when they do; and whether the last program waits until no other can go on
+-- programs that meet, a unit for each; the turns taken before they meet; and whether the last program waits until no other can go on
 pub record Meeting : Type 0 where
   pub schema : Lists
   pub capacity : ℕ
@@ -32,7 +32,7 @@ due_of m history u = option_and_then (λ program. statement_due m.schema (comes 
 abbrev pub can_go_on : Meeting → List Entry → ℕ → Bool
 can_go_on m history u = is_some (due_of m history u)
 
--- it is the last, which waits as long as another can go on
+-- it is the last program, which waits as long as another can go on
 abbrev pub waits : Meeting → List Entry → ℕ → Bool
 waits m history u = m.last_waits && (u == length m.programs && list_any (can_go_on m history) (range_with_len 1 (length m.programs - 1)))
 
@@ -79,7 +79,7 @@ IsLower [] ks = ⊥
 IsLower (n ∷ ns) [] = ⊥
 IsLower (n ∷ ns) (k ∷ ks) = (n < k) ⊎ ((n ≡ k) × IsLower ns ks)
 
--- a shorter order comes first; of two that are as long that which first has the lower unit
+-- a shorter order comes first; of two orders of the same length, the one that first has the lower unit
 abbrev pub IsBefore : List ℕ → List ℕ → Type 0
 IsBefore order other = (length order < length other) ⊎ ((length order ≡ length other) × IsLower order other)
 

@@ -20,7 +20,7 @@ use Rattle.dbtg_explore.specs.Orders.{IsBefore, IsEnd, IsLower, IsNoLater, IsOrd
 use Rattle.dbtg_explore.specs.Pairwise.{ArePairwise}
 use Rattle.dbtg_explore.specs.States.{MeetingState, state_of}
 
--- how a program stands of which this comes. It is never spent: how many statements its unit has made does not matter here
+-- how a program stands for which this is due. It is never spent: how many statements its unit has made does not matter here
 abbrev pub standing_of : Due → Standing
 standing_of (ended at how) = Ended how
 standing_of (due at s) = GoesOn
@@ -29,7 +29,7 @@ standing_of (due at s) = GoesOn
 abbrev pub reached_of : Due → Reached
 reached_of d = record { standing = standing_of d; state = state_in d }
 
--- what is printed of a state behind `--`, but that the units that have an area open stand in the order of their numbers
+-- what is printed of a state after `--`, except that the units that have an area open are in the order of their numbers
 abbrev pub state_text : Meeting → MeetingState → List ℕ
 state_text m state =
     let image = image_of m.schema m.capacity state.sequential.database in
@@ -40,8 +40,8 @@ state_text m state =
 abbrev pub result_text : Meeting → List ℕ → List ℕ
 result_text m order = state_text m (state_of m order)
 
--- all results, by the first order to each: every order that comes to an end has the text of one that is no later; no two have the same
--- text; and they stand in their order
+-- all results, by the first order to each: every order that comes to an end has the text of a result that is no later; no two have the
+-- same text; and they are in order
 pub record AreResults (m : Meeting) (results : List (List ℕ)) : Type 0 where
   pub ends : (r : List ℕ) → Contains results r → IsEnd m r
   pub all : (o : List ℕ) → IsEnd m o → (r : List ℕ) × Contains results r × (result_text m r ≡ result_text m o) × IsNoLater r o
@@ -50,14 +50,14 @@ pub record AreResults (m : Meeting) (results : List (List ℕ)) : Type 0 where
 
 -- FAILURES
 
--- an end that is none by STOP
+-- an end other than by STOP
 abbrev pub is_failure : End → Bool
 is_failure Stop = false
 is_failure (Assert line) = true
 is_failure (Size line) = true
 is_failure (Astray line) = true
 
--- after some order the program of the unit has ended so, and that is a failure
+-- after some order the program of the unit has ended in this way, which is a failure
 pub record Fails (m : Meeting) (f : Failure) : Type 0 where
   pub order : List ℕ
   pub is_order : IsOrder m order
@@ -72,11 +72,11 @@ end_numbers (Assert line) = line ∷ 1 ∷ []
 end_numbers (Size line) = line ∷ 2 ∷ []
 end_numbers (Astray line) = line ∷ 3 ∷ []
 
--- one fails before another: by unit, then by line
+-- one failure comes before another: by unit, then by line
 abbrev pub FailsBefore : Failure → Failure → Type 0
 FailsBefore f g = IsLower (f.unit ∷ end_numbers f.how) (g.unit ∷ end_numbers g.how)
 
--- all failures, each once, in their order
+-- all failures, each once, in order
 pub record AreFailures (m : Meeting) (failures : List Failure) : Type 0 where
   pub fail : (f : Failure) → Contains failures f → Fails m f
   pub all : (f : Failure) → Fails m f → Contains failures f

@@ -1,5 +1,5 @@
--- Where a meeting is. Two states are one where all of it is that what comes after depends on: all but the order in which units opened an
--- area.
+-- Where a meeting is. Two states count as one if they agree in everything that later statements depend on: in all but the order in which
+-- units opened an area.
 -- m is a meeting, u a unit, o and p are orders.
 use Rattle.std.specs.Prelude.{ℕ, ◌≡◌, ◌+◌, ◌<◌, List, [], ◌∷◌, Contains, length}
 use Rattle.dbtg_unit.specs.declared.unit.Entry.{Entry}
@@ -11,12 +11,12 @@ use Rattle.dbtg_outcomes.specs.Alike.{Unordered, unordered}
 use Rattle.dbtg_explore.specs.Orders.{IsOrder, Meeting, history_of}
 use Rattle.dbtg_explore.specs.Pairwise.{ArePairwise}
 
--- the database with its units, and what comes of each program: the statement that is due in its state, or its end
+-- the database with its units, and for each program the statement that is due in its state, or its end
 pub record MeetingState : Type 0 where
   pub sequential : State
   pub programs : List Due
 
--- what comes of these programs, the first of them unit u's
+-- the same for these programs, the first of them unit u's
 abbrev pub comes_of_each : Meeting → List Entry → ℕ → List Program → List Due
 comes_of_each m history u [] = []
 comes_of_each m history u (program ∷ programs) = comes m.schema program u history ∷ comes_of_each m history (u + 1) programs
@@ -43,7 +43,7 @@ pub record Essence : Type 0 where
 abbrev pub essence : MeetingState → Essence
 essence state = record { sequential = unordered state.sequential; programs = state.programs }
 
--- that of the state after an order
+-- the essence of the state after an order
 abbrev pub essence_of : Meeting → List ℕ → Essence
 essence_of m order = essence (state_of m order)
 
@@ -58,7 +58,7 @@ pub record AreApart (m : Meeting) (orders : List (List ℕ)) : Type 0 where
   pub are_orders : (o : List ℕ) → Contains orders o → IsOrder m o
   pub apart : ArePairwise (LeadApart m) orders
 
--- there are n states that orders lead to: as many as orders that lead to each of them once
+-- orders lead to n states: there are n orders, exactly one for each state
 pub record CountsStates (m : Meeting) (n : ℕ) : Type 0 where
   pub orders : List (List ℕ)
   pub are_apart : AreApart m orders

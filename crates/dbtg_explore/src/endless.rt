@@ -112,7 +112,7 @@ fn is_endless(
     endless
 }
 
-/// A way to go round for ever, if the search has shown one. It is not promised that one is found whenever there is one.
+/// A way to go round for ever, if the search has shown one. Even if there is one, it is not certain to be found.
 pub fn endless_in(
     alloc: Global,
     meeting: &Meeting,

@@ -96,7 +96,7 @@ impl Search {
         Ok(())
     }
 
-    // It has, if it can.
+    // The unit has its turn there, if it can.
     fn go_on_by(
         &mut self,
         alloc: Global,

@@ -15,8 +15,8 @@ use dbtg_step::Run;
 use dbtg_unit::LAST_UNIT;
 use std::alloc::{AllocError, Global};
 
-/// What is printed of a run and its programs behind `--`, but that the units that have an area open stand in the order of their numbers.
-/// In the image of the run they stand so afterwards.
+/// What is printed of a run and its programs after `--`, except that the units that have an area open are in the order of their numbers.
+/// In the image of the run they are then in that order too.
 pub fn told_text(
     alloc: Global,
     schema: &Schema,

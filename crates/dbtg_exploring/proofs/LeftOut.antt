@@ -9,7 +9,7 @@ use Rattle.dbtg_unit.specs.Database.Laws.Replay.{opening_state, effect_of_unit, 
 use Rattle.dbtg_program.specs.declared.program.Program.{Program}
 use Rattle.dbtg_going.specs.Turns.{after_turn, after_turns, made, statement_of, with_effect_of}
 
--- whose statements they are
+-- the units of the statements, in turn
 abbrev pub units : List Entry → List ℕ
 units history = map (λ e. e.unit) history
 
@@ -29,7 +29,7 @@ module _ (schema : Lists) (capacity : ℕ) (programs : List Program) where
   abbrev pub after : List Entry → List ℕ → List Entry
   after = after_turns schema capacity programs
 
-  -- turns make so much, and the units of what they make make the same
+  -- the units of what turns make, taken as turns, make the same
   abbrev pub SameMade : List Entry → List ℕ → Type 0
   SameMade history turns = (rest : List Entry) × (after history turns ≡ history ++ rest) × (after history (units rest) ≡ history ++ rest)
 
@@ -52,7 +52,7 @@ module _ (schema : Lists) (capacity : ℕ) (programs : List Program) where
   same_made history [] = ([], sym (append-nil history), sym (append-nil history))
   same_made history (u ∷ turns) = by_turn history u turns (made_one history u (statement_of schema programs history u)) (λ new. same_made new turns)
 
-  -- of all that turns make from the beginning
+  -- the same for all that turns make from the beginning
   pub begins_alike : (turns : List ℕ) → after [] (units (after [] turns)) ≡ after [] turns
   begins_alike turns =
       let rest = same_made [] turns in

@@ -1,4 +1,4 @@
--- What was read, and what is then true of the programs that meet.
+-- What was read, and what then holds of the programs that meet.
 use Rattle.std.proofs.Common.{◌≡◌, ℕ, List, [], length, map, Option, Some, inr, refl, subst, true}
 use Rattle.std.specs.Prelude.{unwrap_or}
 use Rattle.dbtg_schema.specs.Lists.{Lists}
@@ -17,7 +17,7 @@ use Rattle.dbtg_running.specs.Running.{ReadsTurns}
 use Rattle.dbtg_exploring.specs.declared.setting.Exploring.{Exploring}
 use Rattle.dbtg_exploring.specs.Exploring.{ExploresHeld, GivesUp, IsExploration, ReadMeeting, ToldOfExploring, programs_in, told_in}
 
--- want of memory can always be told
+-- want of memory can always be reported
 pub without_memory : (schema : Lists) (programs : List Program) (told : List ℕ) (asked : Exploring) → GivesUp schema programs told asked Memory
 without_memory schema programs told asked = (turns_before asked.around (length programs) (Some told), refl, tt)
 

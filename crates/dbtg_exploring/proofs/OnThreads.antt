@@ -1,4 +1,4 @@
--- A run on threads is a run by turns; where no unit is spent at its end, no program can go on.
+-- A run on threads is a run by turns; if no unit is spent at its end, no program can go on.
 -- u is a unit, n is how many statements it has made, d is what is due in its program.
 use Rattle.std.proofs.Common.{◌≡◌, refl, sym, ap, ◌∙◌, ℕ, Bool, true, false, List, [], length, Option, Some, None}
 use Rattle.std.specs.Prelude.{if◌then◌else◌, is_some, nat_lt, option_and_then}

@@ -1,4 +1,4 @@
--- The texts of results stand one behind another.
+-- The texts of results, one after another.
 use Rattle.std.proofs.Common.{◌≡◌, ℕ, ◌+◌, ◌<◌, List, [], ◌∷◌, ◌++◌, take, length, Option, Some, refl, sym, ap, ◌∙◌, subst, arith, get_or}
 use Rattle.std.proofs.lemmas.List.{append-nil, append_assoc, length-take-le, take_more}
 use Rattle.dbtg_schema.specs.Lists.{Lists}
@@ -17,7 +17,7 @@ module _ (schema : Lists) (programs : List Program) (told : List ℕ) (asked : E
   abbrev next : Option (List Told) → ProgramRun → Option (List Told)
   next = and_told schema programs
 
-  -- of another number that is the same, and behind the same results before
+  -- the text is the same for an equal number, and after the same earlier results
   moved : (before others : Option (List Told)) (j k : ℕ) (order text : List ℕ) → (is : IsResultText schema programs told asked before j order text) → before ≡ others → j ≡ k
       → (of : IsResultText schema programs told asked others k order text) × (of.given ≡ is.given)
   moved before others j k order text is same number = (
@@ -29,7 +29,7 @@ module _ (schema : Lists) (programs : List Program) (told : List ℕ) (asked : E
     refl,
   )
 
-  -- one more behind the others
+  -- one more text after the others
   one_more : (before after : Option (List Told)) (k : ℕ) (orders : List (List ℕ)) (order out text : List ℕ) → Texts before after k orders out
       → (is : IsResultText schema programs told asked after (k + length orders) order text) → Texts before (next after is.given) k (orders ++ order ∷ []) (out ++ text)
   one_more before after k [] order out text are is =
@@ -42,7 +42,7 @@ module _ (schema : Lists) (programs : List Program) (told : List ℕ) (asked : E
       (one_more (next before are.3.given) after (k + 1) orders order are.1 text are.4 of.0) in
       (are.0, are.1 ++ text, ap (λ t. t ++ text) are.2 ∙ append_assoc are.0 are.1 text, are.3, rest)
 
-  -- the next of the results
+  -- the next result
   pub next_result : (results : List (List ℕ)) (i : ℕ) (order out new : List ℕ) (before after shown : Option (List Told)) (k : ℕ) → i < length results → order ≡ get_or results i order → k ≡ i + 1
       → Texts before after 1 (take i results) out → IsShown schema programs told asked k order out new after shown → Texts before shown 1 (take (i + 1) results) new
   next_result results i order out new before after shown k below at k_is are is =
@@ -56,7 +56,7 @@ module _ (schema : Lists) (programs : List Program) (told : List ℕ) (asked : E
       (subst (λ (s : Option (List Told)). Texts before s 1 (take i results ++ order ∷ []) (out ++ is.text)) last
       (one_more before after 1 (take i results) order out is.text are of.0)))
 
-  -- the text of a result goes behind others
+  -- the text of a result is appended to the others
   pub shown_of : (before after : Option (List Told)) (k : ℕ) (order old head new turns same : List ℕ) (given : ProgramRun) → turns ≡ told ++ order → same ≡ told ++ order
       → IsRunOf schema asked.capacity programs (turns_of schema asked.capacity programs asked.around (Some same)) given → head ≡ old ++ result_head k turns
       → new ≡ head ++ shown_text schema programs before given → after ≡ next before given → IsShown schema programs told asked k order old new before after
@@ -73,6 +73,6 @@ module _ (schema : Lists) (programs : List Program) (told : List ℕ) (asked : E
         after_is = after_is;
       }
 
--- three texts behind one
+-- three texts after one
 pub texts_behind : (old a b c : List ℕ) → old ++ a ++ b ++ c ≡ old ++ (a ++ b ++ c)
 texts_behind old a b c = ap (λ x. x ++ c) (append_assoc old a b) ∙ append_assoc old (a ++ b) c

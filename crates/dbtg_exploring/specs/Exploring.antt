@@ -21,7 +21,7 @@ use Rattle.dbtg_explore.specs.States.{HasMoreStates}
 use Rattle.dbtg_exploring.specs.declared.setting.Exploring.{Exploring}
 use Rattle.dbtg_exploring.specs.Texts.{AreTold}
 
--- the meeting of these programs that is asked for, with the turns that were taken
+-- the meeting of these programs that is asked for, after these turns
 abbrev pub meeting_of : Lists → List Program → Exploring → List ℕ → Meeting
 meeting_of schema programs asked begun = record {
   schema = schema;
@@ -31,12 +31,12 @@ meeting_of schema programs asked begun = record {
   last_waits = asked.around.last;
 }
 
--- these turns make all that the first program and the told turns make
+-- these turns make all that the first program and the given turns make
 abbrev pub Begins : Lists → List Program → List ℕ → Exploring → List ℕ → Type 0
 Begins schema programs told asked begun =
     after_turns schema asked.capacity programs [] begun ≡ after_turns schema asked.capacity programs [] (turns_before asked.around (length programs) (Some told))
 
--- the text lists what the programs can come to from there on, in no more states than the limit; it is said whether a program fails
+-- the text lists what the programs can come to from there on, in no more states than the limit; the flag says whether a program fails
 pub record IsExploration (schema : Lists) (programs : List Program) (told : List ℕ) (asked : Exploring) (printed : Printed) : Type 0 where
   pub begun : List ℕ
   pub begins : Begins schema programs told asked begun

@@ -12,11 +12,11 @@ use Rattle.dbtg_explore.specs.Laws.{ComesOut}
 use Rattle.dbtg_exploring.specs.declared.setting.Exploring.{Exploring}
 use Rattle.dbtg_exploring.specs.Exploring.{Begins, meeting_of}
 
--- no unit has made all statements that a unit can make while its program goes on
+-- no program could go on although its unit has made all statements that a unit can make
 abbrev pub NoneIsSpent : ProgramRun → Type 0
 NoneIsSpent given = (u : ℕ) (r : Reached) → unit_at given.programs u ≡ Some r → r.standing ≡ Spent → ⊥
 
--- whatever the threads do: such a run comes out of the meeting that is explored where no turns are given
+-- whatever the threads do: such a run is a result of the meeting that is explored if no turns are given
 abbrev pub EveryRunOnThreadsComesOut : Lists → List Program → Exploring → Type 0
 EveryRunOnThreadsComesOut schema programs asked =
     (begun turns : List ℕ) (given : ProgramRun) → Begins schema programs [] asked begun → IsRunOnThreads schema asked.capacity programs asked.around turns given → NoneIsSpent given

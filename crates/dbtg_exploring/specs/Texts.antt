@@ -1,7 +1,7 @@
 -- What `explore` prints of what programs can come to: how many states and results there are, the turns of a way round, the failures,
 -- and then, result by result, turns that lead to it, and what `run` prints with them.
 -- told are the turns that are given, as `--turns` has them; asked is what an exploration is asked for; k is the number of a result, order
--- the one that leads to it; before are the results before it, where results are shown in brief.
+-- the one that leads to it; before are the earlier results, if results are shown in brief.
 use Rattle.std.specs.Prelude.{ℕ, ◌≡◌, ◌+◌, false, List, [], ◌∷◌, ◌++◌, Option, Some, None, codes, decimal, flat_map, length, map, option_map, take}
 use Rattle.std.specs.List.{range_with_len}
 use Rattle.dbtg_schema.specs.Lists.{Lists}
@@ -50,7 +50,7 @@ failure_text f = codes "fails " ++ decimal f.unit ++ 32 ∷ end_text f.how ++ 10
 abbrev pub result_head : ℕ → List ℕ → List ℕ
 result_head k turns = codes "result " ++ decimal k ++ with_turns (codes "\nturns") turns ++ 10 ∷ []
 
--- what tells a run of programs from others: what is printed behind `--`, but that the units that have an area open stand in the order of
+-- what tells a run of programs from others: what is printed after `--`, except that the units that have an area open are in the order of
 -- their numbers; and what it leaves behind with records named by their STOREs, and the lines of the programs
 abbrev pub told_of : Lists → List Program → ProgramRun → Told
 told_of schema programs given =
@@ -62,12 +62,12 @@ told_of schema programs given =
       named = named false units given.run ++ lines ∷ [];
     }
 
--- what is shown of a run of programs: all of it, or in brief what is shown behind others
+-- what is shown of a run of programs: all of it, or in brief what is shown after others
 abbrev pub shown_text : Lists → List Program → Option (List Told) → ProgramRun → List ℕ
 shown_text schema programs None given = given_text schema programs given
 shown_text schema programs (Some before) given = shown_behind before (told_of schema programs given) (given_text schema programs given)
 
--- behind those before stands this one too
+-- the results before, and then this one
 abbrev pub and_told : Lists → List Program → Option (List Told) → ProgramRun → Option (List Told)
 and_told schema programs before given = option_map (λ them. them ++ told_of schema programs given ∷ []) before
 
@@ -77,7 +77,7 @@ pub record IsResultText (schema : Lists) (programs : List Program) (told : List 
   pub is_run : IsRunOf schema asked.capacity programs (turns_of schema asked.capacity programs asked.around (Some (told ++ order))) given
   pub is_text : out ≡ result_head k (told ++ order) ++ shown_text schema programs before given
 
--- the texts of results, one after another, the first of them number k; in brief behind those before, and after them all stand behind
+-- the texts of results, one after another, the first of them number k; in brief each after the earlier ones, and then all are earlier ones
 abbrev pub AreResultTexts : Lists → List Program → List ℕ → Exploring → Option (List Told) → Option (List Told) → ℕ → List (List ℕ) → List ℕ → Type 0
 AreResultTexts schema programs told asked before after k [] out = (out ≡ []) × (after ≡ before)
 AreResultTexts schema programs told asked before after k (order ∷ orders) out =

@@ -49,7 +49,7 @@ fn turns_before(
     Ok(turns)
 }
 
-// The units whose statements they are.
+// The units of the statements, in turn.
 fn units_of(alloc: Global, history: &[Entry]) -> Result<Vec<u8>, AllocError>
     ensures { IfOk result (λ units. units.items ≡ map (λ e. e.unit) history.now) }
 {
@@ -60,8 +60,8 @@ fn units_of(alloc: Global, history: &[Entry]) -> Result<Vec<u8>, AllocError>
     Ok(units)
 }
 
-/// The turns that were taken, each of which makes a statement. The first program is given as many turns as a unit can have, and each
-/// state that is made anew would have them all.
+/// The turns that were taken, without those that make no statement: the first program is given as many turns as a unit can have, and each
+/// state that is made anew would take them all.
 pub fn begun_turns(alloc: Global, setting: &Setting) -> Result<Vec<u8>, AllocError>
     requires sound { IsSound setting.now.schema.now }
     requires few { length setting.now.programs.now ≤ LAST_UNIT }

@@ -8,7 +8,7 @@ use dbtg_schema::Schema;
 #[derive(Clone, Copy)]
 pub struct Exploring {
     pub capacity: u16,
-    /// Is there a program that is made first, and one that is made last?
+    /// Is there a program that is made first, or one that is made last?
     pub around: Around,
     /// Results are shown in brief.
     pub brief: bool,

@@ -132,7 +132,7 @@ fn push_result_head(
 }
 
 impl<'a> Setting<'a> {
-    // What tells a run of the programs from others. In the image of the run the units that have an area open then stand in the order of
+    // What tells a run of the programs from others. In the image of the run, the units that have an area open are then in the order of
     // their numbers.
     fn told(&self, alloc: Global, given: &mut ProgramRun) -> Result<Told, AllocError>
         requires few { length self.now.programs.now ≤ LAST_UNIT }
@@ -157,7 +157,7 @@ impl<'a> Setting<'a> {
         as_numbers(alloc, lines.as_slice())
     }
 
-    // What is shown of a run of the programs. In brief it then stands behind those before.
+    // What is shown of a run of the programs. In brief it is then appended to the earlier ones.
     fn push_given(
         &self,
         alloc: Global,

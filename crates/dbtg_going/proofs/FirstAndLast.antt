@@ -1,4 +1,4 @@
--- Programs around the others.
+-- Programs that run before and after the others.
 use Rattle.std.proofs.Common.{◌≡◌, ℕ, zero, suc, ◌+◌, ◌-◌, ◌<◌, Bool, true, false, ◌&&◌, List, [], ◌∷◌, length, map, ◌⊎◌, inl, inr, refl, ap, subst, sym, ◌∙◌, arith}
 use Rattle.std.specs.Prelude.{Option, cond, filter}
 use Rattle.std.specs.List.{list_all, range_with_len}
@@ -20,7 +20,7 @@ never : (b : Bool) → (b && false) ≡ false
 never true = refl
 never false = refl
 
--- one of these numbers fails
+-- if the test fails for one number of a range, it does not hold for all of them
 pub fails_at : (f : ℕ → Bool) (s n k : ℕ) → k < n → f (s + k) ≡ false → list_all f (range_with_len s n) ≡ false
 fails_at f s zero k within fails = absurd (omega arith)
 fails_at f s (suc n) zero within fails = let start : s + 0 ≡ s = omega arith in ap (λ b. b && list_all f (range_with_len (s + 1) n)) (sym (ap f start) ∙ fails)
@@ -28,7 +28,7 @@ fails_at f s (suc n) (suc k) within fails =
     let start : s + suc k ≡ s + 1 + k = omega arith in
     ap (λ b. f s && b) (fails_at f (s + 1) n k (omega arith) (sym (ap f start) ∙ fails)) ∙ never (f s)
 
--- these numbers hold, and one more
+-- if the test holds for these numbers and for one more, it holds for all of them
 pub holds_also : (f : ℕ → Bool) (n : ℕ) → list_all f (range_with_len 1 n) ≡ true → f (n + 1) ≡ true → list_all f (range_with_len 1 (n + 1)) ≡ true
 holds_also f n so_far here =
     let next : n + 1 ≡ suc n = omega arith in
@@ -36,13 +36,13 @@ holds_also f n so_far here =
     ap (λ k. list_all f (range_with_len 1 k)) next ∙ ap (list_all f) (range_more n 1) ∙ list_all-append f (range_with_len 1 n) ((1 + n) ∷ [])
     ∙ ap (λ b. b && list_all f ((1 + n) ∷ [])) so_far ∙ ap (λ k. list_all f (k ∷ [])) last ∙ ap (λ b. b && true) here
 
--- if there is no last program, each unit hears its turns
+-- if there is no last program, no turn is ignored
 pub all_heard : (units : ℕ) (turns : List ℕ) → filter (is_heard (record { first = false; last = false }) units) turns ≡ turns
 all_heard units [] = refl
 all_heard units (u ∷ turns) = ap (λ us. u ∷ us) (all_heard units turns)
 
 module _ (schema : Lists) (programs : List Program) (around : Around) where
-  -- a turn that is not heard
+  -- a turn that is ignored
   pub not_heard : (m : Making) (members : List Member) (u : ℕ) → IsUnderWay schema programs m members → is_heard around (length programs) u ≡ false
       → HaveTurned schema programs m (cond (is_heard around (length programs) u) (u ∷ []) []) m members
   not_heard m members u w e = turned_to schema programs m m [] (cond (is_heard around (length programs) u) (u ∷ []) []) members (sym (ap (λ b. cond b (u ∷ []) []) e)) (not_turned schema programs m members w)
@@ -52,14 +52,14 @@ module _ (schema : Lists) (programs : List Program) (around : Around) where
   nothing_first m members w e =
       turned_to schema programs m m [] (first_turns around (length programs)) members (sym (ap (λ b. cond b (to_the_end (others around (length programs) + 1)) []) e)) (not_turned schema programs m members w)
 
-  -- where others have not ended, the last program does nothing
+  -- if others have not ended, the last program does nothing
   pub nothing_last : (m : Making) (members : List Member) → IsUnderWay schema programs m members → (around.last ≡ false) ⊎ (have_ended schema programs m.history ≡ false) → HaveTurned schema programs m (last_turns schema programs around m.history) m members
   nothing_last m members w h =
       turned_to schema programs m m [] (last_turns schema programs around m.history) members
       (sym (ap (λ b. cond b (to_the_end (length programs)) []) (elim h [ inl e ↦ ap (λ b. b && have_ended schema programs m.history) e | inr e ↦ ap (λ b. around.last && b) e ∙ never around.last ])))
       (not_turned schema programs m members w)
 
-  -- first, others, last
+  -- the first program, the others, and the last one
   pub all_made : (old one two new : Making) (told : Option (List ℕ)) (members members' members'' : List Member) → old.history ≡ [] → HaveTurned schema programs old (first_turns around (length programs)) one members
       → HaveTurned schema programs one (other_turns around (length programs) told) two members' → HaveTurned schema programs two (last_turns schema programs around two.history) new members''
       → HaveTurned schema programs old (turns_of schema old.capacity programs around told) new members''
@@ -71,7 +71,7 @@ module _ (schema : Lists) (programs : List Program) (around : Around) where
       (turned_to schema programs two new (last_turns schema programs around two.history) (last_turns schema programs around (after_turns schema old.capacity programs [] (turns_before around (length programs) told))) members''
       (ap (last_turns schema programs around) history) last)
 
-  -- the run that is handed out
+  -- the run that is returned
   pub handed_all : (capacity : ℕ) (told : Option (List ℕ)) (m made : Making) (units : ℕ) (members : List Member) (given : ProgramRun) → m ≡ record { schema = schema; capacity = capacity; units = units; history = [] } → units ≡ length programs
       → HaveTurned schema programs m (turns_of schema m.capacity programs around told) made members → IsMadeRun made given.run → given.programs ≡ map reached_by members
       → IsRunOf schema capacity programs (turns_of schema capacity programs around told) given

@@ -1,4 +1,4 @@
--- Programs that begin together, and what is handed out of them.
+-- Programs that begin together, and the result that is returned of them.
 use Rattle.std.proofs.Common.{◌≡◌, ℕ, zero, suc, ◌+◌, ◌-◌, List, [], ◌∷◌, ◌++◌, length, map, Some, ◌⊎◌, inl, inr, refl, ap, subst, sym, ◌∙◌, slice_get, append-nil, arith}
 use Rattle.std.specs.Prelude.{option_map}
 use Rattle.std.specs.List.{flat_map, range_with_len}
@@ -79,13 +79,13 @@ module _ (schema : Lists) (programs : List Program) (old mid new : Making) (n : 
   pub unit_more : HaveTurned schema programs old (one_by_one n) mid before → HaveTurned schema programs mid (to_the_end (n + 1)) new after → HaveTurned schema programs old (one_by_one (n + 1)) new after
   unit_more a b = turned_to schema programs old new (one_by_one n ++ to_the_end (n + 1)) (one_by_one (n + 1)) after (sym (next_unit to_the_end n)) (turned_on schema programs old mid new (one_by_one n) (to_the_end (n + 1)) before after a b)
 
--- WHAT IS HANDED OUT
+-- WHAT IS RETURNED
 
 state_kept : (state : ProgramState) (d : code.Due) → state ≡ state_in (view_due state d)
 state_kept state (code_due.Statement s) = refl
 state_kept state (code_due.End how) = refl
 
--- a member is as far as its program is by definition
+-- a member is as far as the definition says of its program
 pub reached_there : (schema : Lists) (program : Program) (u : ℕ) (history : List Entry) (m : Member) → IsAt schema program (entries_of u history) m → reached_by m ≡ reached schema program u history
 reached_there schema program u history m at = λ i. record { standing = standing (at.made i) (at.going.comes i); state = (state_kept m.going.state m.going.due ∙ ap state_in at.going.comes) i }
 

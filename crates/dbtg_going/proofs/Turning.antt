@@ -1,4 +1,4 @@
--- What turns come to, and how members follow them.
+-- What turns lead to, and how members follow them.
 use Rattle.std.proofs.Common.{◌≡◌, ◌≢◌, ℕ, zero, suc, ◌+◌, ◌-◌, ◌<◌, ◌≤◌, Bool, true, false, List, [], ◌∷◌, ◌++◌, length, Option, Some, None, ◌⊎◌, inl, inr, refl, ap, subst, sym, ◌∙◌, slice_get, slice_set, arith}
 use Rattle.std.specs.Prelude.{Err, IfOk, Ok, OnOk, Result, slice_index_or, if◌then◌else◌, nat_lt, option_and_then, replicate}
 use Rattle.std.proofs.lemmas.List.{length-append, replicate-append-replicate}
@@ -46,7 +46,7 @@ one_turn : (schema : Lists) (capacity : ℕ) (programs : List Program) (history 
 unfolding after_turns
 one_turn schema capacity programs history u = refl
 
--- where a turn makes nothing, more of them make nothing
+-- if a turn makes nothing, more of them make nothing
 stays : (schema : Lists) (capacity : ℕ) (programs : List Program) (history : List Entry) (u n : ℕ) → after_turns schema capacity programs history (u ∷ []) ≡ history
     → after_turns schema capacity programs history (replicate n u) ≡ history
 unfolding after_turns
@@ -67,7 +67,7 @@ module _ (schema : Lists) (programs : List Program) where
         ∙ (λ i. record old { history = sym (turns_behind schema old.capacity programs old.history us vs) i });
   }
 
-  -- the same as a list of turns that is there already
+  -- the same for an equal list of turns
   pub turned_to : (old new : Making) (us vs : List ℕ) (members : List Member) → us ≡ vs → Turned old us new members → Turned old vs new members
   turned_to old new us vs members e t = subst (λ ts. Turned old ts new members) e t
 
@@ -76,7 +76,7 @@ module _ (schema : Lists) (programs : List Program) where
   turned_again old mid new u n before after a b =
       turned_to old new (replicate n u ++ u ∷ []) (replicate (n + 1) u) after (replicate-append-replicate n 1 u) (turned_on old mid new (replicate n u) (u ∷ []) before after a b)
 
-  -- where a turn makes nothing, all later ones are over
+  -- after a turn that makes nothing, the remaining turns of the unit make nothing
   pub turned_out : (old mid new : Making) (u n most : ℕ) (before after : List Member) → n < most → Turned old (replicate n u) mid before → Turned mid (u ∷ []) new after → new ≡ mid → Turned old (replicate most u) new after
   turned_out old mid new u n most before after few a b same =
       let none : after_turns schema mid.capacity programs mid.history (u ∷ []) ≡ mid.history = ap (λ (m : Making). m.history) (sym b.database ∙ same) in
@@ -97,7 +97,7 @@ module _ (schema : Lists) (programs : List Program) where
 
 -- A PROGRAM AND ITS ENTRIES
 
--- with one more entry of the statement that is due
+-- the entries with one more, for the statement that is due
 goes_on : (schema : Lists) (program : Program) (state : ProgramState) (es : List Entry) (e : Entry) → GoOn schema program state es → IsDue (next schema program (state_after schema program state es)) e.statement
     → GoOn schema program state (es ++ e ∷ [])
 goes_on schema program state [] e g d = (d, tt)
@@ -111,11 +111,11 @@ state_behind schema program state (f ∷ es) e = state_behind schema program (af
 awaited : (schema : Lists) (program : Program) (es : List Entry) (g : Going) (s : Statement) → IsGoing schema program es g → g.due ≡ code_due.Statement s → next schema program (state_after schema program (beginning program) es) ≡ due g.state s
 awaited schema program es g s at is = sym at.comes ∙ ap (view_due g.state) is
 
--- where a statement is due, the program stands at a sentence
+-- if a statement is due, the program stands at a sentence
 pub stands_there : (schema : Lists) (program : Program) (es : List Entry) (g : Going) (s : Statement) → IsGoing schema program es g → g.due ≡ code_due.Statement s → g.state.at < length program.lines
 stands_there schema program es g s at is = subst (Stands program g.state) is at.stands
 
--- a program that was told of the entry of its statement
+-- a program after the entry of its statement
 pub told_on : (schema : Lists) (program : Program) (es : List Entry) (e : Entry) (g : Going) (now after : ProgramState) (d : code.Due) → IsGoing schema program es g → g.due ≡ code_due.Statement e.statement
     → now ≡ told program g.state e.statement e.answer → view_due after d ≡ next schema program now → Stands program after d → IsGoing schema program (es ++ e ∷ []) (record { state = after; due = d })
 told_on schema program es e g now after d at is now_is comes stands =
@@ -129,11 +129,11 @@ told_on schema program es e g now after d at is now_is comes stands =
       are_of = goes_on schema program first es e at.are_of (subst (λ (n : Due). IsDue n e.statement) (sym waits) refl);
     }
 
--- a member that was told of it
+-- a member after this entry
 pub member_told : (schema : Lists) (program : Program) (es : List Entry) (e : Entry) (m : Member) (g : Going) → IsAt schema program es m → IsGoing schema program (es ++ e ∷ []) g → IsAt schema program (es ++ e ∷ []) (record { going = g; made = m.made + 1 })
 member_told schema program es e m g at on = record { made = ap (λ n. n + 1) at.made ∙ sym (length-append es (e ∷ [])); going = on }
 
--- before its first statement
+-- a program before its first statement
 pub begins : (schema : Lists) (program : Program) (g : Going) → comes_of g ≡ next schema program (beginning program) → Stands program g.state g.due → IsGoing schema program [] g
 begins schema program g comes stands = record { comes = comes; stands = stands; are_of = tt }
 
@@ -147,14 +147,14 @@ some_if : {X : Type 0} (b : Bool) (x y : X) → (if b then Some x else None) ≡
 some_if true x y e = (refl, cc)
 some_if false x y e = absurd cc
 
--- a statement that is due, and is one of the schema
+-- a statement that is due and that the schema has
 pub is_due : (schema : Lists) (state : ProgramState) (d : code.Due) (x : Statement) → statement_due schema (view_due state d) ≡ Some x → (d ≡ code_due.Statement x) × (fits schema x ≡ true)
 is_due schema state (code_due.End how) x e = absurd cc
 is_due schema state (code_due.Statement s) x e =
     let found = some_if (fits schema s) s x e in
     (ap code_due.Statement found.1, subst (λ z. fits schema z ≡ true) found.1 found.0)
 
--- a statement that is to be made is due, is not one too many, and is of the schema
+-- a statement that is to be made is due, is within the limit, and fits the schema
 pub to_be_made : (schema : Lists) (n : ℕ) (state : ProgramState) (d : code.Due) (x : Statement) → due_after schema n (view_due state d) ≡ Some x → (d ≡ code_due.Statement x) × (nat_lt n MOST_STATEMENTS ≡ true) × (fits schema x ≡ true)
 to_be_made schema n state d x e =
     let few = test_holds (nat_lt n MOST_STATEMENTS) (statement_due schema (view_due state d)) x e in
@@ -168,7 +168,7 @@ paired (x ∷ xs) [] k y count e = absurd (omega arith)
 paired (x ∷ xs) (z ∷ ys) zero y count e = (x, refl)
 paired (x ∷ xs) (z ∷ ys) (suc k) y count e = paired xs ys k y (omega arith) e
 
--- two lists of one length have the same numbers
+-- lists of the same length have elements with the same numbers
 pub paired_at : {X Y : Type 0} (xs : List X) (ys : List Y) (u : ℕ) (y : Y) → length ys ≡ length xs → unit_at ys u ≡ Some y → (x : X) × (unit_at xs u ≡ Some x)
 unfolding unit_at
 paired_at xs ys zero y count e = absurd cc
@@ -185,7 +185,7 @@ nobody xs zero h = refl
 nobody xs (suc k) (inl e) = absurd (omega arith)
 nobody xs (suc k) (inr h) = none_beyond xs k (omega arith)
 
--- what stands at an index has the next number
+-- the element at an index has the next number
 pub numbered : {X : Type 0} (xs : List X) (u : ℕ) (x : X) → 0 < u → slice_get xs (u - 1) ≡ Some x → unit_at xs u ≡ Some x
 unfolding unit_at
 numbered xs zero x some e = absurd (omega arith)
@@ -213,13 +213,13 @@ index_is [] k x d e = absurd cc
 index_is (y ∷ xs) zero x d e = cc
 index_is (y ∷ xs) (suc k) x d e = index_is xs k x d e
 
--- the element of a number, by its index
+-- the element with a number, by its index
 pub index_at : {X : Type 0} (xs : List X) (u : ℕ) (x d : X) → unit_at xs u ≡ Some x → slice_index_or xs (u - 1) d ≡ x
 unfolding unit_at
 index_at xs zero x d e = absurd cc
 index_at xs (suc k) x d e = let index : suc k - 1 ≡ k = omega arith in ap (λ i. slice_index_or xs i d) index ∙ index_is xs k x d e
 
--- and the other way round
+-- the converse
 pub at_index : {X : Type 0} (xs : List X) (u : ℕ) (d : X) → 0 < u → u ≤ length xs → unit_at xs u ≡ Some (slice_index_or xs (u - 1) d)
 at_index xs u d some within = let x = numbered_one xs u some within in x.1 ∙ ap Some (sym (index_at xs u x.0 d x.1))
 
@@ -241,7 +241,7 @@ if_both (Err e) f p q = p
 
 -- ONE ENTRY MORE
 
--- with an entry of unit u, and for its program one that is so after it, there is one for each program again
+-- if an entry of unit u is added, and the relation holds for its program after it, there is again one for each program
 module _ {X : Type 0} (Is : Program → List Entry → X → Type 0) (programs : List Program) (history : List Entry) (xs : List X) (are : AreEach Is programs history xs) (u : ℕ) (entry : Entry) (of_u : entry.unit ≡ u) (program : Program) (x new : X)
     (program_found : unit_at programs u ≡ Some program) (found : unit_at xs u ≡ Some x) (on : Is program (entries_of u history ++ entry ∷ []) new) where
   each_then : (v : ℕ) (p : Program) → unit_at programs v ≡ Some p → (y : X) × (unit_at (with_unit_at xs u new) v ≡ Some y) × Is p (entries_of v (history ++ entry ∷ [])) y
@@ -275,7 +275,7 @@ pub record Awaits (schema : Lists) (programs : List Program) (m : Making) (membe
   pub fit : fits schema x ≡ true
 
 module _ (schema : Lists) (programs : List Program) (m : Making) (members : List Member) (w : IsUnderWay schema programs m members) (u : ℕ) where
-  -- what the member of a unit would make is the statement of the unit's turn
+  -- the statement that the member of a unit would make is that of the unit's turn
   pub said_by : (member : Member) → unit_at members u ≡ Some member → due_after schema member.made (comes_of member.going) ≡ statement_of schema programs m.history u
   said_by member found =
       let program = paired_at programs members u member w.are_at.count found in
@@ -292,7 +292,7 @@ module _ (schema : Lists) (programs : List Program) (m : Making) (members : List
       let made = to_be_made schema there.0.made there.0.going.state there.0.going.due x (said_by there.0 there.1 ∙ said) in
       record { program = program.0; member = there.0; program_found = program.1; member_found = there.1; at = there.2; due_is = made.0; few = made.1; fit = made.2 }
 
-  -- with no unit with this number there is none
+  -- if there is no unit with this number, there is no statement
   pub said_by_nobody : (u ≡ 0) ⊎ (length members < u) → statement_of schema programs m.history u ≡ None
   said_by_nobody h =
       ap (option_and_then (λ (p : Program). due_after schema (length (entries_of u m.history)) (comes schema p u m.history)))

@@ -96,11 +96,11 @@ others around units = one_less around.first (one_less around.last units)
 abbrev pub first_turns : Around → ℕ → List ℕ
 first_turns around units = if around.first then to_the_end (others around units + 1) else []
 
--- it is not the unit of the last program, which has the highest number
+-- the turns of this unit are not ignored: it is not that of the last program, which has the highest number
 abbrev pub is_heard : Around → ℕ → ℕ → Bool
 is_heard around units u = not (around.last && u == units)
 
--- the turns that are given, without those of the last program's unit; if none are given each of the others goes to its end
+-- the given turns, without those of the last program's unit; if none are given, each of the others goes to its end
 abbrev pub other_turns : Around → ℕ → Option (List ℕ) → List ℕ
 other_turns around units (Some turns) = filter (is_heard around units) turns
 other_turns around units None = one_by_one (others around units)
@@ -129,7 +129,7 @@ abbrev pub making_by : Lists → ℕ → List Program → List ℕ → Making
 making_by schema capacity programs turns = record { schema = schema; capacity = capacity; units = length programs; history = after_turns schema capacity programs [] turns }
 
 -- a run by these turns: its history is that of the turns and of the sequential database, its image and its units are those to which the
--- history leads; the entries of each unit are of its program; and it is said how far each program is
+-- history leads; the entries of each unit belong to its program; and it says how far each program is
 pub record IsRunOf (schema : Lists) (capacity : ℕ) (programs : List Program) (turns : List ℕ) (given : ProgramRun) : Type 0 where
   pub run : IsMadeRun (making_by schema capacity programs turns) given.run
   pub of_programs : (u : ℕ) (program : Program) → unit_at programs u ≡ Some program → AreOf schema program (entries_of u given.run.history)

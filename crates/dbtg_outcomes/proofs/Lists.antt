@@ -1,4 +1,4 @@
--- Lists, their elements with weights, and groups of them by key: nothing of databases.
+-- Lists, weights of their elements, and groups of them by key; nothing about databases.
 -- May use: the standard library.
 -- Promises: `Weights`: lists that have the same groups, however they are laid out.
 pub mod Behind

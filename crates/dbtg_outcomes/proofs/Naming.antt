@@ -1,4 +1,4 @@
--- The names of records tell them apart; the lists of sets, with those of one set more.
+-- The names of records tell them apart; and the lists of sets, with those of one more set.
 -- s is the number of a set.
 use Rattle.std.proofs.Common.{◌≡◌, ℕ, ◌+◌, ◌<◌, Bool, List, [], ◌∷◌, ◌++◌, Option, Some, None, ◌∙◌, length, get_or, take, map, if◌then◌else◌, refl, sym, ap, arith, append-nil, append_assoc}
 use Rattle.std.specs.Prelude.{position}
@@ -63,7 +63,7 @@ module _ (keys : List DbKey) where
 
 -- ALL FACTS
 
--- four lists one behind another
+-- four lists, one after another
 four_behind : {X : Type 0} (a b d : List X) (x : X) → ((a ++ b) ++ x ∷ []) ++ d ≡ a ++ (b ++ x ∷ d)
 four_behind a b d x = append_assoc (a ++ b) (x ∷ []) d ∙ append_assoc a b (x ∷ d)
 

@@ -1,4 +1,4 @@
--- The orders of the statements of scripts: how they are merged, begun and gone on with.
+-- The orders of the statements of scripts: how they are merged, begun and continued.
 -- May use: `Lists`.
 -- Promises: `Merges`: the orders are all merges of the scripts; `Extending`: groups go on by one statement.
 pub mod Begun

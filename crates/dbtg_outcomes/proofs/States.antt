@@ -1,7 +1,7 @@
--- The states that orders lead to, layer by layer, and what comes out in the end.
+-- The states that orders lead to, layer by layer, and the results in the end.
 -- May use: `Lists` and `Orders`, and the image and replay of dbtg_unit.
--- Promises: `SameStates`: what a search may put together; `Results`, `ComesOut`: what is given out is all that can come out; `Broken`:
--- the turns that break a wish are found, where there are any.
+-- Promises: `SameStates`: what a search may put together; `Results`, `ComesOut`: what is returned is all that can come out; `Broken`:
+-- the turns that break a wish are found, if there are any.
 pub mod Alike
 pub mod Broken
 pub mod ComesOut

@@ -1,4 +1,4 @@
--- Databases that differ in the order in which units opened an area: statements answer alike from them, for ever.
+-- Databases that differ in the order in which units opened an area: statements get the same answers from both, for ever.
 -- a is an area, u a unit.
 use Rattle.std.specs.Prelude.{ℕ, ◌≡◌, ◌==◌, List, Option, filter}
 use Rattle.dbtg_schema.specs.Lists.{Lists}
@@ -14,7 +14,7 @@ use Rattle.dbtg_unit.specs.Database.Laws.Replay.{State, answers, state_after}
 abbrev pub uses_of : ℕ → List (ℕ × Mode) → List (ℕ × Mode)
 uses_of u = filter (λ e. e.0 == u)
 
--- a state without the order in which units opened an area: of each area it has how each unit has it open
+-- a state without the order in which units opened an area: for each area it says how each unit has it open
 pub record Unordered : Type 0 where
   pub records : DbKey → Option Record
   pub lists : ℕ → Owner → Option (List DbKey)
@@ -32,12 +32,12 @@ unordered s =
       units = s.units;
     }
 
--- the same statements get the same answers from both states, and lead to states that are one without that order
+-- the same statements get the same answers from both states, and lead to states that differ at most in that order
 pub record GoOnAlike (schema : Lists) (capacity : ℕ) (one other : State) (statements : List (ℕ × Statement)) : Type 0 where
   pub answers_are : answers schema capacity one statements ≡ answers schema capacity other statements
   pub alike : unordered (state_after schema capacity one statements) ≡ unordered (state_after schema capacity other statements)
 
--- from states that are one without that order, whatever the statements
+-- this holds for states that differ at most in that order, whatever the statements
 abbrev pub OrderOfOpeningIsNoState : Type 0
 OrderOfOpeningIsNoState =
     (schema : Lists) (capacity : ℕ) (one other : State) (statements : List (ℕ × Statement)) → unordered one ≡ unordered other → GoOnAlike schema capacity one other statements

@@ -1,4 +1,4 @@
--- Lists in groups: those of one group have the same key.
+-- Lists in groups: the elements of a group have the same key.
 use Rattle.std.specs.Prelude.{ℕ, Bool, ◌||◌, false, List, [], ◌∷◌, filter, length, map, if◌then◌else◌}
 use Rattle.std.specs.Str.{bytes_eq}
 
@@ -7,7 +7,7 @@ abbrev pub among : List (List ℕ) → List ℕ → Bool
 among [] k = false
 among (j ∷ js) k = bytes_eq k j || among js k
 
--- those of xs whose key is none of those before, nor that of an earlier one
+-- the elements of xs whose key is not among these, nor that of an earlier element
 abbrev pub firsts : {A : Type 0} → (A → List ℕ) → List (List ℕ) → List A → List A
 firsts key before [] = []
 firsts key before (x ∷ xs) =

@@ -28,7 +28,7 @@ pub record IsMerge (scripts : List (List Statement)) (o : List (ℕ × Statement
   pub of_units : (s : ℕ × Statement) → Contains o s → (0 < s.0) × (s.0 ≤ length scripts)
   pub of_scripts : (u : ℕ) (script : List Statement) → unit_at scripts u ≡ Some script → map (λ s. s.1) (filter (λ s. s.0 == u) o) ≡ script
 
--- the units whose turn it is
+-- the units of the statements, in turn
 abbrev pub turns : List (ℕ × Statement) → List ℕ
 turns o = map (λ s. s.0) o
 
@@ -43,7 +43,7 @@ pub record IsBefore (ns ks : List ℕ) : Type 0 where
   pub first_is : ns ≡ both ++ low ∷ rest
   pub second_is : ks ≡ both ++ high ∷ others
 
--- the turns of each come before those of all that follow, as in a dictionary
+-- the turns of each come before those of all later ones, as in a dictionary
 abbrev pub AreInOrder : List (List (ℕ × Statement)) → Type 0
 AreInOrder [] = ⊤
 AreInOrder (o ∷ os) = ((p : List (ℕ × Statement)) → Contains os p → IsBefore (turns o) (turns p)) × AreInOrder os
@@ -65,11 +65,11 @@ pub record AreAllMerges (first : Bool) (scripts : List (List Statement)) : Type 
 pub record IsAtEnd (schema : Lists) (capacity : ℕ) (s : State (network schema capacity)) : Type 0 where
   pub each : (u : ℕ) (state : UnitState (network schema capacity)) → unit_at s.units u ≡ Some state → (state.remaining ≡ []) × (state.progress ≡ None)
 
--- the answers of each unit in a run as they are printed, without their tickets, if they tell results apart
+-- the answers of each unit in a run, as they are printed, without their tickets, if they tell results apart
 abbrev pub answers_of_run : Meeting → Run → List (List ℕ)
 answers_of_run m run = if m.tells then map (λ u. answers_text m.schema (map untimed (entries_of u run.history))) (units_of m) else []
 
--- the text of a run by which its result is told from others: these answers, and what is printed after `--`, except that the units
+-- the text of a run that tells its result from others: these answers, and what is printed after `--`, except that the units
 -- that have an area open are in the order of their numbers
 abbrev pub text_of_run : Meeting → Run → List ℕ
 text_of_run m run =
@@ -98,6 +98,6 @@ pub record MakesAll (m : Meeting) (run : Run) : Type 0 where
   pub of_scripts : (u : ℕ) (script : List Statement) → unit_at m.scripts u ≡ Some script → map (λ e. e.statement) (entries_of u run.history) ≡ script
   pub begins : BeginsWith (made_first m.first m.scripts) (statements_of run.history)
 
--- such a history comes out, wherever it comes from
+-- such a history comes out, wherever it was made
 abbrev pub EveryHistoryComesOut : Meeting → Type 0
 EveryHistoryComesOut m = (run : Run) → MakesAll m run → ComesOut m run

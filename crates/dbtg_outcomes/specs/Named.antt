@@ -1,6 +1,6 @@
 -- What a run leaves behind, with each record named by its STORE in place of its number and generation.
--- stored are the keys of all records that units stored, a fact is something that a run leaves behind, spelled as numbers: what kind it
--- is, of which unit or set, and then the thing; u is a unit.
+-- stored are the keys of all records that units stored; a fact is something that a run leaves behind, spelled as numbers: first its
+-- kind, then its unit or set, and then the thing; u is a unit.
 use Rattle.std.specs.Prelude.{ℕ, ◌+◌, Bool, List, [], ◌∷◌, ◌++◌, Option, Some, None, flat_map, if◌then◌else◌, map, option_to_list, position}
 use Rattle.dbtg_cells.specs.declared.key.DbKey.{DbKey}
 use Rattle.dbtg_cells.specs.declared.key.Owner.{Owner}
@@ -27,11 +27,11 @@ abbrev pub stored_by : Statement → List DbKey → List DbKey
 stored_by (Store t items suppress) keys = keys
 stored_by _ keys = []
 
--- the keys of the records that the units stored: by units, and those of a unit in the order in which it stored them
+-- the keys of the records that the units stored: unit by unit, and for each unit in the order in which it stored them
 abbrev pub stored : List ℕ → List Entry → List DbKey
 stored units history = flat_map (λ u. flat_map (λ e. stored_by e.statement (option_to_list e.answer.key)) (entries_of u history)) units
 
--- the name of a record: its type, and how many were stored before it; of a key that no STORE gave, all of the key
+-- the name of a record: its type, and how many were stored before it; if no STORE gave the key, the whole key
 abbrev pub name_at : DbKey → Option ℕ → List ℕ
 name_at k (Some place) = 0 ∷ k.rtype ∷ place ∷ []
 name_at k None = 1 ∷ key_numbers k
@@ -63,7 +63,7 @@ answer_name stored e =
 abbrev pub fact : ℕ → ℕ → List ℕ → List ℕ
 fact kind of numbers = kind ∷ of ∷ numbers
 
--- the answers of a unit, one behind another
+-- the answers of a unit, one after another
 abbrev pub answers_fact : List DbKey → List Entry → ℕ → List ℕ
 answers_fact stored history u = fact 0 u (flat_map (answer_name stored) (entries_of u history))
 
@@ -86,7 +86,7 @@ usage_fact units usage = fact 4 0 (list_numbers (list_numbers (pair_numbers one_
 abbrev pub image_facts : List DbKey → Image → List (List ℕ)
 image_facts stored image = map (λ r. fact 5 0 (pair_numbers (key_name stored) (list_numbers value_numbers) r)) image.records ++ list_facts stored 0 image.lists
 
--- all that these units leave behind in a run: their answers where they tell results apart, their currents and what they keep, and what is
+-- all that these units leave behind in a run: their answers if they tell results apart, their currents and what they keep, and what is
 -- in the database
 abbrev pub named : Bool → List ℕ → Run → List (List ℕ)
 named tells units run =

@@ -23,7 +23,7 @@ pub record IsMeeting (m : Meeting) : Type 0 where
   pub few : length m.scripts ≤ LAST_UNIT
   pub fit : scripts_fit m.schema m.scripts ≡ true
 
--- a group of orders as a result: the turns of the first, and how many they are
+-- a group of orders as a result: the turns of the first, and the number of orders
 abbrev pub result_of : List (ℕ × Statement) × ℕ → OneResult
 result_of g = record { turns = map (λ s. s.0) g.0; orders = counted g.1 }
 
@@ -70,12 +70,12 @@ places_from u (script ∷ scripts) = map (λ i. (u, i)) (range_with_len 1 (lengt
 abbrev pub states_after : Meeting → ℕ → ℕ
 states_after m n = length (groups (state_key m) (orders_after m.first m.scripts n))
 
--- and after that many and fewer
+-- how many there are after at most that many
 abbrev pub states_within : Meeting → ℕ → ℕ
 states_within m zero = states_after m zero
 states_within m (suc n) = states_within m n + states_after m (suc n)
 
--- on all orders
+-- how many there are on all orders
 abbrev pub count_states : Meeting → ℕ
 count_states m = states_within m (count_statements (others m.first m.scripts))
 

@@ -1,4 +1,4 @@
--- What an order leads to: the state after it, and the text by which its result is told from others; and that text line
+-- What an order leads to: the state after it, and the text that tells its result from others; and that text line
 -- by line.
 -- m is a meeting of scripts, u a unit.
 use Rattle.std.specs.Prelude.{ℕ, ◌+◌, ◌==◌, Bool, List, [], ◌∷◌, ◌++◌, map, filter, length, option_map, option_to_list, flat_map, decimal, if◌then◌else◌}
@@ -52,7 +52,7 @@ abbrev pub unit_answers : Meeting → List (ℕ × Statement) → ℕ → List �
 unit_answers m order u =
     answers_text m.schema (entries_of u (entries_in m.schema m.capacity (opening_state m.schema (length m.scripts)) order))
 
--- those of each unit, if they tell results apart
+-- the answers of each unit, if they tell results apart
 abbrev pub answers_told : Meeting → List (ℕ × Statement) → List (List ℕ)
 answers_told m order = if m.tells then map (unit_answers m order) (units_of m) else []
 
@@ -60,7 +60,7 @@ answers_told m order = if m.tells then map (unit_answers m order) (units_of m) e
 abbrev pub by_unit : List ℕ → List (ℕ × Mode) → List (ℕ × Mode)
 by_unit units users = flat_map (λ u. filter (λ e. e.0 == u) users) units
 
--- an image in which they are in that order
+-- an image with the units that have an area open in that order
 abbrev pub in_unit_order : List ℕ → Image → Image
 in_unit_order units image = record image { usage = map (by_unit units) image.usage }
 
@@ -92,7 +92,7 @@ abbrev pub all_placed_answers : Lists → ℕ → List Entry → List ℕ
 all_placed_answers schema place [] = []
 all_placed_answers schema place (e ∷ es) = placed_answer schema place e ++ all_placed_answers schema (place + 1) es
 
--- those of each unit in a run, where they tell results apart
+-- those of each unit in a run, if they tell results apart
 abbrev pub placed_told : Meeting → List Entry → List ℕ
 placed_told m history = if m.tells then flat_map (λ u. all_placed_answers m.schema 1 (map untimed (entries_of u history))) (units_of m) else []
 

@@ -1,4 +1,4 @@
--- Things spelled as numbers: the numbers tell things apart, and where one ends.
+-- Things spelled as numbers: the numbers tell things apart, and tell where each ends.
 use Rattle.std.specs.Prelude.{ℕ, ◌≡◌, List, [], ◌∷◌, ◌++◌, Option, Some, None, length, flat_map}
 use Rattle.dbtg_cells.specs.declared.key.DbKey.{DbKey}
 use Rattle.dbtg_cells.specs.declared.key.Owner.{Owner}
@@ -12,7 +12,7 @@ use Rattle.dbtg_unit.specs.declared.unit.Currency.{Currency}
 use Rattle.dbtg_unit.specs.declared.unit.Unit as unit
 use Rattle.dbtg_unit.specs.Database.State.Image.{Image}
 
--- whatever is spelled after two things, if everything is spelled alike the things are equal, and so is what follows them
+-- whatever is spelled after two things: if all is spelled alike, the things are equal, and so is what follows them
 abbrev pub Apart : {X : Type 0} → (X → List ℕ) → Type 0
 Apart {X} numbers = (x y : X) (a b : List ℕ) → numbers x ++ a ≡ numbers y ++ b → (x ≡ y) × (a ≡ b)
 

@@ -38,7 +38,7 @@ fn push_marked(out: &mut Vec<u8>, mark: &[u8], line: &[u8]) -> Result<(), AllocE
     Ok(())
 }
 
-// The lines of a text that another has not, each behind the mark.
+// The lines of a text that another does not have, each after the mark.
 fn push_lines_apart(
     out: &mut Vec<u8>,
     mark: &[u8],
@@ -103,7 +103,7 @@ fn like(before: &[Told], told: &Told) -> Option<u64>
     }
 }
 
-// That a result is like another, or how it differs from the first.
+// The line that a result is like another, or how it differs from the first.
 fn push_brief(
     out: &mut Vec<u8>,
     like: Option<u64>,
@@ -120,7 +120,7 @@ fn push_brief(
     out.extend_from_slice(b" but for numbers\n")
 }
 
-// What is shown of a result behind others: of the first the whole.
+// What is shown of a result after others; the first is shown whole.
 fn push_behind(
     out: &mut Vec<u8>,
     before: &[Told],
@@ -140,7 +140,7 @@ fn push_behind(
     }
 }
 
-/// Before the first result there is none, where results are shown in brief.
+/// Before the first result there is none, if results are shown in brief.
 pub fn none_before(alloc: Global, brief: bool) -> Option<Row<Told>>
     ensures { result ≡ none_before brief }
 {
@@ -151,7 +151,7 @@ pub fn none_before(alloc: Global, brief: bool) -> Option<Row<Told>>
     }
 }
 
-/// Shows a result behind others, of the first the whole, and puts it behind them.
+/// Shows a result after others, the first whole, and appends it to them.
 pub fn push_shown(
     out: &mut Vec<u8>,
     before: &mut Row<Told>,

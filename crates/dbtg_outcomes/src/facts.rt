@@ -60,7 +60,7 @@ fn push_each<T: Named>(
     Ok(())
 }
 
-// The answers of a unit, one behind another.
+// The answers of a unit, one after another.
 fn name_answers(
     numbers: &mut Vec<u64>,
     stored: &[DbKey],
@@ -96,7 +96,7 @@ fn push_answers_of(
     Ok(())
 }
 
-// The answers of each unit, where they tell results apart.
+// The answers of each unit, if they tell results apart.
 fn answers_facts(
     alloc: Global,
     tells: bool,
@@ -200,7 +200,7 @@ fn push_image(
     push_lists(alloc, facts, stored, image.lists.as_slice())
 }
 
-/// What these units leave behind in a run, their answers too where they tell results apart.
+/// What these units leave behind in a run, with their answers if these tell results apart.
 pub fn named(alloc: Global, tells: bool, units: u8, run: &Run) -> Result<Row<Row<u64>>, AllocError>
     ensures { IfOk result (λ facts. facts ≡ named tells (range_with_len 1 units) run.now) }
 {

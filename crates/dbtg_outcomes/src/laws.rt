@@ -28,7 +28,7 @@ pub fn every_history_comes_out()
     ensures { (m : Meeting) → EveryHistoryComesOut m }
 {}
 
-/// Different records have different names, whatever records were stored: so results that are alike but for numbers are made one by
+/// Different records have different names, whatever records were stored: so results that are alike except for numbers become the same by
 /// renamings that are one-to-one.
 pub fn names_tell_records_apart()
     ensures { (stored : List DbKey) → Apart (key_name stored) }

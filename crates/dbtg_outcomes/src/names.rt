@@ -24,7 +24,7 @@ fn stored_by(entry: &Entry) -> Option<DbKey>
     }
 }
 
-// The keys of the records that a unit stored go behind others.
+// Appends the keys of the records that a unit stored.
 fn push_stored(keys: &mut Vec<DbKey>, history: &[Entry], unit: u8) -> Result<(), AllocError>
     ensures { OnOk result (keys.new.items ≡ keys.old.items ++ flat_map (λ e. stored_by e.statement (option_to_list e.answer.key)) (entries_of unit history.now)) }
 {
@@ -61,7 +61,7 @@ pub trait Named {
     /// The numbers of a thing.
     ghost named: { List GivenKey → Self → List ℕ };
 
-    /// Its numbers go behind the others.
+    /// Appends its numbers.
     fn name(&self, stored: &[DbKey], out: &mut Vec<u64>) -> Result<(), AllocError>
         ensures { OnOk result (out.new.items ≡ out.old.items ++ named stored.now self.now) };
 }

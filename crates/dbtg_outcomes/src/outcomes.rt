@@ -83,7 +83,7 @@ fn by_result(alloc: Global, meeting: &Meeting, last: &[Group]) -> Result<Vec<Gro
     results.into_groups(alloc)
 }
 
-// Whose turn it is, entry by entry.
+// The units of the entries, in turn.
 pub(crate) fn turns_of(alloc: Global, history: &[Entry]) -> Result<Row<u8>, AllocError>
     ensures { IfOk result (λ turns. turns ≡ map (λ e. e.unit) history.now) }
 {

@@ -85,7 +85,7 @@ impl<'a> Meeting<'a> {
         }
     }
 
-    // The turns up to the statement that breaks the wish, after the first of these groups in which it does.
+    // The turns up to the statement that breaks the wish, after the first of these groups in which one does.
     fn broken_in(
         &self,
         alloc: Global,
@@ -109,7 +109,7 @@ impl<'a> Meeting<'a> {
     }
 }
 
-// Whose turn it is, entry by entry, and then this unit's.
+// The units of the entries, in turn, and then this unit.
 fn turns_up_to(alloc: Global, history: &[Entry], unit: u8) -> Result<Row<u8>, AllocError>
     ensures { IfOk result (λ turns. turns ≡ map (λ e. e.unit) history.now ++ unit ∷ []) }
 {

@@ -25,11 +25,11 @@ sequential_shown c =
     ap (λ (h : List Entry). replay c.schema c.capacity (opening_state c.schema (length c.runners)) h) (history_shown c)
     ∙ ap (λ (n : ℕ). replay c.schema c.capacity (opening_state c.schema n) (map entry_of (machine c).state.history)) (sym (length-map c.runners (unit_state_of c.schema c.capacity)))
 
--- how many units it has
+-- how many units the core has
 opened : (c : CoreParts) → length (machine c).opening.units ≡ length c.runners
 opened c = length-map (range_with_len 1 (length c.runners)) (opening_unit c.schema) ∙ length-range_with_len 1 (length c.runners)
 
--- a move leaves its schema and the number of its units as they are
+-- a move leaves the schema and the number of units unchanged
 module _ (old new : CoreParts) (m : Move) (moved : machine new ≡ after_move (machine old) m) where
   pub same_schema : new.schema ≡ old.schema
   same_schema = ap (λ (c : CoreState). c.schema) moved
@@ -57,7 +57,7 @@ ticket_shown c schema answer same is =
     row_shown c answer
     ∙ ap (core_row (machine c)) (is ∙ ap (λ (s : Lists). newest_answer s c.history) (sym same) ∙ ap (newest_answer c.schema) (history_shown c))
 
--- one move more: its rows stand before those of the rest
+-- one more move: its rows come before those of the rest
 pub move_shown : (out more : List ℕ) (old new : CoreState) (m : Move) (ms rest : List Move) (whole : List ℕ) → ms ≡ m ∷ rest → new ≡ after_move old m
     → more ≡ out ++ move_rows old m → out ++ rows_of_moves old ms ≡ whole → more ++ rows_of_moves new rest ≡ whole
 move_shown out more old new m ms rest whole split moved pushed before =

@@ -10,7 +10,7 @@ use Rattle.dbtg_timeline.specs.Waiting.{area_name, cell_text}
 use Rattle.dbtg_page.specs.Json.{field, quoted, row}
 use Rattle.dbtg_page.specs.Rows.{about_event, event_row}
 
--- what HTML or JSON could take for something else is written as its number; so is the end of a line
+-- what HTML or JSON could misread is written as its number, and so is the end of a line
 marks_are_numbers : quoted (codes "A<B\"C\\\n~") ≡ codes "\"A\\u003cB\\u0022C\\u005c\\u000a~\""
 unfolding quoted
 marks_are_numbers = refl

@@ -6,7 +6,7 @@ use Rattle.std.specs.List.{flat_map}
 abbrev pub digit : ℕ → ℕ
 digit n = if nat_lt n 10 then 48 + n else 87 + n
 
--- a byte that JSON does not take as it is, one that is not printable ASCII, or <, which could end the data in a page
+-- a byte that JSON does not take as it is: not printable ASCII, or <, which could end the data in a page
 abbrev pub is_escaped : ℕ → Bool
 is_escaped b = nat_lt b 32 || (nat_lt 126 b || (b == 34 || (b == 60 || b == 92)))
 
@@ -18,7 +18,7 @@ byte_text b = if is_escaped b then codes "\\u00" ++ digit (b / 16) ∷ digit (b 
 unfoldable pub quoted : List ℕ → List ℕ
 quoted text = 34 ∷ flat_map byte_text text ++ 34 ∷ []
 
--- a string, after another
+-- a string after another
 unfoldable pub field : List ℕ → List ℕ
 field text = 44 ∷ quoted text
 

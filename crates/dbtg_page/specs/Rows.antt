@@ -1,6 +1,6 @@
--- The page of a run: what surrounds its data, and their rows. A row for the names of each part of the schema, one for the
--- table of causes, one for the statements of each script, one for the opening database, one for each event, and after that of a ticket
--- one for what the ticket leads to.
+-- The page of a run: what surrounds its data, and their rows: one for the names of each part of the schema, one for the
+-- table of causes, one for the statements of each script, one for the opening database, and one for each event; after that of a ticket
+-- there is one for what the ticket leads to.
 use Rattle.std.specs.Prelude.{ℕ, ◌-◌, List, [], ◌∷◌, ◌++◌, codes, decimal, length, map, option_and_then, option_map, slice_get, unwrap_or}
 use Rattle.std.specs.List.{flat_map}
 use Rattle.dbtg_schema.specs.Lists.{Lists}
@@ -54,14 +54,14 @@ core_row c answer = state_row c.schema answer (image_of c.schema c.capacity (seq
 abbrev pub newest_answer : Lists → List Entry → List ℕ
 newest_answer schema history = unwrap_or (option_map (answer_text schema) (slice_get history (length history - 1))) []
 
--- the name of the area that unit u took last, and the text of the cell
+-- the name of the area that unit u took last, and the text of the cell that it took last
 abbrev pub newest_area : CoreState → ℕ → List ℕ
 newest_area c u = unwrap_or (option_map (area_name c.schema) (option_and_then (λ (it : Newest). it.area) (newest_at c u))) []
 
 abbrev pub newest_cell : CoreState → ℕ → List ℕ
 newest_cell c u = unwrap_or (option_map (cell_text c.schema) (option_and_then (λ (it : Newest). it.cell) (newest_at c u))) []
 
--- what an event of unit u is about: the area or the cell that it took, or else for what the unit waits, and who holds that
+-- what an event of unit u is about: the area or the cell that it took, or else what the unit waits for, and who holds that
 abbrev pub about_event : CoreState → ℕ → Mark → List ℕ → List ℕ
 about_event c u TakeArea wait = newest_area c u
 about_event c u TakeCell wait = newest_cell c u

@@ -1,4 +1,4 @@
-//! What comes before a page's data: its parts, and how they look, on a light or a dark ground as the reader's browser asks.
+//! What comes before a page's data: its parts, and how they look, on a light or a dark background as the reader's browser asks.
 
 pub static MARKUP: &str = "\
 <!DOCTYPE html>

@@ -185,7 +185,7 @@ fn push_newest(out: &mut Vec<u8>, core: &Core, unit: u8, is_cell: bool) -> Resul
     }
 }
 
-// The area or the cell that an event took, or for what its unit waits.
+// The area or the cell that an event took, or what its unit waits for.
 fn about_event(alloc: Global, core: &Core, event: &Event) -> Result<Vec<u8>, AllocError>
     ensures { IfOk result (λ text. text.items ≡ about_event (machine core.now) event.now.unit event.now.mark event.now.below) }
 {

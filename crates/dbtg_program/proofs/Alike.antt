@@ -37,7 +37,7 @@ abbrev is_equals_sign : Form → Bool
 is_equals_sign (one k r) = is_equals k
 is_equals_sign _ = false
 
--- a value stands behind each sign =
+-- a value follows each sign =
 abbrev pub follows : Form → Bool
 follows nothing = true
 follows (one k r) = not (is_equals k)
@@ -45,7 +45,7 @@ follows (both f g) = cond (is_equals_sign f) (only_value g) (follows f) && follo
 follows (either f g) = follows f && follows g
 follows (many f) = follows f
 
--- a start keeps this
+-- a value follows each sign =, at this start and after it
 abbrev keeps : Start → Bool
 keeps s = follows s.rest && cond (is_equals s.kind) (only_value s.rest) true
 
@@ -138,7 +138,7 @@ value_fits equals_sign t h f = absurd cc
 value_fits signed t h f = absurd cc
 value_fits keyed t h f = absurd cc
 
--- two values begin alike where a value stands
+-- where a value stands, two values begin at the same start
 begin_alike : (ss : List Start) (v w : Token) → list_all begins_value ss ≡ true → fits value v ≡ true → fits value w ≡ true → start_with fits v ss ≡ start_with fits w ss
 begin_alike [] v w h f g = refl
 begin_alike (s ∷ ss) v w h f g =
@@ -152,7 +152,7 @@ begin_alike (s ∷ ss) v w h f g =
 abbrev pub AreSame : Bool → Token → Token → Type 0
 AreSame here v w = (v ≡ w) ⊎ ((here ≡ true) × (fits value v ≡ true) × (fits value w ≡ true) × (shape v ≡ shape w))
 
--- words that differ in values alone, which stand behind the sign =; the flag says that the first is in a value's place
+-- words that differ only in values that follow a sign =; the flag says that the first is in a value's place
 abbrev pub AreAlike : Bool → List Token → List Token → Type 0
 AreAlike here [] [] = ⊤
 AreAlike here [] (w ∷ ws) = ⊥
@@ -211,7 +211,7 @@ module _ (schema : Lists) (v w : Token) (vs ws : List Token)
       ap (λ (o : Option Start). list_all says_too_great (by_start o (λ s. said schema ys w s.role ++ faults_from schema (ys ++ labelled s.role w ∷ []) s.rest ws) (at_other ys ∷ []))) (begun s same e)
       ∙ list_all-append says_too_great (said schema ys w s.role) (faults_from schema (ys ++ labelled s.role w ∷ []) s.rest ws) ∙ (λ i. said_so s same e parts.0 i && rest i)
 
--- where the words have no fault, others that differ in values alone have none but that a value is too great
+-- if words have no fault, words that differ only in values have at most the fault that a value is too great
 pub read_alike : (schema : Lists) (here : Bool) (vs ws : List Token) → AreAlike here vs ws → (xs ys : List Labelled) (wanted : Form) → map bare xs ≡ map bare ys → follows wanted ≡ true → (here ≡ true → only_value wanted ≡ true)
     → faults_from schema xs wanted vs ≡ [] → list_all says_too_great (faults_from schema ys wanted ws) ≡ true
 read_alike schema here [] [] a xs ys wanted alike kept placed none = by_end (may_end wanted) none

@@ -1,4 +1,4 @@
--- What is judged of words does not depend on their values, but for their kinds.
+-- What is judged of words depends on their values only by the kinds of these.
 use Rattle.std.proofs.Common.{◌≡◌, ℕ, Bool, true, false, cond, not, ◌&&◌, ◌||◌, ◌==◌, List, [], ◌∷◌, ◌++◌, map, Some, None, refl, sym, ap, ◌∙◌}
 use Rattle.std.specs.Prelude.{Option, is_none, option_map}
 use Rattle.std.specs.List.{list_all}
@@ -34,7 +34,7 @@ is_valued role.Value = true
 is_valued role.SortedValue = true
 is_valued _ = false
 
--- a word, but a value without its text
+-- a word, without its text if it is a value
 abbrev pub bare : Labelled → Labelled
 bare w = cond (is_valued w.role) (labelled w.role (shape w.word)) w
 
@@ -137,7 +137,7 @@ only_too_great : (b : Bool) → list_all says_too_great (when b cause.TooGreat) 
 only_too_great true = refl
 only_too_great false = refl
 
--- a value of the same kind as one without a fault is at most too great
+-- if a value has no fault, another of the same kind is at most too great
 pub may_be_too_great : (p : Option Picture) (v w : Token) → shape v ≡ shape w → value_faults p v ≡ [] → list_all says_too_great (value_faults p w) ≡ true
 may_be_too_great None v w same h = refl
 may_be_too_great (Some p) v w same h =
@@ -150,7 +150,7 @@ sorted_same p None (Some w) same h = absurd cc
 sorted_same p (Some v) None same h = absurd cc
 sorted_same p (Some v) (Some w) same h = let e : shape v ≡ shape w = cc in may_be_too_great p v w e h
 
--- WORDS THAT ARE BARE ALIKE
+-- WORDS THAT ARE THE SAME WHEN BARE
 
 module _ (schema : Lists) (xs ys : List Labelled) (alike : map bare xs ≡ map bare ys) where
   pub said_alike : (t : Token) (r : Role) → said schema xs t r ≡ said schema ys t r
@@ -171,7 +171,7 @@ module _ (schema : Lists) (xs ys : List Labelled) (alike : map bare xs ≡ map b
   first_alike : option_map shape (first_word role.SortedValue xs) ≡ option_map shape (first_word role.SortedValue ys)
   first_alike = sym (first_bare xs) ∙ ap (first_word role.SortedValue) alike ∙ first_bare ys
 
-  -- a statement as a whole: if the one has no fault the other's value is at most too great
+  -- a statement as a whole: if one has no fault, the value of the other is at most too great
   pub end_alike : end_faults schema xs ≡ [] → list_all says_too_great (end_faults schema ys) ≡ true
   end_alike h =
       let a = both_nil (when (is_outside schema xs) cause.NotThere ++ when (is_misused schema xs) cause.NotThisWay) (sorted_faults (sort_picture schema (set_in schema xs)) (first_word role.SortedValue xs)) h in

@@ -1,4 +1,4 @@
--- A number is no name, and has no period: it is no field.
+-- A number is not a name and has no period, so it is not a field.
 use Rattle.std.proofs.Common.{◌≡◌, ℕ, Bool, true, false, cond, not, ◌&&◌, ◌||◌, eqb, List, [], ◌∷◌, length, refl, sym, ap, ◌∙◌, arith}
 use Rattle.std.specs.Prelude.{nat_le, nat_lt, map, slice_index, ◌-◌, ◌==◌}
 use Rattle.std.specs.List.{list_all}

@@ -162,7 +162,7 @@ items_room t (x ∷ xs) front rest (v ∷ vs) all h =
     let count : length (front ++ field_of t x ∷ []) ≡ length front + 1 = length-append front (field_of t x ∷ []) in
     (λ i. one i && (sym (λ j. have_room (moved j) (count j) (map as_field vs)) ∙ more) i)
 
--- and so have those of each record type from the first field that is kept for it
+-- the fields of each record type have room too, from the first field that is kept for it
 record_room : (schema : Lists) (types : List RecordType) (front rest : List Item) (r k : ℕ) (vs : List Value) → All (IsRecordType schema) types → slice_get (records_from (length front) types) r ≡ Some k
     → values_fit (map (λ i. i.picture) (unwrap_or (option_map (λ (t : RecordType). t.items) (slice_get types r)) [])) vs ≡ true
     → have_room (front ++ (flat_map fields_of types ++ rest)) k (map as_field vs) ≡ true

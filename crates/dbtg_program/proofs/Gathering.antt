@@ -1,4 +1,4 @@
--- Names are entered one after another, and lead to where they first stand.
+-- Names are entered one after another, and lead to the place where they first stand.
 use Rattle.std.proofs.Common.{◌≡◌, ℕ, ◌+◌, ◌<◌, cond, List, [], ◌∷◌, ◌++◌, length, get_or, take, map, Some, None, sym, ap, ◌∙◌, arith}
 use Rattle.std.specs.Prelude.{Option}
 use Rattle.std.specs.Option.{option_or}
@@ -14,7 +14,7 @@ use Rattle.dbtg_program.specs.Sentences.{Holding, field_named, paragraph_at}
 use Rattle.dbtg_program.specs.Inside.Gathered.{leads_to}
 use Rattle.dbtg_program.specs.Inside.Views.{view_holding}
 
--- the sentence at i is entered, with the paragraph that it begins, if it begins one
+-- the sentence at i is entered, with the paragraph that it begins, if any
 pub paragraph_entered : (old new : Places) (xs : List code.Holding) (i : ℕ) (d : code.Holding) → i < length xs → ((q : List ℕ) → leads_to old q ≡ paragraph_at (map view_holding (take i xs)) q)
     → ((q : List ℕ) → leads_to new q ≡ option_or (leads_to old q) (cond (some_and (bytes_eq q) (view_holding (get_or xs i d)).paragraph) (Some i) None)) → (q : List ℕ) → leads_to new q ≡ paragraph_at (map view_holding (take (i + 1) xs)) q
 paragraph_entered old new xs i d lt before enters q =

@@ -1,4 +1,4 @@
--- The words of a statement in two states differ in values alone.
+-- The words of a statement in two states differ only in values.
 use Rattle.std.proofs.Common.{◌≡◌, ℕ, zero, suc, ◌+◌, ◌%◌, ◌<◌, ◌^◌, Bool, true, false, cond, ◌&&◌, List, [], ◌∷◌, ◌++◌, length, map, Some, None, refl, sym, ap, subst, ◌∙◌, inl, inr, arith}
 use Rattle.std.specs.Prelude.{Option, codes, decimal, nat_lt, option_map, slice_get, unwrap_or}
 use Rattle.std.specs.List.{flat_map, list_all, list_any}
@@ -165,7 +165,7 @@ map_nil : {X Y : Type 0} (f : X → Y) (xs : List X) → map f xs ≡ [] → xs 
 map_nil f [] h = refl
 map_nil f (x ∷ xs) h = absurd cc
 
--- a sentence of a text without a fault has none
+-- a sentence of a text without a fault has none itself
 abbrev IsFaultless : ProgramText → Holding → Type 0
 IsFaultless text h = (at : ℕ) × (sentence_faults text at h ≡ [])
 
@@ -189,7 +189,7 @@ said_where text [] (suc k) l e = absurd cc
 said_where text (h ∷ hs) zero l e = let same : line_of text h ≡ l = cc in (h, refl, same)
 said_where text (h ∷ hs) (suc k) l e = said_where text hs k l e
 
--- a sentence that is a statement with fields has these words, and no fault as it was judged
+-- if a sentence is a statement with fields, it has these words, and had no fault when it was judged
 abbrev IsJudged : ProgramText → List Token → List Word → Type 0
 IsJudged text ws words = (words_in text ws ≡ words) × (faults_from text.schema [] statement (words_at_first text ws) ≡ [])
 
@@ -210,7 +210,7 @@ map_twice : {X Y Z : Type 0} (f : Y → Z) (g : X → Y) (xs : List X) → map f
 map_twice f g [] = refl
 map_twice f g (x ∷ xs) = ap (λ ys. f (g x) ∷ ys) (map_twice f g xs)
 
--- no fault of a statement but that a value does not fit
+-- a statement has no fault except that a value does not fit
 pub only_a_value_does_not_fit : OnlyAValueDoesNotFit
 only_a_value_does_not_fit schema bytes state l words accepted held here is =
     let text : ProgramText = record { schema = schema; sentences = sentences_of bytes } in

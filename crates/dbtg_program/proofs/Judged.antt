@@ -169,7 +169,7 @@ said_with_fields text ws h = ap (λ b. cond b (Filled (words_in text ws)) (State
 
 -- LINES AND THEIR SENTENCES
 
--- the line that a sentence says, which is the one that stands there
+-- the line that a sentence says is the one at its place
 pub said_line : (text : Text) (at : ℕ) (l h : Holding) (s : Sentence) → Some h ≡ slice_get text.sentences at → Stands text at l → s ≡ sentence_of text h → record { number = h.number; sentence = s } ≡ sentence_line text l
 unfolding sentence_line
 said_line text at l h s got stands is =
@@ -189,7 +189,7 @@ tail_of_drop [] (suc k) x rest h = absurd cc
 tail_of_drop (y ∷ xs) zero x rest h = let e : xs ≡ rest = cc in e
 tail_of_drop (y ∷ xs) (suc k) x rest h = tail_of_drop xs k x rest h
 
--- the next sentence is that of the next line that holds one
+-- the next sentence is that of the next line, if this line holds one
 pub stands : (text : Text) (at number : ℕ) (line : List ℕ) (ls : List (List ℕ)) → drop at text.sentences ≡ cut_lines number (line ∷ ls) → is_statement (trimmed line) ≡ true → Stands text at (cut number line)
 stands text at number line ls h holds =
     first_of_drop text.sentences at (cut number line) (cut_lines (number + 1) ls) (h ∙ ap (λ b. (if b then cut number line ∷ [] else []) ++ cut_lines (number + 1) ls) holds)
@@ -198,7 +198,7 @@ further : (b : Bool) (xs : List Holding) (at : ℕ) (x : Holding) (rest : List H
 further true xs at x rest h = let e : at + 1 ≡ suc at = omega arith in ap (λ (n : ℕ). drop n xs) e ∙ tail_of_drop xs at x rest h
 further false xs at x rest h = h
 
--- after a line the sentences of the others are left
+-- after a line the sentences of the later lines are left
 pub stand_further : (text : Text) (at number : ℕ) (line : List ℕ) (ls : List (List ℕ)) → drop at text.sentences ≡ cut_lines number (line ∷ ls) → drop (behind_line at line) text.sentences ≡ cut_lines (number + 1) ls
 stand_further text at number line ls h = further (is_statement (trimmed line)) text.sentences at (cut number line) (cut_lines (number + 1) ls) h
 
@@ -206,7 +206,7 @@ count_by : (b : Bool) (x : Line) (xs : List Line) → length (xs ++ (if b then x
 count_by true x xs = length-append xs (x ∷ [])
 count_by false x xs = ap length (append-nil xs)
 
--- how many lines there are behind a line of the text
+-- how many sentences there are after a line of the text
 pub counted : (text : Text) (number : ℕ) (line : List ℕ) (xs : List Line) → length (xs ++ line_said text (trimmed line) (cut number line)) ≡ behind_line (length xs) line
 counted text number line xs = count_by (is_statement (trimmed line)) (sentence_line text (cut number line)) xs
 

@@ -7,7 +7,7 @@ use Rattle.dbtg_script.specs.declared.token.Token as code
 use Rattle.dbtg_script.specs.Tokens.{Token, view}
 use Rattle.dbtg_program.specs.Sentences.{is_spelled, marked, marked_from, word_at}
 
--- it begins otherwise
+-- it begins in another way
 pub other_marks : (ws : List code.Token) → (nat_lt 1 (length ws) && is_spelled (codes "FIND") (word_at 0 (map view ws)) && is_spelled (codes "SORTED") (word_at 1 (map view ws))) ≡ false
     → marked (map view ws) ≡ marked_from false (map view ws)
 other_marks [] h = refl

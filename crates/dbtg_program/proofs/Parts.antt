@@ -1,4 +1,4 @@
--- A run of bytes that are no signs is one part of a word, and so is a sign.
+-- A run of bytes that are not signs is one part of a word, and so is a sign.
 use Rattle.std.proofs.Common.{◌≡◌, None, ℕ, zero, suc, ◌<◌, ◌≤◌, Bool, true, false, cond, ◌||◌, List, [], ◌∷◌, length, get_or, take, drop, refl, sym, ap, ◌∙◌, arith}
 use Rattle.std.specs.List.{list_any}
 use Rattle.dbtg_script.specs.Tokens.{Token, equals, literal, plain}
@@ -51,7 +51,7 @@ pub no_part : (bs : List ℕ) → length bs ≡ 0 → parts bs ≡ []
 no_part [] h = refl
 no_part (b ∷ bs) h = absurd (omega arith)
 
--- more than one word: no paragraph begins
+-- no paragraph begins with more than one word
 no_more : (has : Bool) (w x : Token) (us : List Token) → None ≡ paragraph_in has (w ∷ x ∷ us)
 no_more true (plain t) x us = refl
 no_more true equals x us = refl

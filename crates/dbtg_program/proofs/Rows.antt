@@ -1,4 +1,4 @@
--- The worked rows: programs with the answers that they are told, and what they do; the faults of texts.
+-- The worked rows: programs with the answers that they get, and what they do; the faults of texts.
 -- May use: all definitions; no lemma.
 -- Promises: each row is a theorem that computes.
 pub mod Words

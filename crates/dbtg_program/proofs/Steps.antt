@@ -1,4 +1,4 @@
--- One sentence further.
+-- One more sentence.
 use Rattle.std.proofs.Common.{◌≡◌, ℕ, zero, suc, ◌+◌, ◌-◌, ◌<◌, List, [], ◌∷◌, ◌++◌, length, refl, ap, subst, sym, ◌∙◌, arith}
 use Rattle.std.specs.Prelude.{IfOk, Ok, Err, Result, Some, slice_get, slice_set}
 use Rattle.dbtg_schema.specs.Lists.{Lists}
@@ -36,14 +36,14 @@ unfolding within
 within_none schema program zero line state e = refl
 within_none schema program (suc n) line state e = absurd (omega arith)
 
--- the last of the values that are placed
+-- the last of the values is placed first
 pub last_placed : (fields : List Value) (k : ℕ) (vs : List Value) (v : Value) → placed fields k (vs ++ v ∷ []) ≡ placed (slice_set fields (k + length vs) v) k vs
 last_placed fields k [] v = let e : k + 0 ≡ k = omega arith in rw e refl
 last_placed fields k (w ∷ vs) v =
     let e : k + length (w ∷ vs) ≡ (k + 1) + length vs = omega arith in
     ap (λ (fs : List Value). slice_set fs k w) (last_placed fields (k + 1) vs v) ∙ ap (λ (n : ℕ). slice_set (placed (slice_set fields n v) (k + 1) vs) k w) (sym e)
 
--- and one more of them placed
+-- then the others are left to place
 pub placed_on : (fields new : List Value) (k n : ℕ) (all vs : List Value) (v : Value) (end : List Value) → n ≡ length vs → all ≡ vs ++ v ∷ [] → new ≡ slice_set fields (k + n) v → placed fields k all ≡ end
     → placed new k vs ≡ end
 placed_on fields new k n all vs v end count are is inv =
@@ -57,7 +57,7 @@ there [] k x e = absurd cc
 there (y ∷ ys) zero x e = omega arith
 there (y ∷ ys) (suc k) x e = let h = there ys k x e in omega arith
 
--- what is there has a place in the list
+-- an element that is found is within the list
 pub is_there : {X : Type 0} (xs : List X) (k at : ℕ) (x : X) → k ≡ at → Some x ≡ slice_get xs k → at < length xs
 is_there xs k at x same e = subst (λ (n : ℕ). n < length xs) same (there xs k x e)
 

@@ -143,7 +143,7 @@ whole_faults at line =
 abbrev pub line_faults : Text → ℕ → ℕ → List ℕ → List ProgramCause
 line_faults text at number line = whole_faults at (trimmed line) ++ (if is_statement (trimmed line) then sentence_faults text at (cut number line) else [])
 
--- how many sentences there are behind a line
+-- how many sentences there are after a line
 abbrev pub behind_line : ℕ → List ℕ → ℕ
 behind_line at line = if is_statement (trimmed line) then at + 1 else at
 

@@ -109,7 +109,7 @@ from_step (ends e) state further = ended state e
 abbrev pub line_number : Program → ProgramState → ℕ
 line_number program state = unwrap_or (option_map (λ l. l.number) (line_at program state)) 0
 
--- the next statement or end within n sentences; after the last of them the program is astray
+-- the next statement or end within n sentences; if there is none, the program is astray after the last of them
 unfoldable pub within : Lists → Program → ℕ → ℕ → ProgramState → Due
 within schema program zero line state = ended state (ending.Astray line)
 within schema program (suc n) line state = from_step (at_line schema program state (line_at program state)) state (λ behind. within schema program n (line_number program state) behind)

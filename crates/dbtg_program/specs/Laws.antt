@@ -49,7 +49,7 @@ pub record FieldsHold (schema : Lists) (p : Program) : Type 0 where
   pub at_next : (state : ProgramState) → are_held p.fields state.values ≡ true → are_held p.fields (state_of (next schema p state)).values ≡ true
   pub after : (state : ProgramState) (s : Statement) (answer : Answer) → are_held p.fields state.values ≡ true → items_fit schema answer.items answer.key ≡ true → are_held p.fields (told p state s answer).values ≡ true
 
--- in a program that was read they do
+-- this holds of each program that was read
 abbrev pub FieldsHoldTheirValues : Type 0
 FieldsHoldTheirValues = (schema : Lists) (text : List ℕ) → IsSound schema → FieldsHold schema (program schema text)
 
@@ -58,8 +58,8 @@ abbrev pub says_too_great : Cause → Bool
 says_too_great TooGreat = true
 says_too_great _ = false
 
--- where the sentence due in a program that was read is a statement with fields, its words with the values of the fields have no fault
--- but that a value does not fit
+-- if the sentence due in a program that was read is a statement with fields, its words with the values of the fields have no fault
+-- except that a value does not fit
 abbrev pub OnlyAValueDoesNotFit : Type 0
 OnlyAValueDoesNotFit =
     (schema : Lists) (text : List ℕ) (state : ProgramState) (l : Line) (words : List Word) → refusal schema text ≡ None → are_held (program schema text).fields state.values ≡ true

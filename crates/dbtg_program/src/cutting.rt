@@ -113,7 +113,7 @@ fn set_signs_apart<'a>(alloc: Global, words: &mut Vec<Token<'a>>) -> Result<(), 
     Ok(())
 }
 
-/// Puts the words of a line into the place of those that are there.
+/// Replaces the words that are there by the words of a line.
 fn take_tokens<'a>(words: &mut Vec<Token<'a>>, line: &'a [u8]) -> Result<(), AllocError>
     ensures { OnOk result (map view words.new.items ≡ tokens false line.now) }
 {
@@ -170,7 +170,7 @@ impl<'a> Holding<'a> {
         paragraph_in(has_period, trimmed(self.line))
     }
 
-    /// Puts the words of the line into the place of those that are there.
+    /// Replaces the words that are there by the words of the line.
     pub fn take_words(&self, alloc: Global, words: &mut Vec<Token<'a>>) -> Result<(), AllocError>
         ensures { OnOk result (map view words.new.items ≡ (view_holding self.now).words) }
     {

@@ -23,7 +23,7 @@ fn may_name_field(token: Token) -> bool
     }
 }
 
-/// A word that is a value by itself?
+/// Is the word a value by itself?
 pub fn is_literal(token: Token) -> bool
     ensures { result ≡ is_literal (view token.entry) }
 {

@@ -17,7 +17,7 @@ use dbtg_script::{LineFault, Token, push_number, read_statement_words};
 use dbtg_unit::Statement;
 use std::alloc::{AllocError, Global};
 
-/// The digits of the number that a word stands for, or None if it is no field with a number.
+/// The digits of the number that a word stands for, or None if it is not a field with a number.
 fn digits_of(alloc: Global, state: &State, word: &Word) -> Result<Row<u8>, AllocError>
     ensures { IfOk result (λ digits. digits ≡ digits_of state.now word.now) }
 {

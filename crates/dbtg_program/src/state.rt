@@ -69,7 +69,7 @@ fn as_field(alloc: Global, value: &Value) -> Result<Value, AllocError>
     }
 }
 
-/// Puts values of the database, as fields hold them, into the place of those that are there.
+/// Replaces the values that are there by values of the database, as fields hold them.
 fn take_fields(alloc: Global, values: &mut Vec<Value>, items: &[Value]) -> Result<(), AllocError>
     ensures { OnOk result (values.new.items ≡ map as_field items.now) }
 {

@@ -132,7 +132,7 @@ fn read_verb(
     Ok(said_by(alloc, text, words, verb)?)
 }
 
-/// The sentence with this number; its words are put into the place of those that are there.
+/// The sentence with this number; its words replace those that are there.
 #[tactic(auto, unfolding(crate::specs::Inside::Reading::sentence_verdict, crate::specs::Inside::Reading::statement_verdict))]
 pub fn read_sentence<'a>(
     alloc: Global,

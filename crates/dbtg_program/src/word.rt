@@ -91,7 +91,7 @@ fn is_two_parts(word: &[u8]) -> bool
     !in_front(word, b'.').is_empty() && !item.is_empty() && !has_byte(item, b'.')
 }
 
-/// Is it a field, in a value's place? Most words there are numbers, which are told at once.
+/// Is it a field, in a value's place? Most words there are numbers, which are recognized at once.
 #[tactic(auto, using(crate::proofs::Digits::number_no_field))]
 pub fn is_field_word(token: Token) -> bool
     ensures { result ≡ is_field_word (view token.entry) }

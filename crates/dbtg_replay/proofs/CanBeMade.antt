@@ -1,4 +1,4 @@
--- The history of a run of scripts that fit can be made again: its units are there, and its statements fit.
+-- The history of a run of scripts that fit can be made again: its units exist, and its statements fit.
 use Rattle.std.proofs.Common.{◌≡◌, ℕ, zero, suc, ◌≤◌, Bool, true, List, [], ◌∷◌, length, Some, slice_get, inl, inr, refl, sym, ap, ◌∙◌, subst, nat_le}
 use Rattle.std.specs.Prelude.{◌&&◌, nat_lt}
 use Rattle.std.specs.List.{list_all}
@@ -23,7 +23,7 @@ use Rattle.dbtg_replay.specs.declared.replay.AnswerForm.TheVariants.{Plain, Echo
 use Rattle.dbtg_replay.specs.Replaying.{CanShow}
 use Rattle.dbtg_replay.proofs.UnitEntries.{AllWithin, Begins, all_within, goes_on, there}
 
--- what all elements pass, the one at a place passes
+-- if all elements pass a test, the one at a place passes it
 at_place : {X : Type 0} (p : X → Bool) (xs : List X) (n : ℕ) (x : X) → list_all p xs ≡ true → slice_get xs n ≡ Some x → p x ≡ true
 at_place p [] n x all at = absurd (cc (at))
 at_place p (y ∷ ys) zero x all at = let e : y ≡ x = cc (at) in subst (λ z. p z ≡ true) e (and_parts _ _ all).0

@@ -49,7 +49,7 @@ few_of scripts history begin u k (Some script) at e =
 few : (scripts : List (List Statement)) (history : List Entry) → Begins scripts history → Few (map length scripts) history
 few scripts history begin u k at = few_of scripts history begin u k (unit_at scripts u) refl (sym (map_at length scripts u) ∙ at)
 
--- a script that is accepted has at most 65,535
+-- an accepted script has at most 65,535
 few_each : (lists : Lists) (texts : List (List ℕ)) → AllAccepted lists texts → (k : ℕ) → k < length (map length (map (script lists) texts)) → (j : ℕ) → slice_get (map length (map (script lists) texts)) k ≡ Some j → j ≤ MOST_STATEMENTS
 few_each lists [] accepted k below j at = absurd (cc (at))
 few_each lists (text ∷ texts) accepted zero below j at =
@@ -64,7 +64,7 @@ numbers n (e ∷ es) most within =
     let high : e.unit ≤ 99 = omega (arith, within.1, most) in
     and_from (is_unit_number e.unit) (list_all is_unit_number (map (λ (f : Entry). f.unit) es)) (and_from (nat_le 1 e.unit) (nat_le e.unit 99) (le-leb 1 e.unit low) (le-leb e.unit 99 high)) (numbers n es most within.2)
 
--- the turns behind those of a script that is made first are accepted, and what is printed of the run by them is what is shown of a run
+-- the turns after those of a script that is made first are accepted, and what is printed of the run by them is what is shown of a run
 -- with this history, and with the image and the units to which it leads
 pub made_again_behind : (first : Bool) (form : AnswerForm) (text : List ℕ) (scripts : List (List ℕ)) (capacity : ℕ) (made : Run) (behind turns : List ℕ) → is_count (length scripts) ≡ true
     → AcceptsTexts text scripts → IsSequential (schema_in text) capacity (map (script (schema_in text)) scripts) made.history made.image made.units
@@ -127,7 +127,7 @@ made_again_behind first form text scripts capacity run behind turns right accept
         let same : units ≡ map (λ (e : Entry). e.unit) given.history = sym (r.run.is_run.1.in_turn ∙ ap (made_turns (map length all)) says ∙ made.0) in
         r.run.is_text ∙ sym (same_text lists capacity all form scripts run given law r.run.is_run.1.sequential same)
 
--- the same where no script is made first
+-- the same if no script is made first
 pub made_again : (text : List ℕ) (scripts : List (List ℕ)) (capacity : ℕ) (history : List Entry) (image : Image) (units : List Unit) (turns : List ℕ) → is_count (length scripts) ≡ true → AcceptsTexts text scripts
     → IsSequential (schema_in text) capacity (map (script (schema_in text)) scripts) history image units → turns ≡ turns_text (map (λ (e : Entry). e.unit) history)
     → (turns_refusal turns ≡ None) × ((printed : List ℕ) → IsReplay text scripts (Turns turns) capacity printed → printed ≡ run_text (schema_in text) history image.records image.lists image.next image.usage units)

@@ -1,4 +1,4 @@
--- The moves for which turns stand, as a text that says them.
+-- The moves that turns stand for, as a text that says them.
 use Rattle.std.proofs.Common.{◌≡◌, ℕ, zero, suc, ◌≤◌, true, List, [], ◌∷◌, length, map, refl, sym, ap, ◌∙◌, subst, arith, nat_le}
 use Rattle.std.specs.List.{list_all}
 use Rattle.std.proofs.lemmas.Bool.{and_from, and_parts, le-leb}
@@ -69,7 +69,7 @@ moves_said lists capacity scripts turns moves given out run small few is =
       is_text = is ∙ ap moves_words_text (sym says);
     }
 
--- what is said of the statements and turns that were read is what the texts say
+-- what holds of the statements and turns that were read holds of what the texts say
 module _ (holds : TextPlace → List ℕ → Type 0) (lists : Lists) (count capacity : ℕ) (right : is_count count ≡ true) (read : ReadSchema holds lists) (scripts : ReadScripts holds lists count)
     (statements : List (List Statement)) (same : statements ≡ map (script lists) scripts.texts) (turns used : List ℕ) (by : ReadTurns holds turns) (e : used ≡ turns) where
   pub moves_held : (out : List ℕ) → AreMovesOf lists capacity statements used out → MovesHeld holds count capacity out

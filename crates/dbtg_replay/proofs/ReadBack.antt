@@ -21,7 +21,7 @@ use Rattle.dbtg_command.specs.Refusals.{AllAccepted, schema_in}
 use Rattle.dbtg_replay.specs.Laws.{PrintedReplayIsTraced}
 use Rattle.dbtg_replay.specs.Replaying.{Gives}
 
--- each run has the headline's promise, in whatever order the scripts are run
+-- each run is a run of the sequential database, in whatever order the scripts are run
 sequential : (first : Bool) (lists : Lists) (capacity : ℕ) (scripts : List (List Statement)) (order : Order (List ℕ)) (given : Run) → Gives first lists capacity scripts order given
     → IsSequential lists capacity scripts given.history given.image given.units
 sequential false lists capacity scripts Serial given is = is.1.sequential

@@ -25,12 +25,12 @@ use Rattle.dbtg_replay.specs.Replaying.{InTurnIs, IsPrinted, IsPrintedRun, Repla
 use Rattle.dbtg_replay.specs.declared.replay.AnswerForm.{AnswerForm}
 use Rattle.dbtg_replay.specs.declared.replay.AnswerForm.TheVariants.{Plain, Echo, Explained, Trace}
 
--- statements that fit behind scripts that fit
+-- scripts that fit, followed by statements that fit
 pub fit_behind : (lists : Lists) (statements : List Statement) (before after : List (List Statement)) → after ≡ before ++ statements ∷ [] → scripts_fit lists before ≡ true → list_all (fits lists) statements ≡ true → scripts_fit lists after ≡ true
 fit_behind lists statements before after e all one =
     ap (scripts_fit lists) e ∙ list_all-append (list_all (fits lists)) before (statements ∷ []) ∙ rw (all, one) refl
 
--- what a run of the statements that were read gives is the replay of the texts
+-- the result of a run of the statements that were read is the replay of the texts
 pub replay_is_run : (holds : TextPlace → List ℕ → Type 0) (lists : Lists) (count : ℕ) (order : Order (List ℕ)) (first : Bool) (form : AnswerForm) (capacity : ℕ) (out : List ℕ)
     → is_count count ≡ true → ReadSchema holds lists → (scripts : ReadScripts holds lists count) → HoldsOrder holds order → AcceptsOrder order
     → IsPrintedRun first lists capacity (map (script lists) scripts.texts) form scripts.texts order out → ReplaysHeld holds count (kind_of order) first form capacity out
@@ -44,14 +44,14 @@ replay_is_run holds lists count order first form capacity out right read scripts
   },
 )
 
--- what is shown of a run does not depend on what its moves came to
+-- what is shown of a run does not depend on the results of its moves
 same_shown : (lists : Lists) (form : AnswerForm) (texts : List (List ℕ)) (given : Run) (results : List Stepped) → shown_text lists form texts given ≡ shown_text lists form texts (record given { results = results })
 same_shown lists Plain texts given results = refl
 same_shown lists Echo texts given results = refl
 same_shown lists (Explained capacity) texts given results = refl
 same_shown lists Trace texts given results = refl
 
--- the same of what was read: nothing that says the order, moves, or turns; and the texts that are shown
+-- the same for what was read, with no order, moves, or turns; and with the texts that are shown
 module _ (holds : TextPlace → List ℕ → Type 0) (lists : Lists) (count capacity : ℕ) (out : List ℕ) (right : is_count count ≡ true) (read : ReadSchema holds lists) (scripts : ReadScripts holds lists count)
     (statements : List (List Statement)) (same : statements ≡ map (script lists) scripts.texts) (first : Bool) (form : AnswerForm) (texts : List (List ℕ)) (are : texts ≡ scripts.texts) where
   replays_in : (order : Order (List ℕ)) → HoldsOrder holds order → AcceptsOrder order → IsPrintedRun first lists capacity statements form texts order out → ReplaysHeld holds count (kind_of order) first form capacity out
@@ -63,7 +63,7 @@ module _ (holds : TextPlace → List ℕ → Type 0) (lists : Lists) (count capa
   pub replays_serially : IsPrinted (InTurnIs first lists capacity statements) (shown_text lists form texts) out → ReplaysHeld holds count kind.Serial first form capacity out
   replays_serially run = replays_in Serial tt tt run
 
-  -- all moves are those of the first script, as many as it has, and those that were read
+  -- all moves are those that make the first script, followed by those that were read
   pub replays_moves : (moves before all : List Move) (many : ℕ) → ReadMoves holds moves → AreFirstMoves first lists capacity statements before → all ≡ before ++ moves → many ≡ length before
       → IsPrinted (RunIs lists capacity statements all) (λ given. moves_text (drop many given.results) ++ shown_text lists form texts given) out → ReplaysHeld holds count kind.Moves first form capacity out
   replays_moves moves before all many by are_first all_is many_is run =

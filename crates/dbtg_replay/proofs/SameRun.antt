@@ -1,4 +1,4 @@
--- Runs of the same scripts whose entries are of the same units in turn print the same.
+-- Runs of the same scripts print the same if their entries belong to the same units in turn.
 use Rattle.std.proofs.Common.{◌≡◌, ℕ, false, List, ◌++◌, drop, length, map, sym, ap, ◌∙◌, subst}
 use Rattle.dbtg_schema.specs.Lists.{Lists}
 use Rattle.dbtg_unit.specs.declared.moves.Move.{Move}
@@ -20,7 +20,7 @@ use Rattle.dbtg_replay.specs.declared.replay.AnswerForm.TheVariants.{Plain, Echo
 use Rattle.dbtg_replay.specs.Replaying.{IsReplay, MovedIs, shown_text}
 use Rattle.dbtg_replay.proofs.UnitEntries.{same_history}
 
--- what is shown is the same of the same history, image and units
+-- the same is shown for the same history, image and units
 shown_alike : (lists : Lists) (form : AnswerForm) (texts : List (List ℕ)) (a b : Run) → a.history ≡ b.history → a.image ≡ b.image → a.units ≡ b.units → shown_text lists form texts a ≡ shown_text lists form texts b
 shown_alike lists Plain texts a b h m u = λ i. shown_text lists Plain texts (record a { history = h i; image = m i; units = u i })
 shown_alike lists Echo texts a b h m u = λ i. shown_text lists Echo texts (record a { history = h i; image = m i; units = u i })
@@ -37,14 +37,14 @@ same_text lists capacity scripts form texts a b one other turns =
     let left = one.units_are ∙ ap (λ h. (replay lists capacity before h).units) history ∙ sym other.units_are in
     shown_alike lists form texts a b history shown left
 
--- where no script is made first, the run is that of the moves alone
+-- if no script is made first, the run is that of the moves alone
 moved_alone : (lists : Lists) (capacity : ℕ) (scripts : List (List Statement)) (moves : List Move) (given : Run) → MovedIs false lists capacity scripts moves given → RunIs lists capacity scripts moves given
 moved_alone lists capacity scripts moves given moved =
     let whole = moved.whole in
     let same : given ≡ whole = moved.given_is ∙ ap (λ (b : List Move). record whole { results = drop (length b) whole.results }) moved.are_first in
     subst (RunIs lists capacity scripts moves) (sym same) (subst (λ (b : List Move). RunIs lists capacity scripts (b ++ moves) whole) moved.are_first moved.is_run)
 
--- the run of the moves for which turns stand prints, behind its line of moves, what the run by the turns prints
+-- the run of the moves that turns stand for prints, after its line of moves, what the run by the turns prints
 pub replayed_same : (text : List ℕ) (scripts : List (List ℕ)) (turns out : List ℕ) (capacity : ℕ)
     → StandFor (schema_in text) capacity (map (script (schema_in text)) scripts) (turns_in turns) (moves_in out)
     → (by_moves by_turns : List ℕ) → IsReplay text scripts (Moves out) capacity by_moves → IsReplay text scripts (Turns turns) capacity by_turns

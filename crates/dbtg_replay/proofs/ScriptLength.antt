@@ -1,4 +1,4 @@
--- A script that is accepted has at most 65,535 statements.
+-- An accepted script has at most 65,535 statements.
 use Rattle.std.proofs.Common.{◌≡◌, ℕ, ◌+◌, ◌<◌, ◌≤◌, ◌&&◌, Bool, true, false, cond, not, List, [], ◌∷◌, ◌++◌, length, map, Some, None, refl, arith, nat_le}
 use Rattle.std.proofs.lemmas.Bool.{leb-false}
 use Rattle.dbtg_schema.specs.Lists.{Lists}
@@ -29,7 +29,7 @@ none_mapped : {X Y : Type 0} (f : X → Y) (xs : List X) → map f xs ≡ [] →
 none_mapped f [] e = refl
 none_mapped f (x ∷ xs) e = absurd (cc (e))
 
--- a line that has no fault leaves room for what it holds
+-- a line without a fault leaves room for its statement
 room : (b : Bool) (count : ℕ) (s : Statement) (ss : List Statement) → count ≤ MOST_STATEMENTS → when (b && nat_le MOST_STATEMENTS count) cause.TooMuch ≡ []
     → (cond b (count + 1) count ≤ MOST_STATEMENTS → cond b (count + 1) count + length ss ≤ MOST_STATEMENTS) → count + length (prepend (cond b (Some s) None) ss) ≤ MOST_STATEMENTS
 room true count s ss few none then =
@@ -55,7 +55,7 @@ few_statements schema text accepted =
     let few = few_in_lines schema 0 1 (lines text) (omega arith) none in
     omega (arith, few)
 
--- a line without a fault that holds a statement has room behind what is there
+-- if a line without a fault holds a statement, there is room for it after those that are there
 room_if : (b : Bool) (count : ℕ) (x s : Statement) → cond b (Some x) None ≡ Some s → when (b && nat_le MOST_STATEMENTS count) cause.TooMuch ≡ [] → count < MOST_STATEMENTS
 room_if true count x s said none = leb-false MOST_STATEMENTS count (not_when (nat_le MOST_STATEMENTS count) cause.TooMuch none)
 room_if false count x s said none = absurd (cc (said))

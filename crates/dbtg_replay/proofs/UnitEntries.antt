@@ -1,4 +1,4 @@
--- Histories in which each unit makes the beginning of its script: whose the entries are determines which statements they have.
+-- Histories in which each unit makes the beginning of its script: the units of the entries determine their statements.
 use Rattle.std.proofs.Common.{◌≡◌, ℕ, zero, suc, ◌+◌, ◌-◌, ◌*◌, ◌<◌, ◌≤◌, List, [], ◌∷◌, ◌++◌, length, map, Option, Some, None, slice_get, slice_set, inl, inr, refl, sym, ap, ◌∙◌, subst, arith}
 use Rattle.std.specs.Prelude.{nat_lt, ⊤}
 use Rattle.std.specs.Option.{unwrap_or}
@@ -24,9 +24,9 @@ unfolding unit_at
 there xs zero some most = absurd (omega arith)
 there xs (suc n) some most = there_is xs n (omega arith)
 
--- OF THE UNITS THAT THERE ARE
+-- THE UNITS OF ENTRIES
 
--- each entry is of one of this many units
+-- each entry belongs to one of this many units
 abbrev pub AllWithin : ℕ → List Entry → Type 0
 AllWithin n [] = ⊤
 AllWithin n (e ∷ es) = (0 < e.unit) × (e.unit ≤ n) × AllWithin n es
@@ -50,7 +50,7 @@ other_entry e es u differs = cond-false _ _ _ (ne_eqb e.unit u differs)
 abbrev pub Begins : List (List Statement) → List Entry → Type 0
 Begins scripts es = (u : ℕ) (script : List Statement) → unit_at scripts u ≡ Some script → (left : List Statement) × (map (λ (e : Entry). e.statement) (entries_of u es) ++ left ≡ script)
 
--- with its first entry a unit makes the first statement of its script, and goes on with the others
+-- a unit makes the first statement of its script with its first entry, and goes on with the others
 pub goes_on : (scripts : List (List Statement)) (e : Entry) (es : List Entry) (script : List Statement) → unit_at scripts e.unit ≡ Some script → Begins scripts (e ∷ es)
     → (rest : List Statement) × (e.statement ∷ rest ≡ script) × Begins (with_unit_at scripts e.unit rest) es
 goes_on scripts e es script at begins = (
@@ -91,7 +91,7 @@ same_statements scripts (e ∷ es) (f ∷ fs) within a b units =
 
 -- STATEMENTS DETERMINE A HISTORY
 
--- two histories of the same scripts whose entries are of the same units in turn are the same
+-- two histories of the same scripts are the same if their entries belong to the same units in turn
 pub same_history : (schema : Lists) (capacity : ℕ) (state : State) (scripts : List (List Statement)) (es fs : List Entry) → length state.units ≡ length scripts
     → TicketsInOrder es → TicketsInOrder fs → AnswersHold schema capacity state es → AnswersHold schema capacity state fs → Begins scripts es → Begins scripts fs
     → map (λ (e : Entry). e.unit) es ≡ map (λ (e : Entry). e.unit) fs → es ≡ fs

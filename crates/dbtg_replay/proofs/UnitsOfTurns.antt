@@ -1,4 +1,4 @@
--- The units that a text of turns names are at most 99.
+-- A text of turns names no unit above 99.
 use Rattle.std.proofs.Common.{◌≡◌, ℕ, zero, suc, ◌&&◌, Bool, true, false, cond, not, List, [], ◌∷◌, map, replicate, Option, Some, None, refl, sym, ◌∙◌, nat_le}
 use Rattle.std.specs.List.{list_all}
 use Rattle.std.specs.Prelude.{⊤}
@@ -8,7 +8,7 @@ use Rattle.dbtg_script.specs.Moves.{begins_with, counted, plain_number, repeated
 use Rattle.dbtg_script.specs.Printing.Spelling.{is_number, number, in_front, behind, has_byte}
 use Rattle.dbtg_script.specs.Turns.{turns_of}
 
--- a word that says something says a unit of at most 99
+-- the word says nothing, or a unit of at most 99
 abbrev IsSmall : Option (ℕ × ℕ) → Type 0
 IsSmall None = ⊤
 IsSmall (Some r) = nat_le r.0 99 ≡ true

@@ -18,7 +18,7 @@ pub record IsTraced (schema : Lists) (capacity : ℕ) (scripts : List (List ℕ)
   pub history_of : IsHistoryOf schema capacity (length scripts) history
   pub back : length history ≤ 524280 → length (trace_text schema scripts history) ≤ 67108864 → IsReadBack schema scripts history
 
--- so is that of each replay that is printed as a trace, in whatever order the scripts are run
+-- the same holds for each replay that is printed as a trace, in whatever order the scripts are run
 abbrev pub PrintedReplayIsTraced : Type 0
 PrintedReplayIsTraced =
     (first : Bool) (text : List ℕ) (scripts : List (List ℕ)) (order : Order (List ℕ)) (capacity : ℕ) (out : List ℕ)

@@ -8,7 +8,7 @@ use Rattle.dbtg_unit.specs.declared.statement.Statement.{Statement}
 use Rattle.dbtg_step.specs.declared.results.Run.{Run}
 use Rattle.dbtg_step.specs.Core.Turns.{IsRunByTurns}
 
--- these turns stand for these moves: there is such a run
+-- these turns stand for these moves: there is a run of both
 abbrev pub StandFor : Lists → ℕ → List (List Statement) → List ℕ → List Move → Type 0
 StandFor lists capacity scripts turns moves = (given : Run) × IsRunByTurns lists capacity scripts turns moves given
 

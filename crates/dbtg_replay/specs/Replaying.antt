@@ -1,6 +1,6 @@
 -- What `replay` prints.
--- text, scripts, moves and turns are bytes, lists the schema that a text says, given what a run gives; first says whether the last of
--- the scripts is made before all others.
+-- text, scripts, moves and turns are bytes, lists is the schema that a text says, given is the result of a run; first says whether the
+-- last of the scripts is made before all others.
 use Rattle.std.specs.Prelude.{ℕ, ◌≡◌, ◌≤◌, ◌++◌, Bool, true, false, List, [], ⊤, drop, map, length}
 use Rattle.dbtg_schema.specs.Lists.{Lists}
 use Rattle.dbtg_schema.specs.Sound.{IsSound}
@@ -31,12 +31,12 @@ use Rattle.dbtg_replay.specs.Ordering.{AreFirstMoves, first_turns, serial_turns}
 abbrev pub RunByTurnsIs : Lists → ℕ → List (List Statement) → List ℕ → Run → Type 0
 RunByTurnsIs lists capacity scripts turns given = (moves : List Move) × IsRunByTurns lists capacity scripts turns moves given
 
--- the run of one script after another; if one is made first, by turns that say so
+-- the run of one script after another; if one is made first, it is a run by turns that say so
 abbrev pub InTurnIs : Bool → Lists → ℕ → List (List Statement) → Run → Type 0
 InTurnIs false lists capacity scripts given = SerialRunIs lists capacity scripts given
 InTurnIs true lists capacity scripts given = RunByTurnsIs lists capacity scripts (first_turns true scripts ++ serial_turns 1 scripts) given
 
--- the run of these moves; if one script is made first, of its moves and then these, whose results alone are given
+-- the run of these moves; if one script is made first, that of its moves and then these, with the results of these alone
 pub record MovedIs (first : Bool) (lists : Lists) (capacity : ℕ) (scripts : List (List Statement)) (moves : List Move) (given : Run) : Type 0 where
   pub before : List Move
   pub are_first : AreFirstMoves first lists capacity scripts before
@@ -54,8 +54,8 @@ Gives first lists capacity scripts (Turns text) given = RunByTurnsIs lists capac
 abbrev pub given_text : Lists → Run → List ℕ
 given_text lists given = run_text lists given.history given.image.records given.image.lists given.image.next given.image.usage given.units
 
--- the same; or with the statement of each answer beside it, as the scripts' texts have it, and where it is explained with what is said
--- of each refusal below it; or with the trace in place of the answers
+-- the same; or with the statement of each answer beside it, as the scripts' texts have it, and if refusals are explained, with what is
+-- said of each below it; or with the trace in place of the answers
 abbrev pub shown_text : Lists → AnswerForm → List (List ℕ) → Run → List ℕ
 shown_text lists Plain texts given = given_text lists given
 shown_text lists Echo texts given = echoed_run_text lists texts [] given.history given.image.records given.image.lists given.image.next given.image.usage given.units
@@ -63,12 +63,12 @@ shown_text lists (Explained capacity) texts given =
     echoed_run_text lists texts (said_of_history lists capacity (length given.units) given.history) given.history given.image.records given.image.lists given.image.next given.image.usage given.units
 shown_text lists Trace texts given = text_behind (trace_text lists texts given.history) lists given.image.records given.image.lists given.image.next given.image.usage given.units
 
--- what is explained is made again, so it has to be what can be made
+-- what is explained is made again, so it must be possible to make it
 abbrev pub CanShow : Lists → AnswerForm → Run → Type 0
 CanShow lists (Explained capacity) given = IsSound lists × (length given.units ≤ LAST_UNIT) × MayBeHistory lists (length given.units) given.history
 CanShow lists form given = ⊤
 
--- with moves, the line of their results comes before it
+-- with moves, the line of their results comes first
 abbrev pub printed : Lists → AnswerForm → List (List ℕ) → Order (List ℕ) → Run → List ℕ
 printed lists form texts Serial given = shown_text lists form texts given
 printed lists form texts (Moves moves) given = moves_text given.results ++ shown_text lists form texts given

@@ -31,8 +31,8 @@ fn said_of_given(
     said_of_history(alloc, schema, capacity, units, given.history.as_slice())
 }
 
-/// What is in the way of each refusal of the run of these moves, by ticket; nothing of a statement that is done. To find it the run is made,
-/// and its statements once more.
+/// What is in the way of each refusal of the run of these moves, by ticket; nothing for a statement that is done. The run is made for it,
+/// and each of its statements once more.
 pub fn said_of_run(
     alloc: Global,
     schema: &Schema,

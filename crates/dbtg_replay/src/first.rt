@@ -1,4 +1,4 @@
-//! What is said of a script that is made first: which of its statements were refused. It is said beside what a command prints, and
+//! What is said of a script that is made first: which of its statements were refused. This is printed beside a command's output, and
 //! no contract says what it is.
 ghost use Rattle.std.specs.Prelude.{◌≤◌, ◌<◌};
 ghost use Rattle.dbtg_schema.specs.Sound.{IsSound};
@@ -41,7 +41,7 @@ fn refusals_in(alloc: Global, history: &[Entry], text: &[u8]) -> Result<Vec<u8>,
     Ok(out)
 }
 
-// The refusals of the script with this number over a schema that was read. It is answered alone as it is before the others.
+// The refusals of the script with this number over a schema that was read. The script runs alone, as it does before the others.
 fn refusals_over<S: Source>(
     alloc: Global,
     source: &S,

@@ -29,7 +29,7 @@ use std::alloc::{AllocError, Global};
 pub enum AnswerForm {
     Plain,
     Echo,
-    /// An echo of a run of this capacity, and below each refusal what is in its way.
+    /// An echo of a run of this capacity, with what is in the way of each refusal below it.
     Explained(u16),
     Trace,
 }
@@ -53,7 +53,7 @@ pub fn check_count(count: usize) -> Result<(), Fault>
     }
 }
 
-/// The schema of a source that has a right number of scripts.
+/// The schema of a source that has an allowed number of scripts.
 pub fn schema_for_run<S: Source>(alloc: Global, source: &S) -> Result<Schema, Fault>
     ensures counted { OnOk result (is_count (S.count source.now) ≡ true) }
     ensures read { IfOk result (λ schema. ReadSchema (S.holds source.now) schema) }
@@ -64,7 +64,7 @@ pub fn schema_for_run<S: Source>(alloc: Global, source: &S) -> Result<Schema, Fa
     read_schema(alloc, source)
 }
 
-// The echo of a run, and below each refusal what is in its way.
+// The echo of a run, with what is in the way of each refusal below it.
 fn push_explained(
     alloc: Global,
     out: &mut Vec<u8>,
@@ -119,7 +119,7 @@ pub fn push_given(
     }
 }
 
-// The output of a run, as a text of its own.
+// The output of a run, as a new text.
 fn text_of(alloc: Global, schema: &Schema, shown: Shown, given: &Run) -> Result<Vec<u8>, AllocError>
     requires { CanShow schema.now shown.form given.now }
     ensures { IfOk result (λ out. out.items ≡ shown_text schema.now shown.entry.form shown.entry.texts.now given.now) }

@@ -1,4 +1,4 @@
--- Programs that are read one after another, and what is then true of all.
+-- Programs that are read one after another, and what then holds of all.
 use Rattle.std.proofs.Common.{◌≡◌, ℕ, ◌+◌, ◌<◌, ◌≤◌, List, [], ◌∷◌, ◌++◌, length, map, None, Some, sym, ap, ◌∙◌, subst, true, arith}
 use Rattle.std.specs.Prelude.{Option, nat_le}
 use Rattle.std.specs.List.{list_any}
@@ -29,7 +29,7 @@ accepted_behind : (lists : Lists) (front : List (List ℕ)) (text : List ℕ) �
 accepted_behind lists [] text all one = (one, tt)
 accepted_behind lists (first ∷ front) text all one = (all.0, accepted_behind lists front text all.1 one)
 
--- the programs that were read, and one more
+-- the programs that were read, and then one more
 pub programs_behind : (holds : TextPlace → List ℕ → Type 0) (lists : Lists) (n : ℕ) (text : List ℕ) (before after : List Program) (texts texts' : List (List ℕ))
     → (read : ReadPrograms holds lists n) × (before ≡ map (program lists) read.texts) × (texts ≡ read.texts) → holds (Script (n + 1)) text → program_refusal lists text ≡ None → after ≡ before ++ program lists text ∷ [] → texts' ≡ texts ++ text ∷ []
     → (read : ReadPrograms holds lists (n + 1)) × (after ≡ map (program lists) read.texts) × (texts' ≡ read.texts)

@@ -18,7 +18,7 @@ abbrev pub program_lines : ℕ → List Program → List ℕ
 program_lines n [] = []
 program_lines n (p ∷ ps) = program_line n p ++ program_lines (n + 1) ps
 
--- nothing is refused, and the text says how large the schema and the programs of the texts are that are held
+-- nothing is refused, and the text says how large the schema and the programs are whose texts are held
 pub record ChecksPrograms (holds : TextPlace → List ℕ → Type 0) (count : ℕ) (out : List ℕ) : Type 0 where
   pub lists : Lists
   pub schema : ReadSchema holds lists

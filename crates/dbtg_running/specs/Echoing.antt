@@ -30,7 +30,7 @@ abbrev pub words_with_fields : Option Line → Option (List Word)
 words_with_fields None = None
 words_with_fields (Some l) = filled_words l.sentence
 
--- a statement that is due, as it is spelled: as its line was written, or with values of a statement with fields its words
+-- a statement that is due, as it is spelled: as its line was written, or, with values, by its words if it has fields
 abbrev pub spelled : Bool → Program → List (List ℕ) → ProgramState → List ℕ
 spelled values program ls at =
     unwrap_or (option_map (λ words. words_text (map (said_word at) words)) (if values then words_with_fields (line_at program at) else None)) (line_of ls (line_number program at))
@@ -40,7 +40,7 @@ abbrev pub where_due : Due → (ProgramState → Statement → List ℕ) → Lis
 where_due (due at s) said = said at s
 where_due (ended at how) said = []
 
--- the line of the statement of each of these entries, which the program of these lines makes from this state on
+-- the lines of the statements of these entries, one for each, as the program of these lines makes them from this state on
 abbrev pub lines_made : Lists → Bool → Program → List (List ℕ) → ProgramState → List Entry → List ℕ
 lines_made schema values program ls state [] = []
 lines_made schema values program ls state (e ∷ es) =

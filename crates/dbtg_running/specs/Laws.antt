@@ -19,7 +19,7 @@ use Rattle.dbtg_running.specs.Reading.{AllAccepted}
 abbrev pub scripts_of : Lists → List (List ℕ) → List Entry → List (List ℕ)
 scripts_of schema texts history = scripts_made schema true 1 texts history
 
--- no statement is longer than a trace takes it
+-- no statement is longer than a trace allows
 abbrev pub AreShort : List (List ℕ) → Type 0
 AreShort = AllByRecursion (λ text. AllByRecursion (λ line. length line ≤ 1000) (statement_lines text))
 

@@ -1,4 +1,4 @@
--- Programs that a source gives, in the places of scripts, and which fault is reported for them.
+-- Programs that a source gives, in the places of scripts, and the fault that is reported for them.
 -- texts are bytes, lists the schema that a text says.
 use Rattle.std.specs.Prelude.{ℕ, ◌≡◌, ◌+◌, ◌<◌, List, [], ◌∷◌, None, length}
 use Rattle.dbtg_schema.specs.Lists.{Lists}
@@ -14,14 +14,14 @@ abbrev pub AllAccepted : Lists → List (List ℕ) → Type 0
 AllAccepted lists [] = Unit {0}
 AllAccepted lists (text ∷ texts) = (program_refusal lists text ≡ None) × AllAccepted lists texts
 
--- the texts of the first programs, which are held and accepted; count says how many they are
+-- the texts of the first programs, count of them, which are held and accepted
 pub record ReadPrograms (holds : TextPlace → List ℕ → Type 0) (lists : Lists) (count : ℕ) : Type 0 where
   pub texts : List (List ℕ)
   pub many : length texts ≡ count
   pub held : HoldsScripts holds 1 texts
   pub accepted : AllAccepted lists texts
 
--- the fault is reported for one of the first programs, of which count says how many they are, and all before it are held and accepted
+-- the fault is reported for one of the first programs, count of them, and all before it are held and accepted
 pub record ToldOfPrograms (holds : TextPlace → List ℕ → Type 0) (fails : TextPlace → Fault → Type 0) (fault : Fault) (lists : Lists) (count : ℕ) : Type 0 where
   pub before : ℕ
   pub read : ReadPrograms holds lists before

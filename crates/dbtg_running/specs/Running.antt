@@ -1,5 +1,5 @@
 -- What `run` prints of the texts that a source gives, and which fault it reports.
--- texts, turns are bytes, lists the schema that a text says; programs stand in the places of scripts.
+-- texts and turns are bytes, lists is the schema that a text says; programs stand in the places of scripts.
 use Rattle.std.specs.Prelude.{ℕ, ◌≡◌, ◌++◌, Bool, true, false, List, Option, Some, None, ◌⊎◌, map}
 use Rattle.std.specs.List.{list_any}
 use Rattle.dbtg_schema.specs.Lists.{Lists}
@@ -60,7 +60,7 @@ abbrev pub run_text : Lists → AnswerForm → List (List ℕ) → ProgramRun �
 run_text lists form texts given =
     shown_text lists (unexplained form) (scripts_made lists (has_values form) 1 texts given.run.history) given.run ++ programs_text 1 (map (program lists) texts) given.programs
 
--- 1 to 8 programs, nothing is refused, and what is printed is the text of the run of what the texts say; it is said whether a program failed
+-- 1 to 8 programs, nothing is refused, and what is printed is the text of the run of what the texts say; the flag says whether one failed
 pub record RunsHeld (holds : TextPlace → List ℕ → Type 0) (count : ℕ) (which : OrderKind) (options : RunOptions) (printed : Printed) : Type 0 where
   pub counted : is_count count ≡ true
   pub lists : Lists

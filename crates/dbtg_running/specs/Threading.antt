@@ -1,5 +1,5 @@
 -- What `run` prints of programs on threads.
--- texts are bytes, lists the schema that a text says; programs stand in the places of scripts.
+-- texts are bytes, lists is the schema that a text says; programs stand in the places of scripts.
 use Rattle.std.specs.Prelude.{ℕ, ◌≡◌, ◌++◌, true, List, [], ◌∷◌, codes, map}
 use Rattle.std.specs.List.{list_any}
 use Rattle.dbtg_schema.specs.Lists.{Lists}

@@ -50,14 +50,14 @@ fn any_failed(programs: &[Reached]) -> bool
     programs.iter().any(|reached| failed(reached.standing))
 }
 
-// Does each field of a program stand as the literal of its value? In a trace it does, which another engine reads.
+// Does each field of a program stand as the literal of its value? It does in a trace, because another engine reads that.
 fn has_values(form: AnswerForm) -> bool
     ensures { result ≡ has_values form }
 {
     matches!(form, AnswerForm::Trace)
 }
 
-// Programs ask for their statuses themselves, so an echo of theirs explains none.
+// Programs ask for their statuses themselves, so their echo explains none.
 fn unexplained(form: AnswerForm) -> AnswerForm
     ensures { result ≡ unexplained form }
 {
@@ -67,7 +67,7 @@ fn unexplained(form: AnswerForm) -> AnswerForm
     }
 }
 
-// The text of a run of these programs, in which each answer has its statement beside it.
+// The text of a run of these programs, with each answer's statement beside it.
 #[tactic(auto, using(crate::proofs::Shown::can_be_shown))]
 fn text_with_statements(
     alloc: Global,

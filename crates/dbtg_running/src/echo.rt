@@ -77,7 +77,7 @@ fn words_with_fields<'a>(program: &'a Program, state: &State) -> Option<&'a [Wor
 }
 
 impl<'a> Followed<'a> {
-    // The words of the statement that is due, if a field among them is to stand as the literal of its value.
+    // The words of the statement that is due, if one of its fields must stand as the literal of its value.
     fn words_with_values(&self, state: &State) -> Option<&'a [Word]>
         ensures { option_map (λ words. words.now) result ≡ (if self.now.values then words_with_fields (line_at self.now.program.now state.now) else None) }
     {
@@ -88,7 +88,7 @@ impl<'a> Followed<'a> {
         }
     }
 
-    // Puts the statement that is due, as it is spelled.
+    // Appends the statement that is due, as it is spelled.
     fn push_spelled(&self, made: &mut Vec<u8>, state: &State) -> Result<(), AllocError>
         ensures { OnOk result (made.new.items ≡ made.old.items ++ spelled self.now.values self.now.program.now (map (λ l. l.now) self.now.lines.now) state.now) }
     {
@@ -98,7 +98,7 @@ impl<'a> Followed<'a> {
         }
     }
 
-    // Puts the line of the statement that is due, and goes on after its answer; false if the program has ended.
+    // Appends the line of the statement that is due, and goes on after its answer; false if the program has ended.
     fn push_made(
         &self,
         made: &mut Vec<u8>,
@@ -118,7 +118,7 @@ impl<'a> Followed<'a> {
         }
     }
 
-    // Goes on after an entry, with its line if it is of the unit; false if the unit's program has ended.
+    // Goes on after an entry, and appends its line if it is of the unit; false if the unit's program has ended.
     fn follow(
         &self,
         made: &mut Vec<u8>,
@@ -172,8 +172,8 @@ fn script_made(
     followed.lines_made(unit, history)
 }
 
-/// The script of each unit that has just the statements which its program made, as the lines of the program's text; with values, each
-/// field stands there as the literal of its value.
+/// The script of each unit: the statements that its program made, as the lines of the program's text; with values, each field stands there
+/// as the literal of its value.
 pub fn scripts_made(
     alloc: Global,
     schema: &Schema,

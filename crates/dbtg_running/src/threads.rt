@@ -21,7 +21,7 @@ use std::alloc::{AllocError, Global};
 use std::sync::Wait;
 use std::thread::Threads;
 
-/// What is printed of a run of programs on threads, and the text of turns by which `run` prints the same but for its last line.
+/// What is printed of a run of programs on threads, and the text of the turns by which `run` prints the same except for its last line.
 #[derive(Drop)]
 pub struct PrintedOnThreads {
     pub printed: Printed,

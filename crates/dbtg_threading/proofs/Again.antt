@@ -1,4 +1,4 @@
--- A history in which units have gone by programs is that of its turns.
+-- A history in which units have followed programs is that of its turns.
 -- es are entries, u is a unit.
 use Rattle.std.proofs.Common.{◌≡◌, refl, sym, ◌∙◌, ap, subst, ℕ, ◌+◌, ◌-◌, ◌<◌, ◌≤◌, true, List, [], ◌∷◌, ◌++◌, length, map, Option, Some, None, arith, append-nil, append_assoc}
 use Rattle.std.specs.Prelude.{◌==◌, if◌then◌else◌, option_and_then, option_map}

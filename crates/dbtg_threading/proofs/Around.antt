@@ -1,4 +1,4 @@
--- Turns of a first program, of others, and of a last one are those of a run around the others.
+-- Turns of a first program, of others, and of a last one are those of a run with a first and a last program around the others.
 -- u and v are units, us are turns.
 use Rattle.std.proofs.Common.{◌≡◌, ◌≢◌, ◌⊎◌, refl, sym, ◌∙◌, ap, subst, ℕ, zero, suc, ◌+◌, ◌-◌, ◌<◌, ◌≤◌, true, false, Bool, ◌&&◌, List, [], ◌∷◌, ◌++◌, length, map, take, drop, Option, Some, None, inl, inr, arith, append-nil, slice_get}
 use Rattle.std.specs.Prelude.{◌==◌, filter, if◌then◌else◌, is_none, not, option_and_then, replicate, ⊤}
@@ -28,7 +28,7 @@ use Rattle.dbtg_threading.specs.Inside.Between.{AreBetween}
 use Rattle.dbtg_threading.specs.Inside.Gone.{IsHistoryOfAll, each_reached, statement_after}
 use Rattle.dbtg_threading.proofs.Again.{made_again}
 
--- none of the turns is of the unit
+-- none of the turns belongs to the unit
 abbrev Miss : ℕ → List ℕ → Type 0
 Miss u [] = ⊤
 Miss u (v ∷ vs) = (v ≢ u) × Miss u vs
@@ -42,7 +42,7 @@ all_in_range f s zero h = refl
 all_in_range f s (suc n) h =
     ap (λ b. b && list_all f (range_with_len (s + 1) n)) (h s (omega arith) (omega arith)) ∙ all_in_range f (s + 1) n (λ u low high. h u (omega (arith, low)) (omega (arith, high)))
 
--- what all are kept of, and what none is kept of
+-- a filter that all pass keeps everything, and one that none passes keeps nothing
 all_kept : (f : ℕ → Bool) (us : List ℕ) → list_all f us ≡ true → filter f us ≡ us
 all_kept f [] all = refl
 all_kept f (u ∷ us) all =
@@ -61,7 +61,7 @@ same_unit : (u : ℕ) → (u == u) ≡ true
 same_unit u = grind arith
 
 module _ (around : Around) (units : ℕ) where
-  -- turns of others are heard
+  -- turns of the others are not ignored
   all_heard : (us : List ℕ) → list_all (is_between around units) us ≡ true → list_all (is_heard around units) us ≡ true
   all_heard [] all = refl
   all_heard (u ∷ us) all =
@@ -69,7 +69,7 @@ module _ (around : Around) (units : ℕ) where
       let heard = (and_parts (not (around.first && u == others around units + 1)) (is_heard around units u) parts.0).1 in
       ap (λ b. b && list_all (is_heard around units) us) heard ∙ all_heard us parts.1
 
-  -- those of the first unit and of the last are not between
+  -- turns of the first unit and of the last are not between
   first_is_not : around.first ≡ true → is_between around units (others around units + 1) ≡ false
   first_is_not first =
       let f = others around units + 1 in
@@ -88,7 +88,7 @@ module _ (around : Around) (units : ℕ) where
   backs_left_out true h n none = none_kept (is_between around units) units n (last_is_not h)
   backs_left_out false h n none = ap (λ k. filter (is_between around units) (replicate k units)) (none h)
 
-  -- the turns between are what is left without them
+  -- the turns between are what is left without those of the first unit and the last
   left_between : (us between : List ℕ) → AreBetween around units us between → between ≡ filter (is_between around units) us
   left_between us between is =
       let p = is_between around units in
@@ -97,7 +97,7 @@ module _ (around : Around) (units : ℕ) where
       sym (ap (filter p) is.turns_are ∙ filter-append p fronts (between ++ backs) ∙ ap (λ vs. vs ++ filter p (between ++ backs)) (fronts_left_out around.first refl is.front is.front_none)
       ∙ filter-append p between backs ∙ (λ i. all_kept p between is.others_only i ++ backs_left_out around.last refl is.back is.back_none i) ∙ append-nil between)
 
-  -- none of them is the first unit's
+  -- none of them belongs to the first unit
   miss_first : around.first ≡ true → (us : List ℕ) → list_all (is_between around units) us ≡ true → Miss (others around units + 1) us
   miss_first first [] all = tt
   miss_first first (u ∷ us) all =
@@ -122,7 +122,7 @@ others_few around units =
     let two = one_less_is_less around.first (one_less around.last units) in
     omega (arith, one, two)
 
--- turns that are cut in three
+-- turns that are split into three parts
 pub cut_in_three : (around : Around) (units : ℕ) (turns behind between rest : List ℕ) (front count back : ℕ) → behind ≡ drop front turns → between ≡ take count behind → rest ≡ drop count behind → back ≡ length rest
     → take front turns ≡ replicate front (others around units + 1) → list_all (is_between around units) (take count behind) ≡ true → take back rest ≡ replicate back units
     → front ≤ MOST_STATEMENTS → back ≤ MOST_STATEMENTS → (around.first ≡ false → front ≡ 0) → (around.last ≡ false → back ≡ 0) → (around.first ≡ true → (back ≡ 0) ⊎ (others around units + 1 ≢ units))
@@ -161,7 +161,7 @@ module _ (schema : Lists) (capacity : ℕ) (programs : List Program) where
   unmoved u [] h miss = refl
   unmoved u (v ∷ us) h miss = unmoved u us (after_turn schema capacity programs h v) miss.1 ∙ not_mine_made u v h (statement_of schema programs h v) miss.0
 
-  -- what a unit makes next depends on its own entries
+  -- what a unit makes next depends only on its own entries
   same_next : (u : ℕ) (h k : List Entry) → entries_of u h ≡ entries_of u k → statement_of schema programs h u ≡ statement_of schema programs k u
   same_next u h k same = ap (λ es. option_and_then (λ (p : Program). statement_after schema p es) (unit_at programs u)) same
 
@@ -267,7 +267,7 @@ nobody : (schema : Lists) (programs : List Program) (history : List Entry) (u : 
 nobody schema programs history u None all = refl
 nobody schema programs history u (Some p) all = all p refl
 
--- the settled database is what such a run has come to
+-- the settled database is the result of such a run
 pub run_on_threads : (schema : Lists) (capacity : ℕ) (programs : List Program) (around : Around) (turns : List ℕ) (settled : Settled) (given : ProgramRun)
     → IsHistoryOfAll schema capacity programs settled → AreBetween around (length programs) (map (λ (e : Entry). e.unit) settled.history) turns
     → given.run.results ≡ [] → given.run.history ≡ settled.history → given.run.image ≡ settled.image → given.run.units ≡ settled.units → given.programs ≡ each_reached schema 1 programs settled.history

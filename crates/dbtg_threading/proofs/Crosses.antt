@@ -1,4 +1,4 @@
--- Programs may cross threads; that a unit and its database may, the library of units on threads says.
+-- Programs may cross threads; the library of units on threads says that a unit and its database may.
 use denote.Param.Send.{IsSync, sendable}
 use Rattle.std.proofs.Crossing.{crosses}
 use Rattle.dbtg_program.specs.contracts.program.Program as Program

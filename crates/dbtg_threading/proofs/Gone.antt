@@ -1,4 +1,4 @@
--- A unit that goes by a program, and what the units of a new database have made when they come back.
+-- A unit that follows a program, and what the units of a new database have made when they come back.
 use Rattle.std.proofs.Common.{◌≡◌, ◌⊎◌, ℕ, zero, suc, ◌+◌, ◌<◌, ◌≤◌, true, false, List, [], ◌∷◌, ◌++◌, length, take, drop, None, Some, refl, sym, ap, ◌∙◌, subst, inl, inr, arith, get_or}
 use Rattle.std.specs.Prelude.{◌==◌, if◌then◌else◌, nat_lt}
 use Rattle.std.specs.List.{range_with_len}
@@ -29,13 +29,13 @@ use Rattle.dbtg_run.specs.Views.{Has}
 use Rattle.dbtg_run.proofs.Units.Abreast.{last_place}
 use Rattle.dbtg_threading.specs.Inside.Gone.{AreFresh, AreInTurn, HasGone, HaveGone, IsHistoryOfAll, statement_after}
 
--- ONE ENTRY MORE
+-- ONE MORE ENTRY
 
 never_empty : {X : Type 0} (xs : List X) (y : X) (zs : List X) → [] ≡ xs ++ y ∷ zs → ⊥
 never_empty [] y zs e = absurd (cc)
 never_empty (x ∷ xs) y zs e = absurd (cc)
 
--- an element of a list with one more is the last one, or stands in the list
+-- an element of a list with one more is the new one, or was in the list before
 last_or_in : {X : Type 0} (xs before behind : List X) (x y : X) → xs ++ x ∷ [] ≡ before ++ y ∷ behind → ((xs ≡ before) × (x ≡ y)) ⊎ ((rest : List X) × (xs ≡ before ++ y ∷ rest))
 last_or_in [] [] behind x y e = inl (refl, cc)
 last_or_in [] (b ∷ bs) behind x y e = let rest : [] ≡ bs ++ y ∷ behind = cc in absurd (never_empty bs y behind rest)
@@ -69,7 +69,7 @@ made_none schema program es g at many =
     let full : nat_lt (length es) MOST_STATEMENTS ≡ false = grind (arith, nat_tests, many) in
     ap (due_after schema (length es)) (sym at.comes) ∙ ap (λ b. if b then statement_due schema (comes_of g) else None) full
 
--- what the unit makes next is due in a program that is there, and is not one too many
+-- what the unit makes next is due in an existing program, and is within the limit
 pub due_next : (schema : Lists) (program : Program) (es : List Entry) (m : Member) (x : Statement) → IsAt schema program es m → statement_after schema program es ≡ Some x → (m.going.due ≡ code_due.Statement x) × (m.made < MOST_STATEMENTS)
 due_next schema program es m x at said =
     let found = to_be_made schema m.made m.going.state m.going.due x ((λ i. due_after schema (at.made i) (at.going.comes i)) ∙ said) in
@@ -80,7 +80,7 @@ due_next schema program es m x at said =
 around : (history : List Entry) (i : ℕ) (e : Entry) → i < length history → e ≡ get_or history i e → history ≡ take i history ++ e ∷ drop (i + 1) history
 around history i e below is = sym (take-append-drop i history) ∙ ap (λ es. take i history ++ es) (drop_more history i e below ∙ ap (λ x. x ∷ drop (i + 1) history) (sym is))
 
--- where a history goes on with an entry of the unit, the unit makes its statement
+-- if a history goes on with an entry of the unit, this has the statement that the unit makes
 pub makes_next : (schema : Lists) (program : Program) (u : ℕ) (history : List Entry) (i : ℕ) (e : Entry) → AreInTurn schema program (entries_of u history) → i < length history → e ≡ get_or history i e → e.unit ≡ u
     → statement_after schema program (entries_of u (take i history)) ≡ Some e.statement
 makes_next schema program u history i e in_turn below is mine =
@@ -97,7 +97,7 @@ numbered_at programs k p below is =
     let next : k + 1 ≡ suc k = omega arith in
     ap (unit_at programs) next ∙ slice_get_read programs (length programs) k p refl below is
 
--- where one is taken from the end and one put there, there are as many as before
+-- if one is taken from the end and one is added there, there are as many as before
 pub same_many : {A : Type 0} (units left came back : List A) (u v : A) → units ≡ left ++ u ∷ [] → back ≡ came ++ v ∷ [] → length came ≡ length left → length back ≡ length units
 same_many units left came back u v units_are back_is many = last_place came back v back_is ∙ ap (λ n. n + 1) many ∙ sym (last_place left units u units_are)
 

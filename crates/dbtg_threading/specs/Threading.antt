@@ -11,8 +11,8 @@ use Rattle.dbtg_going.specs.Turns.{IsRunOf, is_heard, others, statement_of, turn
 abbrev pub is_between : Around → ℕ → ℕ → Bool
 is_between around units u = not (around.first && u == others around units + 1) && is_heard around units u
 
--- a run of programs in which they take these turns, the first program before all others and the last one after them, and after which none
--- of them can make another statement. The turns are those in which the others made their statements
+-- a run of programs that take these turns, the first program before all others and the last one after them, and after which none of them
+-- can make another statement. The turns are those in which the others made their statements
 pub record IsRunOnThreads (schema : Lists) (capacity : ℕ) (programs : List Program) (around : Around) (turns : List ℕ) (given : ProgramRun) : Type 0 where
   pub is_run : IsRunOf schema capacity programs (turns_of schema capacity programs around (Some turns)) given
   pub at_end : (u : ℕ) → statement_of schema programs given.run.history u ≡ None

@@ -1,4 +1,4 @@
-//! Units go by programs side by side, each on a thread of its own, behind one that goes first and before one that goes last.
+//! Units follow programs side by side, each on a thread of its own, after one that goes first and before one that goes last.
 
 ghost use Rattle.dbtg_run.specs.UnitView.{BelongsTo};
 ghost use Rattle.dbtg_threading.specs.Inside.Gone.{AreFresh, HaveGone, WentBy};
@@ -28,7 +28,7 @@ fn program_at(programs: &[Program], place: usize) -> &Program
     &programs[place]
 }
 
-// Each unit goes by the program at its place, the last on a thread beside the others, and all come back in their order. The error
+// Each unit follows the program at its place, the last on a thread beside the others, and all come back in their order. The error
 // means that memory was refused to one of them.
 fn run_abreast<R: Threads + Wait + Sync>(
     rt: &R,
@@ -70,7 +70,7 @@ fn run_abreast<R: Threads + Wait + Sync>(
     }
 }
 
-// The same; but if one is to go first, that is the last of these units, and it has come to its end before the others begin.
+// The same; but if one is to go first, it is the last of these units, and it comes to its end before the others begin.
 fn run_behind_first<R: Threads + Wait + Sync>(
     rt: &R,
     alloc: Global,
@@ -103,8 +103,8 @@ fn run_behind_first<R: Threads + Wait + Sync>(
     }
 }
 
-/// Each unit goes by the program at its place, and all come back in their order: the first to its end before any other begins, the
-/// last when all others have come to theirs, and those between them on a thread each. The error means that memory was refused to one
+/// Each unit follows the program at its place, and all come back in their order: the first comes to its end before any other begins,
+/// the last begins when all others have ended, and those between run on a thread each. The error means that memory was refused to one
 /// of them.
 pub fn run_around<R: Threads + Wait + Sync>(
     rt: &R,

@@ -52,14 +52,14 @@ fn leading_if(there: bool, turns: &[u8], unit: u8) -> usize
     if there { leading(turns, unit) } else { 0 }
 }
 
-// Is the first unit, if there is one, another than the last?
+// Is the first unit, if there is one, other than the last?
 fn are_apart(there: bool, first: u8, last: u8) -> bool
     ensures { result ≡ true → there ≡ true → first ≢ last }
 {
     !there || first != last
 }
 
-// The first turns, and those behind them.
+// The first turns, and those after them.
 fn cut(turns: &[u8], count: usize) -> (&[u8], &[u8])
     requires { count ≤ length turns.now }
     ensures front { result.0.now ≡ take count turns.now }

@@ -19,7 +19,7 @@ use std::alloc::{AllocError, Global};
 use std::sync::Wait;
 use std::thread::Threads;
 
-/// A run of programs on threads, and whose turns the statements were, except those of the first program and of the last.
+/// A run of programs on threads, and the units that made the statements in turn, without those of the first program and of the last.
 #[derive(Drop)]
 pub struct OnThreads {
     pub given: ProgramRun,
@@ -73,7 +73,7 @@ fn settled_of<R: Threads + Wait + Sync>(
     }
 }
 
-// What is said of a history, if the first program made its statements before all others and the last one after them.
+// What a history means if the first program made its statements before all others and the last one after them.
 fn said_of(
     alloc: Global,
     schema: &Schema,
@@ -96,7 +96,7 @@ fn said_of(
     }))
 }
 
-// The settled database as a run of programs; nothing is said of moves.
+// The settled database as a run of programs, without results of moves.
 fn given_of(alloc: Global, settled: Settled, said: Said) -> OnThreads
     ensures history { result.given.run.history ≡ settled.history }
     ensures image { result.given.run.image ≡ settled.image }
@@ -125,9 +125,9 @@ fn given_of(alloc: Global, settled: Settled, said: Said) -> OnThreads
     }
 }
 
-/// Runs programs, starting with the opening database, by a unit for each, on a thread each, to their ends. A first program runs to its
-/// end before all others are begun, a last one is begun when all others have ended. That these draw the first tickets and the last is
-/// what no contract of units says: a run in which they did otherwise would be repeated.
+/// Runs programs on threads to their ends, starting with the opening database, each by a unit of its own on a thread of its own. A first
+/// program runs to its end before the others begin, and a last one begins when all others have ended. No contract of units says that they
+/// draw the first and the last tickets: a run in which they did otherwise would be repeated.
 pub fn run_on_threads<R: Threads + Wait + Sync>(
     rt: &R,
     alloc: Global,

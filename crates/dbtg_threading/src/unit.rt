@@ -1,4 +1,4 @@
-//! A unit goes by a program, on any thread.
+//! A unit follows a program, on any thread.
 
 ghost use Rattle.dbtg_run.specs.UnitView.{BelongsTo};
 ghost use Rattle.dbtg_threading.specs.Inside.Gone.{HasGone, WentBy};
@@ -42,7 +42,7 @@ fn go_by<R: Wait>(
     Ok(())
 }
 
-/// A unit goes by a program, and comes back; the error means that memory was refused to it.
+/// A unit follows a program, and comes back; the error means that memory was refused to it.
 pub fn run_one<R: Wait>(
     rt: &R,
     alloc: Global,

@@ -1,4 +1,4 @@
--- One event more: it joins the line that is not at its end, or begins the next.
+-- One more event: it joins the line that is not at its end, or begins the next.
 use Rattle.std.proofs.Common.{◌≡◌, ℕ, suc, ◌+◌, true, false, List, [], ◌∷◌, ◌++◌, length, refl, sym, ap, ◌∙◌, arith}
 use Rattle.std.proofs.lemmas.List.{append_assoc, length-append}
 use Rattle.dbtg_timeline.specs.declared.event.Event.{Event}

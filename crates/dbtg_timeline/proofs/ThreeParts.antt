@@ -1,4 +1,4 @@
--- Three texts, pushed one behind another.
+-- Three texts, pushed one after another.
 use Rattle.std.proofs.Common.{◌≡◌, ℕ, List, ◌++◌, ap, ◌∙◌}
 use Rattle.std.proofs.lemmas.List.{append_assoc}
 

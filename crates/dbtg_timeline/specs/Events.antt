@@ -19,13 +19,13 @@ use Rattle.dbtg_timeline.specs.declared.event.Mark.{Mark}
 use Rattle.dbtg_timeline.specs.declared.event.Mark.TheVariants.{Begin, TakeArea, TakeCell, TurnBack, Return, Ticket, Link, PutBack, LeaveArea, Quit, Blocked, Idle}
 use Rattle.dbtg_timeline.specs.Waiting.{waiting_text}
 
--- ---- a unit that may not be there
+-- ---- a unit that may not exist
 
--- how many statements of it have their ticket
+-- how many of its statements have their ticket
 abbrev pub made_in : Option Position → ℕ
 made_in p = unwrap_or (option_map (λ (it : Position). it.made) p) 0
 
--- how far its statement is, where it is in mid-statement
+-- how far its statement is, if it is in mid-statement
 abbrev pub progress_in : Option Position → Option Progress
 progress_in p = option_and_then (λ (it : Position). it.progress) p
 
@@ -48,17 +48,17 @@ entry_mark (Some e) = Ticket e.ticket (status_code e.statement e.answer.status)
 abbrev pub ticket_mark : List Entry → Mark
 ticket_mark history = entry_mark (slice_get history (length history - 1))
 
--- with a ticket: a link while one is left, then each cell goes back, then each area is left
+-- with a ticket: links as long as any are left, then each cell is put back, then each area is left
 abbrev pub ended_mark : Progress → Mark
 ended_mark w = if nat_lt w.linked w.cells then Link else (if nat_lt 0 w.cells then PutBack else LeaveArea)
 
--- without one, and not putting cells back, by what is more after the event
+-- without a ticket, and not putting cells back: by what the unit has more of after the event
 abbrev pub needed_mark : Option Position → Option Position → List Entry → Mark
 needed_mark before after history =
     if nat_lt (made_in before) (made_in after) then ticket_mark history else
     (if nat_lt (areas_in before) (areas_in after) then TakeArea else (if nat_lt (cells_in before) (cells_in after) then TakeCell else TurnBack))
 
--- the mark of an event in mid-statement: with a ticket, in turning back, or as it takes what it needs
+-- the mark of an event in mid-statement: with a ticket, while it turns back, or while it takes what it needs
 abbrev pub in_statement_mark : Progress → Option Position → Option Position → List Entry → Mark
 in_statement_mark w before after history =
     if w.has_ticket then ended_mark w else (if w.turning_back && nat_lt 0 w.cells then Return else needed_mark before after history)
@@ -68,7 +68,7 @@ abbrev pub moved_mark : Option Progress → Option Position → Option Position 
 moved_mark None before after history = Begin
 moved_mark (Some w) before after history = in_statement_mark w before after history
 
--- the mark of a move, by its result, where its unit was before and is after it, and the history after it
+-- the mark of a move: by its result, by where its unit was before it and is after it, and by the history after it
 abbrev pub mark_of : Move → Stepped → Option Position → Option Position → List Entry → Mark
 mark_of (Step u) Moved before after history = moved_mark (progress_in before) before after history
 mark_of (Quits u) Moved before after history = Quit
@@ -88,7 +88,7 @@ abbrev pub has_ticket : Option Progress → ℕ
 has_ticket None = 0
 has_ticket (Some w) = if w.has_ticket then 1 else 0
 
--- the place of the statement in the script: with a ticket the last one made, and otherwise the next one
+-- the place of the statement in the script: with a ticket the last one made, otherwise the next one
 abbrev pub place_of : Option Position → ℕ
 place_of p = made_in p - has_ticket (progress_in p)
 
@@ -96,7 +96,7 @@ place_of p = made_in p - has_ticket (progress_in p)
 abbrev pub shown : Move → Stepped → Option Position → Option Position → List Entry → List ℕ → Event
 shown m stepped before after history wait = record { unit = unit_in m; mark = mark_of m stepped before after history; place = place_of before; midway = is_some (progress_in after); below = wait }
 
--- where the machine has unit u
+-- where unit u is in the machine
 abbrev pub place_in : CoreState → ℕ → Option Position
 place_in c u = position_at (network c.schema c.capacity) c.state u
 

@@ -1,4 +1,4 @@
--- The lines of a picture: a line has events of one unit in one statement that come one directly after another, however many.
+-- The lines of a picture: a line has any number of events that directly follow one another, of one unit in one statement.
 use Rattle.std.specs.Prelude.{ℕ, zero, suc, ◌+◌, ◌-◌, ◌==◌, Bool, ◌&&◌, ◌||◌, List, [], ◌∷◌, ◌++◌, Option, Some, None, length, map, if◌then◌else◌, slice_get, unwrap_or}
 use Rattle.dbtg_timeline.specs.declared.event.Event.{Event}
 use Rattle.dbtg_timeline.specs.declared.event.Mark.TheVariants.{Ticket}
@@ -7,7 +7,7 @@ use Rattle.dbtg_timeline.specs.declared.event.Mark.{Mark}
 use Rattle.dbtg_timeline.specs.declared.lines.Line.{Line}
 use Rattle.dbtg_timeline.specs.Marks.{is_idle, letter}
 
--- of the same unit, and in the statement that the one before left open; moves that are idle go together too
+-- of the same unit, and in the statement that the event before left open; idle moves join too
 abbrev pub joins : Event → Event → Bool
 joins last e = last.unit == e.unit && (last.midway || is_idle last.mark && is_idle e.mark)
 
@@ -15,7 +15,7 @@ joins last e = last.unit == e.unit && (last.midway || is_idle last.mark && is_id
 abbrev pub last_of : Line → Event
 last_of l = unwrap_or (slice_get l.more (length l.more - 1)) l.head
 
--- the event goes on with the line
+-- the event continues the line
 abbrev pub goes_on : Line → Event → Bool
 goes_on l e = joins (last_of l) e
 
@@ -23,7 +23,7 @@ goes_on l e = joins (last_of l) e
 abbrev pub begun : ℕ → Event → Line
 begun first e = record { first = first; head = e; more = [] }
 
--- the line with one event more
+-- the line with one more event
 abbrev pub longer : Line → Event → Line
 longer l e = record { first = l.first; head = l.head; more = l.more ++ e ∷ [] }
 
@@ -46,12 +46,12 @@ abbrev pub drawn_by : Mark → Option Drawn
 drawn_by (Ticket ticket status) = Some (record { ticket = ticket; status = status })
 drawn_by _ = None
 
--- the first, or the later one if there is none
+-- the first value, or the later one if there is none
 abbrev pub or_later : Option Drawn → Option Drawn → Option Drawn
 or_later None later = later
 or_later (Some d) later = Some d
 
--- the first that these events draw
+-- the first value that these events draw
 abbrev pub drawn_in : List Event → Option Drawn
 drawn_in [] = None
 drawn_in (e ∷ es) = or_later (drawn_by e.mark) (drawn_in es)
@@ -60,12 +60,12 @@ drawn_in (e ∷ es) = or_later (drawn_by e.mark) (drawn_in es)
 abbrev pub drawn : Line → Option Drawn
 drawn l = drawn_in (l.head ∷ l.more)
 
--- the first text, or the later one where it is empty
+-- the first text, or the later one if it is empty
 abbrev pub or_later_text : List ℕ → List ℕ → List ℕ
 or_later_text [] later = later
 or_later_text (b ∷ bs) later = b ∷ bs
 
--- what the first of these events says below the statement that says any of it
+-- what the first of these events to say anything says below its statement
 abbrev pub below_in : List Event → List ℕ
 below_in [] = []
 below_in (e ∷ es) = or_later_text e.below (below_in es)

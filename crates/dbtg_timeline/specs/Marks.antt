@@ -3,7 +3,7 @@ use Rattle.std.specs.Prelude.{ℕ, ◌==◌, Bool, true, false, if◌then◌else
 use Rattle.dbtg_timeline.specs.declared.event.Mark.{Mark}
 use Rattle.dbtg_timeline.specs.declared.event.Mark.TheVariants.{Begin, TakeArea, TakeCell, TurnBack, Return, Ticket, Link, PutBack, LeaveArea, Quit, Blocked, Idle}
 
--- a ticket: T where the statement is done, X where it is refused
+-- a ticket: T if the statement is done, X if it is refused
 abbrev pub ticket_letter : ℕ → ℕ
 ticket_letter status = if status == 0 then 84 else 88
 

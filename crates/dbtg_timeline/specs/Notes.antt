@@ -8,7 +8,7 @@ use Rattle.dbtg_timeline.specs.declared.event.Mark.TheVariants.{Ticket}
 abbrev pub note_of : List (List ℕ) → ℕ → List ℕ
 note_of notes ticket = unwrap_or (slice_get notes ticket) []
 
--- what stands below the statement of an event with this mark: the note of a ticket, else what stood there
+-- what stands below the statement of an event with this mark: the note of its ticket, or else what was there
 abbrev pub below : List (List ℕ) → Mark → List ℕ → List ℕ
 below notes (Ticket ticket status) text = note_of notes ticket
 below notes _ text = text

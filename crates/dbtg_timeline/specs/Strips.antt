@@ -1,4 +1,4 @@
--- A line is printed in strips, one below another: the letters are folded, and so is the text of the statement.
+-- A line is printed in strips, one below another: the letters are folded, and so is the statement's text.
 use Rattle.std.specs.Prelude.{ℕ, zero, suc, ◌+◌, ◌-◌, ◌==◌, Bool, false, not, ◌&&◌, ◌||◌, nat_le, nat_lt, List, [], ◌∷◌, ◌++◌, Option, Some, None, length, map, if◌then◌else◌, slice_get, slice_set, unwrap_or}
 use Rattle.std.specs.List.{flat_map, prefix_len, range_with_len}
 use Rattle.dbtg_timeline.specs.declared.lines.Line.{Line}
@@ -13,12 +13,12 @@ use Rattle.dbtg_timeline.specs.Marks.{is_begin}
 abbrev pub word_length : List ℕ → ℕ
 word_length text = prefix_len (λ b. not (b == 32)) text
 
--- a part of this many bytes, which is not empty, ends before these: it is full, or they begin with a space and a word that does not fit
+-- a part of this many bytes, if it is not empty, ends before these: it is full, or they begin with a space and a word that does not fit
 abbrev pub ends : ℕ → ℕ → List ℕ → Bool
 ends width count [] = false
 ends width count (b ∷ bs) = count == width || (b == 32 && (nat_lt 0 count && nat_le (width - count) (word_length bs)))
 
--- the last part, if it has anything
+-- the last part, if there is anything in it
 abbrev pub last_part : List ℕ → List (List ℕ)
 last_part [] = []
 last_part (b ∷ bs) = (b ∷ bs) ∷ []
@@ -28,13 +28,13 @@ abbrev pub folded_from : ℕ → List ℕ → List ℕ → List (List ℕ)
 folded_from width part [] = last_part part
 folded_from width part (b ∷ bs) = if ends width (length part) (b ∷ bs) then part ∷ folded_from width (b ∷ []) bs else folded_from width (part ++ b ∷ []) bs
 
--- the parts of a text, none of more bytes than this
+-- the parts of a text, each of at most this many bytes
 abbrev pub folded : ℕ → List ℕ → List (List ℕ)
 folded width text = folded_from width [] text
 
 -- ---- strips
 
--- what a strip has of these parts, nothing after the last
+-- what a strip shows of these parts; nothing after the last
 abbrev pub part_at : List (List ℕ) → ℕ → List ℕ
 part_at parts i = unwrap_or (slice_get parts i) []
 
@@ -58,7 +58,7 @@ strip_at l letters words i = record {
 abbrev pub larger : ℕ → ℕ → ℕ
 larger m n = if nat_lt m n then n else m
 
--- as many as letters and statement need
+-- as many strips as the letters and the statement need
 abbrev pub strips_by : Line → List (List ℕ) → List (List ℕ) → List Strip
 strips_by l letters words = map (strip_at l letters words) (range_with_len 0 (larger (length letters) (length words)))
 
@@ -66,7 +66,7 @@ strips_by l letters words = map (strip_at l letters words) (range_with_len 0 (la
 abbrev pub words_of : List (List (List ℕ)) → Line → List (List ℕ)
 words_of scripts l = folded 42 (label scripts l.head.unit l.head.place) ++ folded 42 (below_of l)
 
--- the strips of a line: 32 letters and 42 bytes of words are next to each other
+-- the strips of a line: 32 letters beside 42 bytes of words
 abbrev pub strips_of : List (List (List ℕ)) → Line → List Strip
 strips_of scripts l = strips_by l (folded 32 (letters l)) (words_of scripts l)
 
@@ -76,7 +76,7 @@ strips scripts lines = flat_map (strips_of scripts) lines
 
 -- ---- lanes
 
--- the units in mid-statement, by their numbers from 1, where this one is or is not
+-- the units in mid-statement, by their numbers from 1, with or without this one
 abbrev pub with_lane : List Bool → ℕ → Bool → List Bool
 with_lane lanes zero midway = lanes
 with_lane lanes (suc i) midway = slice_set lanes i midway

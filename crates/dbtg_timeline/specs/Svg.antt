@@ -13,7 +13,7 @@ use Rattle.dbtg_timeline.specs.Text.{legend, second_legend}
 
 -- ---- the parts of an element
 
--- a place from the left and from the top
+-- a position, from the left and from the top
 unfoldable pub place_text : ℕ → ℕ → List ℕ
 place_text x y = codes " x='" ++ decimal x ++ codes "' y='" ++ decimal y ++ codes "'"
 
@@ -21,7 +21,7 @@ place_text x y = codes " x='" ++ decimal x ++ codes "' y='" ++ decimal y ++ code
 abbrev pub escaped : ℕ → List ℕ
 escaped b = if b == 38 then codes "&amp;" else (if b == 60 then codes "&lt;" else (if b == 62 then codes "&gt;" else b ∷ []))
 
--- words of a kind
+-- words of one kind
 unfoldable pub words_text : List ℕ → ℕ → ℕ → List ℕ → List ℕ
 words_text kind x y words = codes "<text class='" ++ kind ++ codes "'" ++ place_text x y ++ codes ">" ++ flat_map escaped words ++ codes "</text>\n"
 
@@ -45,7 +45,7 @@ picture_height strips = 18 * strips + 84
 unfoldable pub open_text : List ℕ
 open_text = codes "<svg xmlns='http://www.w3.org/2000/svg' viewBox='0 0 "
 
--- the end of the opening tag, the title, and the ground, as large as the picture
+-- the end of the opening tag, the title, and the background, as large as the picture
 unfoldable pub title_text : List ℕ
 title_text = codes "'><title>TIMELINE</title>\n<rect class='ground' width='100%' height='100%'/>\n"
 
@@ -57,11 +57,11 @@ measures width height between = decimal width ++ between ++ decimal height
 unfoldable pub size_text : ℕ → ℕ → List ℕ
 size_text width height = open_text ++ measures width height (codes " ") ++ codes "' width='" ++ measures width height (codes "' height='") ++ title_text
 
--- letters, lanes and the kinds of letters, on a light ground
+-- letters, lanes and the kinds of letters, on a light background
 unfoldable pub style_text : List ℕ
 style_text = codes "<style>text{font:13px monospace;fill:#222}.ground{fill:#fff}.head,.T,.X,.B,.Q{font-weight:bold}.number{text-anchor:end}.own{fill:#2f65a7}.open{fill:#7f9cc0}.T{fill:#067a06}.X{fill:#c00;text-decoration:underline}.B{fill:#a85400}.R,.r{fill:#7a4b9a}.Q{fill:#a0a}.I{fill:#666}\n"
 
--- the same on a dark ground, where dark is asked for
+-- the same on a dark background, if the reader asks for a dark one
 unfoldable pub dark_text : List ℕ
 dark_text = codes "@media(prefers-color-scheme:dark){text{fill:#ddd}.ground{fill:#161b22}.own{fill:#6ea8ff}.open{fill:#4f78b0}.T{fill:#5fd35f}.X{fill:#ff7b72}.B{fill:#f0a050}.R,.r{fill:#c9a0f0}.Q{fill:#f080f0}.I{fill:#999}}</style>\n"
 
@@ -91,7 +91,7 @@ own_lane x y = codes "<rect class='own'" ++ place_text x y ++ codes " width='8' 
 unfoldable pub begun_lane : ℕ → ℕ → List ℕ
 begun_lane x y = codes "<rect class='own'" ++ place_text x (y + 3) ++ codes " width='8' height='15'/>\n"
 
--- the one or the other, by whether its statement begins
+-- one or the other, by whether its statement begins
 abbrev pub line_lane : Bool → ℕ → ℕ → List ℕ
 line_lane true x y = begun_lane x y
 line_lane false x y = own_lane x y
@@ -111,12 +111,12 @@ abbrev pub lanes_text : Strip → ℕ → ℕ → List Bool → List ℕ
 lanes_text s top n [] = []
 lanes_text s top n (midway ∷ lanes) = lane_text s.begins (n == s.unit) midway (104 + 16 * n) top ++ lanes_text s top (n + 1) lanes
 
--- a letter a text, of the kind that the letter says
+-- each letter as a text, of the kind that the letter says
 abbrev pub letters_text : ℕ → ℕ → List ℕ → List ℕ
 letters_text x y [] = []
 letters_text x y (c ∷ cs) = words_text (c ∷ []) x y (c ∷ []) ++ letters_text (x + 9) y cs
 
--- ticket and status, where one is drawn; the status is of the kind of the ticket's letter
+-- ticket and status, if one is drawn; the status is of the kind of the ticket's letter
 unfoldable pub drawn_text : ℕ → ℕ → Option Drawn → List ℕ
 drawn_text left y None = []
 drawn_text left y (Some d) =
@@ -134,7 +134,7 @@ strip_text left lanes top s =
     lanes_text s top 1 lanes ++ front_text left (top + 13) s.unit s.front ++ letters_text left (top + 13) s.letters
     ++ words_text (codes "statement") (left + 424) (top + 13) s.words
 
--- one below another
+-- the strips, one below another
 abbrev pub strips_text : ℕ → List Bool → ℕ → List Strip → List ℕ
 strips_text left lanes top [] = []
 strips_text left lanes top (s ∷ ss) = strip_text left lanes top s ++ strips_text left (after_strip lanes s) (top + 18) ss

@@ -36,7 +36,7 @@ abbrev pub lanes_text : ℕ → ℕ → List Bool → List ℕ
 lanes_text unit n [] = []
 lanes_text unit n (midway ∷ lanes) = 32 ∷ lane_mark (n == unit) midway ∷ lanes_text unit (n + 1) lanes
 
--- ticket and status, where one is drawn
+-- ticket and status, if one is drawn
 unfoldable pub drawn_text : Option Drawn → List ℕ
 drawn_text None = codes "                "
 drawn_text (Some d) = right 32 7 (decimal d.ticket) ++ codes "   " ++ right 48 4 (decimal d.status) ++ codes "  "
@@ -50,11 +50,11 @@ front_text unit (Some f) = right 32 8 (decimal f.first) ++ right 32 5 (decimal u
 abbrev pub drawn_of : Option Front → Option Drawn
 drawn_of front = option_and_then (λ (f : Front). f.drawn) front
 
--- the letters on 32 columns, ticket and status, and words of the statement
+-- the letters in 32 columns, ticket and status, and words of the statement
 unfoldable pub columns_text : List ℕ → Option Front → List ℕ → List ℕ
 columns_text letters front words = left 32 letters ++ drawn_text (drawn_of front) ++ words
 
--- after the first strip, letters without words stand alone
+-- after the first strip, letters alone if no words are left
 abbrev pub rest_text : List ℕ → Option Front → List ℕ → List ℕ
 rest_text letters (Some f) words = columns_text letters (Some f) words
 rest_text letters None words = if length words == 0 then letters else columns_text letters None words

@@ -1,4 +1,4 @@
--- What the picture says of a unit that waits: what for, and who holds it.
+-- What the picture says of a unit that waits: what it waits for, and who holds it.
 -- a, t and s are the numbers of an area, a record type and a set, n that of a record or a unit.
 use Rattle.std.specs.Prelude.{ℕ, ◌==◌, true, false, List, [], ◌∷◌, ◌++◌, Option, Some, None, codes, decimal, if◌then◌else◌, length, option_map, slice_get, unwrap_or}
 use Rattle.std.specs.List.{flat_map}
@@ -15,19 +15,19 @@ use Rattle.dbtg_step.specs.declared.waiting.Blocking.{Blocking}
 abbrev pub area_name : Lists → ℕ → List ℕ
 area_name schema a = unwrap_or (option_map (λ it. it.name) (slice_get schema.areas a)) []
 
--- of a record type
+-- the name of a record type
 abbrev pub type_name : Lists → ℕ → List ℕ
 type_name schema t = unwrap_or (option_map (λ it. it.name) (slice_get schema.types t)) []
 
--- of a set
+-- the name of a set
 abbrev pub set_name : Lists → ℕ → List ℕ
 set_name schema s = unwrap_or (option_map (λ it. it.name) (slice_get schema.sets s)) []
 
--- a record by its type and its number, without the generation
+-- a record by its type and its number, without its generation
 unfoldable pub record_text : Lists → ℕ → ℕ → List ℕ
 record_text schema t n = type_name schema t ++ codes ":" ++ decimal n
 
--- who owns a ring
+-- the owner of a ring
 unfoldable pub owner_text : Lists → Option (ℕ × ℕ) → List ℕ
 owner_text schema None = codes "SYSTEM"
 owner_text schema (Some o) = record_text schema o.0 o.1
@@ -41,13 +41,13 @@ cell_text schema (Slot t n) = codes "Slot(" ++ record_text schema t n ++ codes "
 
 -- ---- the text
 
--- what for: an area that is wanted exclusively may be shared by others, and one that is to be shared is held exclusively
+-- what it waits for: an area wanted exclusively may be shared by others, and one that is wanted shared is held exclusively
 unfoldable pub awaited_text : Lists → Awaited → List ℕ
 awaited_text schema (Area a true) = area_name schema a ++ codes " exclusively, held"
 awaited_text schema (Area a false) = area_name schema a ++ codes ", held exclusively"
 awaited_text schema (Cell c) = cell_text schema c ++ codes ", held"
 
--- a unit after another
+-- one unit after another
 unfoldable pub next_holder : ℕ → List ℕ
 next_holder n = codes ", " ++ decimal n
 

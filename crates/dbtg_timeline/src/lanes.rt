@@ -5,7 +5,7 @@ ghost use Rattle.dbtg_timeline.specs.Strips.{after_strip};
 use crate::strips::Strip;
 use std::alloc::{AllocError, Global};
 
-/// Before the first move none is.
+/// Before the first move no unit is in mid-statement.
 pub fn opening_lanes(alloc: Global, units: usize) -> Result<Vec<bool>, AllocError>
     ensures { IfOk result (λ lanes. lanes.items ≡ replicate units false) }
 {

@@ -77,7 +77,7 @@ impl Line {
         }
     }
 
-    /// What stands below the statement, nothing if no event of the line says any of it.
+    /// What stands below the statement, nothing if no event of the line says anything there.
     pub fn below(&self) -> &[u8]
         ensures { result.now ≡ below_of self.now }
     {

@@ -26,7 +26,7 @@ fn noted(alloc: Global, event: &Event, notes: &[Row<u8>]) -> Result<Event, Alloc
     Ok(told)
 }
 
-/// The same events, each ticket with its note; notes stand by ticket.
+/// The same events, each ticket with its note; notes are in the order of tickets.
 pub fn noted_events(
     alloc: Global,
     events: &[Event],

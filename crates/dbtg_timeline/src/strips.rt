@@ -47,7 +47,7 @@ fn ends(width: usize, count: usize, left: &[u8]) -> bool
     }
 }
 
-// The parts of a text, none of more bytes than this.
+// The parts of a text, each of at most this many bytes.
 fn push_folded(
     alloc: Global,
     parts: &mut Vec<Row<u8>>,

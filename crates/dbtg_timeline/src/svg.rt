@@ -1,4 +1,4 @@
-//! The picture as SVG, of the same strips as the plain text.
+//! The picture as SVG, with the same strips as the plain text.
 ghost use Rattle.std.specs.Prelude.{◌≡◌, ◌++◌, ◌+◌, ◌*◌, ◌^◌, ◌<◌, IfOk, OnOk, decimal, length};
 ghost use Rattle.std.specs.List.{flat_map};
 ghost use Rattle.dbtg_timeline.specs.Svg.{back_heads, begun_lane, dark_text, drawn_strips, drawn_text, end_text, escaped, front_heads, front_text, lane_heads, lane_text, lanes_text, letters_left, letters_text, measures, open_lane, open_text, own_lane, place_text, size_text, strip_text, strips_text, style_text, timeline_svg, title_text, top_text, words_text};

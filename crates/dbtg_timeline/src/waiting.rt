@@ -1,4 +1,4 @@
-//! What the picture says of a unit that waits: what for, and who holds it.
+//! What the picture says of a unit that waits: what it waits for, and who holds it.
 ghost use Rattle.std.specs.Prelude.{◌≡◌, ◌++◌, IfOk, OnOk};
 ghost use Rattle.std.specs.List.{flat_map};
 ghost use Rattle.dbtg_timeline.specs.Waiting.{area_name, awaited_text, cell_text, holders_text, next_holder, owner_text, record_text, set_name, type_name, waiting_text};
@@ -9,7 +9,7 @@ use dbtg_schema::{AreaNo, RecordNo, Schema, SetNo};
 use dbtg_step::{Awaited, Blocking};
 use std::alloc::AllocError;
 
-/// The name of an area, empty where the schema has none of this number.
+/// The name of an area, empty if the schema has none with this number.
 pub fn area_name(schema: &Schema, area: AreaNo) -> &[u8]
     ensures { result.now ≡ area_name schema.now area }
 {
@@ -149,7 +149,7 @@ fn push_holders(out: &mut Vec<u8>, holders: &[usize]) -> Result<(), AllocError>
     }
 }
 
-/// For what a unit waits, and who holds it.
+/// What a unit waits for, and who holds it.
 #[tactic(auto, unfolding(crate::specs::Waiting::waiting_text))]
 pub fn push_waiting(
     out: &mut Vec<u8>,

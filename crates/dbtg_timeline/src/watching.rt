@@ -189,7 +189,7 @@ fn wait_after(alloc: Global, core: &Core, unit: u8, stepped: Stepped) -> Result<
     Ok(Row::of(wait))
 }
 
-/// Makes one move, and tells what it was.
+/// Makes one move, and gives its event.
 pub fn watch_move(alloc: Global, core: &mut Core, one: Move) -> Result<Event, AllocError>
     ensures core { OnOk result (machine core.new ≡ after_move (machine core.old) one) }
     ensures event { IfOk result (λ event. event ≡ event_of_move (machine core.old) one) }

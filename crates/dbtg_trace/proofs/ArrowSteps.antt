@@ -1,4 +1,4 @@
--- The unit in front of the colon; one byte further on the way to the arrow.
+-- The unit before the colon, and one byte further on the way to the arrow.
 use Rattle.std.proofs.Common.{◌≡◌, ℕ, suc, ◌+◌, ◌^◌, ◌<◌, ◌≤◌, Bool, true, false, not, ◌&&◌, List, [], ◌∷◌, drop, length, take, zero, ◌-◌, Option, Some, None, refl, sym, ap, ◌∙◌, arith}
 use Rattle.std.proofs.lemmas.List.{drop_all}
 use Rattle.std.specs.Prelude.{◌==◌, IfSome, is_some, min, option_map, if◌then◌else◌}
@@ -30,7 +30,7 @@ two_bytes (b ∷ []) h = absurd (by (b == 61) h) where
   by false h = cc
 two_bytes (b ∷ c ∷ bs) h = omega arith
 
--- a number that is capped high up is a unit where the number is
+-- a number capped at 10^18 names a unit exactly when the number itself does
 capped : (units n : ℕ) → units < 256 → is_unit units (min n (10 ^ 18)) ≡ is_unit units n
 capped units n few = grind (arith, nat_tests)
 
@@ -43,7 +43,7 @@ named units n (Some x) few u t =
     let e : is_unit units n ≡ true = sym (capped units n few) ∙ sym t in
     rw e (ap (λ (k : ℕ). Some k) (u ∙ uncapped units n few e))
 
--- where no arrow is here, it is looked for behind one byte more
+-- where no arrow begins here, the search goes on one byte further
 pub further : (at : ℕ) (inside : Bool) (left : List ℕ) (b : ℕ) (bs : List ℕ) → left ≡ b ∷ bs → not inside && begins_arrow left ≡ false
     → option_map (λ n. at + 1 + n) (arrow_at (if b == 34 then not inside else inside) bs) ≡ option_map (λ n. at + n) (arrow_at inside left)
 further at inside left b bs is h =
@@ -51,7 +51,7 @@ further at inside left b bs is h =
     sym (one_further at (arrow_at (if b == 34 then not inside else inside) bs)) ∙ ap (option_map (λ n. at + n)) (sym (not_here inside b bs none))
     ∙ ap (λ (xs : List ℕ). option_map (λ n. at + n) (arrow_at inside xs)) (sym is)
 
--- where an arrow is here, it is the first
+-- where an arrow begins here, it is the first
 pub found_here : (at : ℕ) (inside : Bool) (left : List ℕ) (b : ℕ) (bs : List ℕ) (o : Option ℕ) → left ≡ b ∷ bs → not inside && begins_arrow (b ∷ bs) ≡ true → option_map (λ n. at + n) (arrow_at inside left) ≡ o → Some at ≡ o
 found_here at inside left b bs o is h e =
     let z : at ≡ at + 0 = omega arith in
@@ -71,6 +71,6 @@ rest_from zero xs = let all : length xs - 0 ≡ length xs = omega arith in ap (�
 rest_from (suc n) [] = take_none _ (drop (suc n) []) refl
 rest_from (suc n) (x ∷ xs) = let less : length (x ∷ xs) - suc n ≡ length xs - n = omega arith in ap (λ (k : ℕ). take k (drop n xs)) less ∙ rest_from n xs
 
--- behind all bytes there is none
+-- past the last byte there is no arrow
 pub past_all : (at : ℕ) (inside : Bool) (text : List ℕ) (o : Option ℕ) → length text ≤ at → option_map (λ n. at + n) (arrow_at inside (drop at text)) ≡ o → None ≡ o
 past_all at inside text o past e = sym (ap (λ (xs : List ℕ). option_map (λ n. at + n) (arrow_at inside xs)) (drop_all at text past) ∙ ap (option_map (λ n. at + n)) (nowhere inside)) ∙ e

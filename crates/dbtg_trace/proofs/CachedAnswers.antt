@@ -27,7 +27,7 @@ found schema ts ps i seen answer (Some n) h e at same =
     let said : IsSaid schema ts seen.line.now seen.at = rw e at (kept_at schema ts ps i h) in
     rw (at, ← same) said
 
--- where one entry more is read
+-- it is still there when one more entry is read
 still_there : (schema : Lists) (ts : List Traced) (t : Traced) (answer : List ℕ) (at : ℕ) → IsSaid schema ts answer at → IsSaid schema (ts ++ t ∷ []) answer at
 still_there schema ts t answer at h = (h.0, slice_get_front ts (t ∷ []) at (slice_get_within ts at h.0 h.1) ∙ h.1, h.2)
 

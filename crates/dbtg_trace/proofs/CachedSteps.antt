@@ -24,7 +24,7 @@ use Rattle.dbtg_trace.proofs.EntrySteps.{at_once_of_line, of_line}
 few : 0 < MOST_STATEMENTS
 few = omega arith
 
--- so holds where there is an error
+-- what holds in any case holds where there is an error
 pub on_err : {A E : Type 0} (r : Result A E) (X : Type 0) → X → OnErr r X
 on_err (Ok a) X x = tt
 on_err (Err e) X x = x

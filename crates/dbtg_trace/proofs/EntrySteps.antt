@@ -45,7 +45,7 @@ at_once_of_line schema part c h wrong =
     let e : first (map AsInScript cs) ≡ Some c = subst (λ (b : Bool). first (when (not b) (AsInScript cause.NoStatementWord) ++ map AsInScript cs) ≡ Some c) h wrong in
     as_in_script (first cs) c (sym (first_of_map AsInScript cs) ∙ e)
 
--- the fault of the line of a script is that of the part
+-- the part is refused with the fault that it has as a line of a script
 pub part_refused : (schema : Lists) (part : List ℕ) (e : LineFault) → is_statement (trimmed part) ≡ true → script.Refuses e (first (script_faults.line_faults schema 0 (trimmed part))) → Refuses (in_entry e) (part_verdict schema part)
 part_refused schema part line.Memory one h = tt
 part_refused schema part (line.Refused c) one h = of_line schema part one ∙ ap (option_map AsInScript) h

@@ -1,4 +1,4 @@
--- The first of two lists, one behind the other, and of images.
+-- The first element of one list after another, and of a mapped list.
 use Rattle.std.proofs.Common.{◌≡◌, List, [], ◌∷◌, ◌++◌, map, Some, None, refl}
 use Rattle.std.specs.Prelude.{option_map}
 use Rattle.dbtg_schema.specs.Lookups.{first}

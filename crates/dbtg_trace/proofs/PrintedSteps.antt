@@ -9,7 +9,7 @@ no_lines : (schema : Lists) (statements : List (List ℕ)) → trace_lines schem
 no_lines schema [] = refl
 no_lines schema (s ∷ ss) = refl
 
--- where no entry is left, nothing is
+-- where no entry is left, no line is left to print
 pub lines_done : (schema : Lists) (statements : List (List ℕ)) (history : List Entry) (i : ℕ) (out all : List ℕ) → length history ≤ i → out ++ trace_lines schema statements (drop i history) ≡ all → out ≡ all
 lines_done schema statements history i out all past h =
     sym (append-nil out) ∙ ap (λ (xs : List ℕ). out ++ xs) (sym (ap (trace_lines schema statements) (drop_all i history past) ∙ no_lines schema statements)) ∙ h

@@ -2,25 +2,25 @@
 
 -- BYTES AND WORDS
 
--- bytes of two lists pass a test where those of each do; what passes one test passes another
+-- the bytes of two lists pass a test if those of each list do; bytes that pass one test pass another that follows from it
 pub use Rattle.dbtg_trace.proofs.ReadBack.Words.{all_append, all_imply}
 -- the digits of a number are digits, and letters of a word
 pub use Rattle.dbtg_trace.proofs.ReadBack.Words.{all_digits}
 pub use Rattle.dbtg_trace.proofs.ReadBack.Spelled.{letters_of_number}
--- the number of a picture is low
+-- a number that fits a picture is below 2^64
 pub use Rattle.dbtg_trace.proofs.ReadBack.Spelled.{number_is_low}
--- the first word of bytes: what stands behind a space or a sign, letters up to a byte that is none, bytes between quotes
+-- the first word of bytes: after a space or a sign, letters up to a byte that is not one, or bytes between quotes
 pub use Rattle.dbtg_trace.proofs.ReadBack.Words.{apart, behind_equals, behind_space, text_of, word_of}
--- whether bytes end in a text
+-- whether bytes end inside a text
 pub use Rattle.dbtg_trace.proofs.ReadBack.Words.{ends_as_begun, ends_behind, letter_is_no_quote}
 pub use Rattle.dbtg_trace.proofs.ReadBack.Spelled.{text_is_no_quote}
 -- bytes that can be printed
 pub use Rattle.dbtg_trace.proofs.ReadBack.Said.{digit_shows, shows, text_shows}
 -- LINES
 
--- where two lists have no first, neither has
+-- if two lists together have no first element, neither list has one
 pub use Rattle.dbtg_trace.proofs.ReadBack.Scripts.{none_after, none_in_front}
--- bytes with one in front are some
+-- bytes with one more before them are not empty
 pub use Rattle.dbtg_trace.proofs.ReadBack.Grammar.{some_bytes}
 -- a line whose statement has no fault ends neither in a carriage return nor in a period, so nothing is trimmed
 pub use Rattle.dbtg_trace.proofs.ReadBack.Lines.{ends_well, trimmed_well}

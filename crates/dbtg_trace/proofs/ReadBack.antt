@@ -1,4 +1,4 @@
--- What is printed of a history is read back as it is.
+-- What is printed of a history is read back unchanged.
 pub mod Grammar
 pub mod Bytes
 pub mod Periods

@@ -1,4 +1,4 @@
--- One line further.
+-- One more line.
 use Rattle.std.proofs.Common.{◌≡◌, ℕ, ◌+◌, ◌<◌, ◌≤◌, Bool, true, false, List, [], ◌∷◌, ◌++◌, length, map, Option, Some, None, refl, sym, ap, subst, ◌∙◌, arith}
 use Rattle.std.specs.Prelude.{nat_lt, if◌then◌else◌}
 use Rattle.std.proofs.lemmas.Bool.Decides.{nat_tests}
@@ -107,7 +107,7 @@ behind : (b : Bool) (fs : List Fault) (f : Fault) → first (if b then [] else f
 behind true fs f h = absurd cc
 behind false fs f h = (refl, h)
 
--- a line without a fault holds no statement, if there is still a fault at once
+-- a line without a fault of its own holds no statement, if a fault is still found at once
 pub behind_line : (schema : Lists) (units number : ℕ) (l : List ℕ) (ls : List (List ℕ)) (f : Fault) → first (line_faults_at_once schema units 0 (trimmed l)) ≡ None → first (lines_faults_at_once schema units number (l ∷ ls)) ≡ Some f
     → (is_statement (trimmed l) ≡ false) × (first (lines_faults_at_once schema units (number + 1) ls) ≡ Some f)
 behind_line schema units number l ls f none h =
@@ -131,7 +131,7 @@ first_numbered : (number : ℕ) (c : TraceCause) (cs : List TraceCause) (fs : Li
     → trace.Refused number c ≡ trace.Refused f.line f.cause
 first_numbered number c cs fs f h = let g : Fault = record { line = number; cause = c } in let e : g ≡ f = cc in ap (λ (x : Fault). trace.Refused x.line x.cause) e
 
--- the fault at once of a line, or of the lines behind it, is told where the line is refused
+-- the fault found at once in a line or in those after it is reported, where the line is refused
 pub line_told : (schema : Lists) (units number : ℕ) (l : List ℕ) (ls : List (List ℕ)) (e : EntryFault) (f : Fault)
     → ((c : TraceCause) → first (line_faults_at_once schema units 0 (trimmed l)) ≡ Some c → e ≡ entry.Refused c)
     → (is_statement (trimmed l) ≡ false → e ≡ entry.Memory → ⊥)

@@ -43,11 +43,11 @@ whole_faults count line =
     if is_statement line then when (nat_le 524280 count) (AsInScript cause.TooMuch) ++ when (not (is_printable line)) (AsInScript cause.LineNotAllowed)
     else when (not (is_allowed line)) (AsInScript cause.LineNotAllowed)
 
--- the faults of a line behind `count` statements
+-- the faults of a line after `count` statements
 abbrev pub line_faults : Lists → ℕ → ℕ → List ℕ → List TraceCause
 line_faults schema units count line = whole_faults count line ++ (if is_statement line then entry_faults schema units line else [])
 
--- the faults of lines behind `count` statements; the first line has this number
+-- the faults of lines after `count` statements; the first line has this number
 abbrev pub lines_faults : Lists → ℕ → ℕ → ℕ → List (List ℕ) → List Fault
 lines_faults schema units count number [] = []
 lines_faults schema units count number (l ∷ ls) =

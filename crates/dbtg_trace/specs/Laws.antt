@@ -27,20 +27,20 @@ use Rattle.dbtg_trace.specs.Traces.{trace}
 abbrev pub IsWithin : Lists → DbKey → Type 0
 IsWithin schema k = IsKeyOf schema k × (k.rtype < length schema.types)
 
--- an answer has a key of the schema, and no items but of its record type; or neither
+-- an answer has a key of the schema, and no items or those of the key's record type; or it has neither key nor items
 abbrev pub IsSayable : Lists → Option DbKey → Option (List Value) → Type 0
 IsSayable schema None items = items ≡ None
 IsSayable schema (Some k) None = IsWithin schema k
 IsSayable schema (Some k) (Some vs) = IsWithin schema k × (values_fit (pictures schema k.rtype) vs ≡ true)
 
--- a unit of this number of units made the entry, and the line is one of a script, has no fault and says its statement
+-- one of this many units made the entry; the line is one of a script, has no fault and says the entry's statement
 pub record IsLineOf (schema : Lists) (units : ℕ) (line : List ℕ) (e : Entry) : Type 0 where
   pub unit : is_unit units e.unit ≡ true
   pub accepted : first (line_faults schema 0 line) ≡ None
   pub says : line_statement schema line ≡ Some e.statement
   pub answer : IsSayable schema e.answer.key e.answer.items
 
--- so is each line of its entry
+-- each line is the line of its entry
 abbrev pub AreLinesOf : Lists → ℕ → List (List ℕ) → List Entry → Type 0
 AreLinesOf schema units [] [] = Unit {0}
 AreLinesOf schema units [] (e ∷ es) = ⊥
@@ -63,7 +63,7 @@ PrintedTraceIsReadBack =
     → length history ≤ 524280 → length (trace_lines schema lines history) ≤ 67108864
     → (refusal schema units (trace_lines schema lines history) ≡ None) × (trace schema units (trace_lines schema lines history) ≡ all_said 1 history)
 
--- each answer of a history of the sequential database has a key of the schema, and no items but of its record type; or neither
+-- each answer of a history of the sequential database has a key of the schema, and no items or those of its record type; or neither
 abbrev pub AnswersCanBeSaid : Type 0
 AnswersCanBeSaid =
     (schema : Lists) → IsSound schema → IsNamed schema → (capacity : ℕ) → capacity ≤ 999999 → (units : ℕ) (history : List Entry) → IsHistoryOf schema capacity units history

@@ -26,7 +26,7 @@ halves_faults_at_once schema (Some h) = part_faults_at_once schema h.0
 abbrev pub entry_faults_at_once : Lists → ℕ → List ℕ → List TraceCause
 entry_faults_at_once schema units line = when (is_none (unit_named units line)) NoUnit ++ halves_faults_at_once schema (halves line)
 
--- the same for any line behind `count` statements
+-- the same for any line after `count` statements
 abbrev pub line_faults_at_once : Lists → ℕ → ℕ → List ℕ → List TraceCause
 line_faults_at_once schema units count line = whole_faults count line ++ (if is_statement line then entry_faults_at_once schema units line else [])
 

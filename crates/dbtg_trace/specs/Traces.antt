@@ -16,7 +16,7 @@ entry_by schema number unit h =
 abbrev pub entry_of : Lists → ℕ → ℕ → List ℕ → Option Traced
 entry_of schema units number line = option_and_then (λ unit. option_and_then (entry_by schema number unit) (halves line)) (unit_named units line)
 
--- the list of those that are there
+-- the entry as a list, which is empty if there is none
 abbrev pub listed : Option Traced → List Traced
 listed None = []
 listed (Some t) = t ∷ []

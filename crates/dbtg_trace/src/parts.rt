@@ -40,14 +40,14 @@ fn begins_with(text: &[u8], c: u8) -> bool
     }
 }
 
-/// Does an arrow begin with this byte, in front of these bytes?
+/// Does an arrow begin with this byte, given the bytes after it?
 fn begins_arrow(byte: u8, behind: &[u8]) -> bool
     ensures { result ≡ begins_arrow (byte ∷ behind.now) }
 {
     byte == b'=' && begins_with(behind, b'>')
 }
 
-/// Does what follows this byte belong to a text, given whether the byte itself does?
+/// Is the byte after this one inside a text, given whether this one is?
 fn is_inside_behind(inside: bool, byte: u8) -> bool
     ensures { result ≡ (if byte == 34 then not inside else inside) }
 {

@@ -46,7 +46,7 @@ struct NumberedLine<'a> {
     text: &'a [u8],
 }
 
-/// What the lines say that were read, and the lines of scripts and the answers in them that were read before.
+/// What the lines read so far say, and the script lines and the answers that are kept from them.
 #[derive(Drop)]
 struct ReadSoFar<'a> {
     cache: LineCache<'a>,
@@ -54,7 +54,7 @@ struct ReadSoFar<'a> {
     entries: Vec<Traced>,
 }
 
-/// The fault of a line of a script that is a part of a line.
+/// The fault of a part of a line, which is read as a line of a script.
 fn in_entry(fault: LineFault) -> EntryFault
     ensures { result ≡ in_entry fault }
 {
@@ -153,7 +153,7 @@ fn answered_again(
     }
 }
 
-/// The answer that is written behind an arrow.
+/// The answer that is written after an arrow.
 fn read_answer(
     alloc: Global,
     schema: &Schema,

@@ -17,7 +17,7 @@ pub struct Said {
 }
 
 impl Said {
-    /// The same again.
+    /// A copy.
     pub(crate) fn copy(&self, alloc: Global) -> Result<Self, AllocError>
         ensures { IfOk result (λ said. said ≡ self.now) }
     {

@@ -1,4 +1,4 @@
--- The text of what an audit found, which is what was left, where both are one text.
+-- The text of what an audit found is the text of what was left, if the two texts are equal.
 use Rattle.std.proofs.Common.{◌≡◌, ℕ, List, Option, Some, None, ◌∙◌, subst}
 use Rattle.std.specs.Prelude.{IfNone, IfOk, IfSome, MatchOption, Result, Ok, Err}
 use Rattle.dbtg_schema.specs.Lists.{Lists}

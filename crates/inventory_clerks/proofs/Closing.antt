@@ -1,4 +1,4 @@
--- What a settlement tells of the journals of two units.
+-- What a settlement says of the journals of two units.
 use Rattle.std.proofs.Common.{◌≡◌, ◌≢◌, ℕ, ◌+◌, ◌==◌, List, [], ◌∷◌, count_by, cond, eqb, inl, inr, Option, refl, sym, ap, ◌∙◌, subst, arith}
 use Rattle.std.specs.Prelude.{Result, Ok, Err, IfOk, OnOk, ok_or}
 use Rattle.std.specs.Result.{result_ok}
@@ -32,7 +32,7 @@ have_filled db u v firsts seconds settled s a b p q = let two = s.count in recor
   by_other = subst (λ (j : List Entry). AreFilled [] j seconds) (sym (s.journal v (inr (inl refl)))) (filled_in_all b v.journal seconds q);
 }
 
--- what is said of a result where it is there, and it is there
+-- if a property holds of a result that is there, and it is there, the property holds
 pub of_ok : {T E P : Type 0} (r : Result T E) (v : T) → r ≡ Ok v → OnOk r P → P
 of_ok (Ok w) v is p = p
 of_ok (Err e) v is p = absurd cc
@@ -43,7 +43,7 @@ pub if_settled : (db : Database) (u v : UnitView) (firsts seconds : List Order) 
 if_settled db u v firsts seconds (Ok settled) s a b p q = have_filled db u v firsts seconds settled s a b p q
 if_settled db u v firsts seconds (Err stop) s a b p q = tt
 
--- what is said of a result where it is there, with another error in the place of its own
+-- a property of a result still holds if its error is replaced by another
 pub ok_or_stop : {T E S : Type 0} (P : T → Type 0) (r : Result T E) (stop : S) (found : Option T) (q : Result T S)
     → IfOk r P → found ≡ result_ok r → q ≡ ok_or found stop → IfOk q P
 ok_or_stop P (Ok v) stop found q p found_is q_is = subst (λ k. IfOk k P) (sym (q_is ∙ ap (λ o. ok_or o stop) found_is)) p

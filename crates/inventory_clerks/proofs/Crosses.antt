@@ -1,4 +1,4 @@
--- A clerk's orders may cross threads; that his unit and its database may, the library of units on threads says.
+-- A clerk's orders may cross threads; the library of units on threads says that his unit and its database may.
 use denote.Param.Send.{IsSync, sendable}
 use Rattle.std.proofs.Crossing.{crosses}
 use Rattle.inventory_clerks.specs.contracts.order.Order as Order

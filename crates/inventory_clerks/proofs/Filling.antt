@@ -22,7 +22,7 @@ append_none (x ∷ xs) = ap (λ l. x ∷ l) (append_none xs)
 begins_here : (a : List Entry) → Begins a a
 begins_here a = record { more = []; is = append_none a }
 
--- the ware is found, kept, read and then changed: the order is filled, if that may be done
+-- the ware is found, kept, read and then changed: if the change is done, the order is filled
 pub filled_if : (order : Order) (stock : ℕ) (finding : Statement) (a b c d : List Entry) (r : Result Bool Stop) → finding ≡ find_of order.code
     → HasKept finding a b → HasRead stock b c → IfOk r (λ done. done ≡ true → HasWritten order stock c d) → IfOk r (λ done. done ≡ true → IsFilled a d order)
 filled_if order stock finding a b c d (Ok done) is kept read written = λ yes. record {
@@ -56,7 +56,7 @@ kept_by about a b c u w finding one other D E one_done other_done =
       kept_done = other_done;
     }
 
--- what follows more follows less
+-- an order that is filled after a list is also filled after a list with which that begins
 pub filled_behind : (a b c : List Entry) (order : Order) → Begins a b → IsFilled b c order → IsFilled a c order
 filled_behind a b c order p f = record {
   before = f.before;
@@ -73,13 +73,13 @@ pub none_filled : (a : List Entry) → AreFilled a a []
 unfolding AreFilled
 none_filled a = begins_here a
 
--- one order more
+-- one more order
 filled_next : (a b c : List Entry) (orders : List Order) (order : Order) → AreFilled a b orders → IsFilled b c order → AreFilled a c (orders ++ order ∷ [])
 unfolding AreFilled
 filled_next a b c [] order p f = (c, filled_behind a b c order p f, begins_here c)
 filled_next a b c (o ∷ orders) order p f = (p.0, p.1, filled_next p.0 b c orders order p.2 f)
 
--- one order more of those in a list
+-- one more order of those in a list
 pub filled_more : (a b c : List Entry) (orders : List Order) (i : ℕ) (d : Order) → i < length orders → AreFilled a b (take i orders) → IsFilled b c (get_or orders i d)
     → AreFilled a c (take (i + 1) orders)
 filled_more a b c orders i d below all filled =
@@ -88,7 +88,7 @@ filled_more a b c orders i d below all filled =
 pub all_filled : (a b : List Entry) (orders : List Order) (i : ℕ) → length orders ≤ i → AreFilled a b (take i orders) → AreFilled a b orders
 all_filled a b orders i end all = subst (AreFilled a b) (take_all i orders end) all
 
--- after nothing stands all
+-- orders that are filled after a list are also filled after the empty list
 pub filled_in_all : (a b : List Entry) (orders : List Order) → AreFilled a b orders → AreFilled [] b orders
 unfolding AreFilled
 filled_in_all a b [] p = record { more = b; is = refl }
@@ -107,7 +107,7 @@ one_made about script a b c u x answer m D =
       statements = map-append (λ (y : Entry). y.statement) m.made (e ∷ []) ∙ ap (λ l. l ++ x ∷ []) m.statements;
     }
 
--- one statement more of those in a list
+-- one more statement of those in a list
 pub made_more : (about : About) (statements : List Statement) (i : ℕ) (a b c : List Entry) (u : Unit) (x : Statement) (answer : Answer)
     → i < length statements → x ≡ get_or statements i x → HasMade (take i statements) a b → IsDone about b c u x answer → HasMade (take (i + 1) statements) a c
 made_more about statements i a b c u x answer below is m D =

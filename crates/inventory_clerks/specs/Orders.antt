@@ -1,4 +1,4 @@
--- What it is that an order is filled.
+-- What it means that an order is filled.
 use Rattle.std.specs.Prelude.{ℕ, ◌≡◌, ◌+◌, List, [], ◌∷◌, ◌++◌, false, Option, Some, None, map, slice_get}
 use Rattle.dbtg_cells.specs.declared.key.Value.{Value}
 use Rattle.dbtg_cells.specs.declared.key.Value.TheVariants.{Num, Text}
@@ -35,7 +35,7 @@ stock_in None = None
 abbrev pub stock_shown : Answer → Option ℕ
 stock_shown answer = stock_in answer.items
 
--- what is there after an order: what was there, with what is brought and without what is taken
+-- the stock after an order: the stock before, with what is brought and without what is taken
 abbrev pub is_after : Order → ℕ → ℕ → Type 0
 is_after order before after = after + order.taken ≡ before + order.brought
 
@@ -69,7 +69,7 @@ pub record HasWritten (order : Order) (stock : ℕ) (old new : List Entry) : Typ
   pub left_is : is_after order stock left
   pub changed : HasChanged (change_of left) old new
 
--- the list begins with the other
+-- the new list begins with the old one
 pub record Begins (old new : List Entry) : Type 0 where
   pub more : List Entry
   pub is : new ≡ old ++ more

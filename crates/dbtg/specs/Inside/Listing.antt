@@ -28,7 +28,7 @@ pub record IsFront (m : Meeting) (front : Front) : Type 0 where
   pub are_first : AreFirstMoves m.first m.schema m.capacity m.scripts before
   pub moves_are : front.moves ≡ length before
 
--- the text of result k goes behind others, and in brief the result behind those before
+-- the text of result k is appended to others, and in brief the result to the earlier ones
 pub record IsShown (m : Meeting) (k : ℕ) (one : OneResult) (old new : List ℕ) (showing shown : Showing) : Type 0 where
   pub text : List ℕ
   pub new_is : new ≡ old ++ text

@@ -1,11 +1,11 @@
--- How the last of units makes its script alone.
+-- How the last unit makes its script alone.
 use Rattle.std.specs.Prelude.{◌≡◌, List, [], ◌∷◌, ◌++◌}
 use Rattle.dbtg_unit.specs.declared.statement.Statement.{Statement}
 use Rattle.dbtg_run.specs.Running.{IsWhole, Ran}
 use Rattle.dbtg_run.specs.UnitView.{UnitView}
 
--- the last unit made its script, the last one; of the scripts that are left its is empty, and the other units and scripts are as they
--- were
+-- the last unit made its script, the last one; among the scripts that are left its own is empty, and the other units and scripts are
+-- unchanged
 pub record HasMadeFirst (scripts : List (List Statement)) (before : List UnitView) (left : List (List Statement)) (after : List UnitView) : Type 0 where
   pub script : List Statement
   pub others : List (List Statement)

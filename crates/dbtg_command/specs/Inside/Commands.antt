@@ -1,4 +1,4 @@
--- What `clap` is given of one word, and what it met.
+-- What `clap` is given for one word, and what it found.
 use Rattle.std.specs.Prelude.{◌≡◌, ℕ, false, List, [], Some}
 use Rattle.clap.specs.Matches.{found_of}
 use Rattle.clap.specs.Simple.{App, app_of, subcommand_rows_of, with_subcommand}
@@ -67,7 +67,7 @@ alone name rules = record { top = shape_with name rules; subs = [] }
 abbrev pub with_command : App → Named → App
 with_command app asked = with_subcommand app (shape_with (name_of asked) (rules_for asked))
 
--- the call is that of the command which was met in a parse, with what was found for it
+-- the call is that of the command that a parse found, with what it found for the command
 pub record IsCallIn (matches : ArgMatches) (call : Call) : Type 0 where
   pub given : ArgMatches
   pub met : subcommand_rows_of matches ≡ Some (name_of call.named, rows_of (found_of given))

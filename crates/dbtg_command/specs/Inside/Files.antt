@@ -34,6 +34,6 @@ IsUnread path ScriptCount = ⊥
 abbrev pub FileHolds : (List ℕ → ℕ → List ℕ → Type 0) → List ℕ → List (List ℕ) → Order (List ℕ) → TextPlace → List ℕ → Type 0
 FileHolds has schema scripts order place text = (path : List ℕ) × StandsIn schema scripts order place path × has path (most_of place) text
 
--- the file that is named in this place gave no text, and the fault tells so
+-- the file that is named in this place gave no text, and the fault says so
 abbrev pub FileFails : (List ℕ → ℕ → Type 0) → List ℕ → List (List ℕ) → Order (List ℕ) → TextPlace → Fault → Type 0
 FileFails lacks schema scripts order place fault = (path : List ℕ) × StandsIn schema scripts order place path × lacks path (most_of place) × IsUnread path fault

@@ -5,7 +5,7 @@ use Rattle.dbtg_command.specs.declared.order.Order.TheVariants as by
 use Rattle.dbtg_command.specs.declared.place.TextPlace.{TextPlace}
 use Rattle.dbtg_command.specs.declared.place.TextPlace.TheVariants.{Schema, Script, Moves, Turns, Trace}
 
--- of a schema, scripts and moves or turns, this one stands in this place; they are texts, or paths of files. A trace is given as the
+-- among a schema, scripts and moves or turns, this one is in this place; they are texts, or paths of files. A trace is given as the
 -- first of the scripts
 abbrev pub StandsIn : List ℕ → List (List ℕ) → Order (List ℕ) → TextPlace → List ℕ → Type 0
 StandsIn schema scripts order Schema it = it ≡ schema

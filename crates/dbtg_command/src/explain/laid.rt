@@ -90,7 +90,7 @@ fn entry_name(words: &[u8]) -> Option<&[u8]>
     None
 }
 
-// The owner is the member, a member twice, other keys, a key misplaced; a record type without items.
+// Faults of a whole entry: the owner is the member, a member twice, other keys, a key misplaced; a record type without items.
 fn is_of_entry(number: u8) -> bool
     ensures { result ≡ is_of_entry number }
 {

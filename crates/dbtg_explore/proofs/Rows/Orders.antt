@@ -56,11 +56,11 @@ gone_astray = refl
 
 -- WHO CAN HAVE A TURN
 
--- one statement
+-- a program of one statement
 abbrev pub asker : Program
 asker = of_lines card ("GET" ∷ [])
 
--- none
+-- a program without a statement
 abbrev pub sayer : Program
 sayer = of_lines card ("ASSERT STATUS = 0405" ∷ "GET" ∷ [])
 

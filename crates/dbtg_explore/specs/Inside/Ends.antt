@@ -1,5 +1,5 @@
 -- What is noted of the orders that a search has found: results and failures.
--- m is a meeting, o and p are orders, seen are those that came before.
+-- m is a meeting, o and p are orders, seen are the earlier ones.
 use Rattle.std.specs.Prelude.{ℕ, ◌≡◌, ◌++◌, List, [], ◌∷◌, Some, Contains, map}
 use Rattle.dbtg_unit.specs.declared.unit.Entry.{Entry}
 use Rattle.dbtg_explore.specs.declared.ends.Ends as given
@@ -12,15 +12,15 @@ use Rattle.dbtg_explore.specs.Pairwise.{ArePairwise}
 use Rattle.dbtg_explore.specs.Results.{FailsBefore, result_text}
 use Rattle.dbtg_explore.specs.States.{MeetingState, state_after, state_of}
 
--- a program has failed in this way in a state
+-- a program for which this is due has failed in this way
 abbrev pub FailsIn : MeetingState → Failure → Type 0
 FailsIn state f = failure_in state f.unit ≡ Some f.how
 
--- that of unit u after a history
+-- the program of unit u has failed in this way after a history
 abbrev pub FailsAt : Meeting → List Entry → ℕ → Failure → Type 0
 FailsAt m history u f = (f.unit ≡ u) × FailsIn (state_after m history) f
 
--- the failures after these orders, each once, in their order
+-- the failures after these orders, each once, in order
 pub record AreFailuresOf (m : Meeting) (seen : List (List ℕ)) (failures : List Failure) : Type 0 where
   pub fail : (f : Failure) → Contains failures f → (o : List ℕ) × Contains seen o × FailsIn (state_of m o) f
   pub all : (f : Failure) (o : List ℕ) → Contains seen o → FailsIn (state_of m o) f → Contains failures f
@@ -40,10 +40,10 @@ pub record AreEndsOf (m : Meeting) (seen : List (List ℕ)) (ends : given.Ends) 
 abbrev pub IsBehind : List (List ℕ) → List ℕ → Type 0
 IsBehind seen o = (p : List ℕ) → Contains seen p → IsBefore p o
 
--- one order more, which comes after all others, has its result noted
+-- the result of one more order is noted, which comes after all others
 abbrev pub NotesResult : Meeting → List ℕ → FoundOrders → FoundOrders → Type 0
 NotesResult m o old new = (seen : List (List ℕ)) → IsBehind seen o → AreResultsOf m seen old → AreResultsOf m (seen ++ o ∷ []) new
 
--- and its failures
+-- and so are its failures
 abbrev pub Notes : Meeting → List ℕ → given.Ends → given.Ends → Type 0
 Notes m o old new = (seen : List (List ℕ)) → IsBehind seen o → AreEndsOf m seen old → AreEndsOf m (seen ++ o ∷ []) new

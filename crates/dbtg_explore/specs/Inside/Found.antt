@@ -11,6 +11,6 @@ pub record IsPut (old : FoundOrders) (key order : List ℕ) (new : FoundOrders) 
   pub keys_are : new.keys ≡ old.keys ++ key ∷ []
   pub orders_are : new.orders ≡ old.orders ++ order ∷ []
 
--- it does, or its key is there
+-- the order is appended, or its key is already there
 abbrev pub IsEntered : FoundOrders → List ℕ → List ℕ → FoundOrders → Type 0
 IsEntered old key order new = (Contains old.keys key × (new ≡ old)) ⊎ IsPut old key order new

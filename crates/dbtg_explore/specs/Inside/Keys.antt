@@ -22,7 +22,7 @@ how_numbers (Assert line) = 2 ∷ line ∷ []
 how_numbers (Size line) = 3 ∷ line ∷ []
 how_numbers (Astray line) = 4 ∷ line ∷ []
 
--- how a program is, with a 0 for a due statement, and its state, which determines the statement that is due
+-- for a program how it stands, with a 0 for a due statement, and its state, which determines the statement that is due
 abbrev pub due_numbers : Due → List ℕ
 due_numbers (due state s) = 0 ∷ 0 ∷ program_numbers state
 due_numbers (ended state how) = how_numbers how ++ program_numbers state

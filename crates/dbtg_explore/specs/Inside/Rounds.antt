@@ -1,4 +1,4 @@
--- How the code goes a way round.
+-- How the code follows a way round.
 -- m is a meeting, u is a unit, o is an order.
 use Rattle.std.specs.Prelude.{ℕ, ◌≡◌, ◌++◌, List, true, Contains}
 use Rattle.dbtg_unit.specs.declared.unit.Entry.{Entry}
@@ -16,7 +16,7 @@ pub record HasGone (m : Meeting) (turns : List ℕ) (old new : Whereabouts) : Ty
   pub is_place : AreWhereabouts m new
   pub leads : (o : List ℕ) → AreWhereaboutsOf m o old → AreWhereaboutsOf m (o ++ turns) new
 
--- the round can be gone after the order, and comes back to the same state
+-- the round can be taken after the order, and comes back to the same state
 pub record ComesBack (m : Meeting) (o round : List ℕ) : Type 0 where
   pub is_order : IsOrder m (o ++ round)
   pub same : essence_of m (o ++ round) ≡ essence_of m o

@@ -1,4 +1,4 @@
--- What a search holds, over what it needs of orders: which there are, what can follow one, and the state to which one leads.
+-- What a search holds, stated for whatever it needs of orders: which there are, what can follow one, and the state to which one leads.
 -- o and p are orders, u and v units, found are the orders that are found, i is the place of one of them.
 use Rattle.std.specs.Prelude.{ℕ, ◌≡◌, ◌<◌, ◌≤◌, Bool, true, List, [], ◌∷◌, ◌++◌, Contains, length, slice_index_or}
 use Rattle.dbtg_explore.specs.Orders.{IsBefore, IsNoLater}
@@ -15,7 +15,7 @@ pub record HasFirst {S : Type 0} (state : List ℕ → S) (found : List (List �
 abbrev pub LeadApart : {S : Type 0} → (List ℕ → S) → List ℕ → List ℕ → Type 0
 LeadApart state o p = state o ≡ state p → ⊥
 
--- the search is at place i and unit u: it has gone on from all before by each unit, and from there by each unit below u
+-- the search is at place i and unit u: it has gone on from all earlier places by each unit, and from this one by each unit below u
 pub record IsUnderWay {S : Type 0} (IsOrder : List ℕ → Type 0) (can : List ℕ → ℕ → Bool) (state : List ℕ → S) (found : List (List ℕ)) (i u : ℕ) : Type 0 where
   pub are_orders : (o : List ℕ) → Contains found o → IsOrder o
   pub apart : ArePairwise (LeadApart state) found
@@ -27,7 +27,7 @@ pub record IsUnderWay {S : Type 0} (IsOrder : List ℕ → Type 0) (can : List �
 
 -- RESULTS
 
--- of the orders seen, those that come to an end: of each text the first
+-- of the orders seen, those that come to an end: the first for each text
 pub record AreFirsts (IsEnd : List ℕ → Type 0) (text : List ℕ → List ℕ) (seen results : List (List ℕ)) : Type 0 where
   pub are_seen : (r : List ℕ) → Contains results r → Contains seen r
   pub ends : (r : List ℕ) → Contains results r → IsEnd r

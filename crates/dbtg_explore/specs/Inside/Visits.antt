@@ -7,18 +7,18 @@ use Rattle.dbtg_explore.specs.Inside.Ends.{AreEndsOf}
 use Rattle.dbtg_explore.specs.Inside.Steps.{IsAt}
 use Rattle.dbtg_explore.specs.Orders.{Meeting}
 
--- the states before place i are gone on from, and their ends are noted
+-- the search has gone on from the states before place i, and their ends are noted
 pub record IsVisited (m : Meeting) (i : ℕ) (s : search.Search) (e : ends.Ends) : Type 0 where
   pub at : IsAt m i 0 s
   pub ends : AreEndsOf m (take i s.found.orders) e
 
--- and now those at place i too
+-- and now from the state at place i too
 pub record HasVisited (m : Meeting) (i : ℕ) (old new : search.Search) (e : ends.Ends) : Type 0 where
   pub visited : IsVisited m (i + 1) new e
   pub within : i < length new.found.orders
   pub limit_is : new.limit ≡ old.limit
 
--- all are
+-- and from all states
 pub record IsThrough (m : Meeting) (limit : ℕ) (s : search.Search) (e : ends.Ends) : Type 0 where
   pub visited : IsVisited m (length s.found.orders) s e
   pub limit_is : s.limit ≡ limit

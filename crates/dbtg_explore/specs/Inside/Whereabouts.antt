@@ -36,11 +36,11 @@ pub record HaveTurned (m : Meeting) (us : List ℕ) (old new : Whereabouts) : Ty
   pub is_place : AreWhereabouts m new
   pub history_is : new.database.history ≡ after_order m old.database.history us
 
--- how a program has failed of which this comes
+-- how a program for which this is due has failed
 abbrev pub failure_by : Due → Option End
 failure_by (ended at how) = if is_failure how then Some how else None
 failure_by (due at s) = None
 
--- that of unit u in a state
+-- how the program of unit u has failed in a state
 abbrev pub failure_in : MeetingState → ℕ → Option End
 failure_in state u = option_and_then failure_by (unit_at state.programs u)

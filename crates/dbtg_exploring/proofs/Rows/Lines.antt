@@ -5,11 +5,11 @@ use Rattle.dbtg_program.specs.declared.program.End.TheVariants.{Assert, Size}
 use Rattle.dbtg_explore.specs.declared.explored.Endless.{Endless}
 use Rattle.dbtg_exploring.specs.Texts.{count_text, endless_text, failure_text, result_head, with_turns}
 
--- a way that begins behind two told turns
+-- a way round that begins after two given turns
 abbrev pub way : Endless
 way = record { turns = 1 ∷ 2 ∷ []; round = 2 ∷ 2 ∷ 1 ∷ [] }
 
--- it may go round from the beginning on
+-- a way round can start at the very beginning
 abbrev pub at_once : Endless
 at_once = record { turns = []; round = 1 ∷ [] }
 

@@ -1,4 +1,4 @@
--- Two units that take turns: what each is told of leads its own program on.
+-- Two units that take turns: each goes on by the answers that it gets itself.
 use Rattle.std.specs.Prelude.{◌≡◌, refl, ℕ, List, [], ◌∷◌, None, true}
 use Rattle.std.specs.Fmt.{digits}
 use Rattle.dbtg_cells.specs.declared.key.Value.TheVariants.{Num}
@@ -22,11 +22,11 @@ use Rattle.dbtg_step.specs.Machine.SequentialDatabase.{unit_at}
 use Rattle.dbtg_going.specs.declared.member.Standing.TheVariants.{Ended, GoesOn}
 use Rattle.dbtg_going.specs.Turns.{after_turns, reached}
 
--- it looks for a record, and frees all if there is none
+-- it looks for a record, and frees everything if there is none
 abbrev pub looker : Program
 looker = of_lines card ("01 SEEN PIC 9(2)" ∷ "GET" ∷ "IF STATUS = 0413 GO TO NOTHING" ∷ "ADD 1 TO SEEN" ∷ "STOP" ∷ "NOTHING." ∷ "FREE ALL" ∷ "ADD 7 TO SEEN" ∷ [])
 
--- it stores a record, and says that this was refused, which it is not
+-- it stores a record, and asserts that this was refused, which is false
 abbrev pub storer : Program
 storer = of_lines card ("OPEN AREA MAIN USAGE-MODE IS UPDATE" ∷ "STORE CUSTOMER CNO = 7" ∷ "ASSERT STATUS = 0405" ∷ [])
 
@@ -44,12 +44,12 @@ each_once : after_turns card 5 (looker ∷ storer ∷ []) [] (2 ∷ 1 ∷ []) �
 unfolding after_turns unit_at replay within verdict onto into digits effect
 each_once = refl
 
--- a unit that is not there, and none at all
+-- a unit that does not exist, and 0, which is no unit
 nobody : after_turns card 5 (looker ∷ storer ∷ []) two_made (3 ∷ 0 ∷ []) ≡ two_made
 unfolding after_turns unit_at
 nobody = refl
 
--- unit 1 twice, whose program then is at its end
+-- unit 1 twice, after which its program is at its end
 once_more : after_turns card 5 (looker ∷ storer ∷ []) two_made (1 ∷ 1 ∷ []) ≡ then_made
 unfolding after_turns unit_at replay within verdict onto into digits effect
 once_more = refl
@@ -63,7 +63,7 @@ storer_goes_on : reached card storer 2 then_made ≡ record { standing = GoesOn;
 unfolding within verdict onto into digits
 storer_goes_on = refl
 
--- two turns more of the other: it stores, and its ASSERT does not hold
+-- two more turns of the other: it stores, and its ASSERT does not hold
 more_made : after_turns card 5 (looker ∷ storer ∷ []) then_made (2 ∷ 2 ∷ []) ≡ entry 0 2 (OpenArea main Update) done ∷ entry 1 1 (Get None) (no NoCurrentOfRunUnit) ∷ entry 2 1 (Free true) done
     ∷ entry 3 2 (store customers (Num 7 ∷ text "        " ∷ [])) (found (key customers 1)) ∷ []
 unfolding after_turns unit_at replay within verdict onto into digits effect

@@ -1,4 +1,4 @@
--- A first and a last program around others: which turns each has.
+-- A first and a last program around others: the turns that each gets.
 use Rattle.std.specs.Prelude.{◌≡◌, refl, [], ◌∷◌, ◌++◌, Some, None, true, false}
 use Rattle.std.specs.Fmt.{digits}
 use Rattle.dbtg_unit.proofs.Rows.Defined.Schemas.{card}
@@ -16,19 +16,19 @@ both = record { first = true; last = true }
 abbrev pub only_last : Around
 only_last = record { first = false; last = true }
 
--- two of four programs are others
+-- two of four programs are neither first nor last
 two_others : others both 4 ≡ 2
 two_others = refl
 
--- the first is unit 3; unit 4, which is the last, does not hear the turns that are told
+-- the first is unit 3; unit 4, which is the last, ignores the turns that are given
 turns_are_told : turns_before both 4 (Some (1 ∷ 4 ∷ 3 ∷ 2 ∷ 4 ∷ [])) ≡ to_the_end 3 ++ 1 ∷ 3 ∷ 2 ∷ []
 turns_are_told = refl
 
--- without a last program each unit hears its turns
+-- without a last program no turn is ignored
 all_hear : other_turns (record { first = false; last = false }) 2 (Some (2 ∷ 1 ∷ 2 ∷ [])) ≡ 2 ∷ 1 ∷ 2 ∷ []
 all_hear = refl
 
--- where none are told each of the others goes to its end
+-- if no turns are given, each of the others goes to its end
 none_told : other_turns both 4 None ≡ to_the_end 1 ++ to_the_end 2 ++ []
 unfolding to_the_end
 none_told = refl

@@ -18,7 +18,7 @@ pub record IsUnderWay (schema : Lists) (programs : List Program) (m : Making) (m
   pub units : m.units ≡ length programs
   pub are_at : AreAt schema programs m.history members
 
--- these turns were taken, and everything is under way with the members
+-- these turns were taken, and everything goes on with these members
 pub record HaveTurned (schema : Lists) (programs : List Program) (old : Making) (turns : List ℕ) (new : Making) (members : List Member) : Type 0 where
   pub under_way : IsUnderWay schema programs new members
   pub database : new ≡ record old { history = after_turns schema old.capacity programs old.history turns }

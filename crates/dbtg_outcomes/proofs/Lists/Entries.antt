@@ -1,5 +1,5 @@
 -- The entries of a map whose keys are vectors of numbers, seen as groups by their keys.
--- es are entries, k is a key, items what numbers a key has.
+-- es are entries, k is a key, items gives the numbers of a key.
 use Rattle.std.proofs.Common.{◌≡◌, refl, sym, ◌∙◌, ap, subst, ℕ, zero, suc, Bool, true, false, List, [], ◌∷◌, ◌++◌, map, Option, Some, None, slice_get, slice_set, length, ◌<◌, arith, inl, inr}
 use Rattle.std.specs.Prelude.{IfSome, IfNone}
 use Rattle.std.specs.List.{position}
@@ -18,7 +18,7 @@ module _ {K : Type 0} (items : K → List ℕ) where
   abbrev pub viewed : List (K × Group) → List (List ℕ × Group)
   viewed es = map {B = List ℕ × Group} (λ e. (items e.0, e.1)) es
 
-  -- the key is this
+  -- the key has these numbers
   abbrev pub is_key : List ℕ → K → Bool
   is_key k j = bytes_eq k (items j)
 
@@ -98,7 +98,7 @@ module _ {K : Type 0} (items : K → List ℕ) where
         new_is = viewed_set es i k at.group new at.found ∙ ap (λ (g : Group). slice_set (viewed es) i (k, g)) (is ∙ ap (λ (g : Group). record g { orders = sum_of g.orders orders }) (sym same));
       }
 
-  -- there is a group at a place that was found
+  -- there is a group at a place where a key was found
   pub some_at : (es : List (K × Group)) (i : ℕ) (k : List ℕ) → IsAt (viewed es) k i → slice_get (values_of es) i ≡ None → ⊥
   some_at es i k at none = let clash : Some at.group ≡ None = sym (value_at es i k at.group at.found) ∙ none in cc
 

@@ -1,4 +1,4 @@
--- Elements with weights, gathered one after another into groups: those of one group have the same key.
+-- Elements with weights, gathered one after another into groups: the elements of a group have the same key.
 -- key is what tells groups apart; acc, ws, vs are lists with weights, q is an element, c its weight.
 use Rattle.std.proofs.Common.{append_assoc, append-nil, ◌≡◌, refl, sym, ◌∙◌, ap, subst, ℕ, ◌+◌, ◌≤◌, false, List, [], ◌∷◌, ◌++◌, map, length, arith, inl, inr}
 use Rattle.std.specs.Prelude.{flat_map}
@@ -58,11 +58,11 @@ module _ {A : Type 0} (key : A → List ℕ) where
 
 -- WHAT GROUPS LEAD TO
 
--- what of each element comes, with its weight
+-- what each element leads to, with its weight
 abbrev pub spread : {A B : Type 0} → (A → List B) → List (A × ℕ) → List (B × ℕ)
 spread f ws = flat_map (λ w. each_of w.1 (f w.0)) ws
 
--- each is one that P holds of
+-- P holds of each element
 abbrev pub Each : {A : Type 0} → (A → Type 0) → List (A × ℕ) → Type 0
 Each P [] = ⊤
 Each P (w ∷ ws) = P w.0 × Each P ws
@@ -76,7 +76,7 @@ module _ {A B : Type 0} (key : A → List ℕ) (other : B → List ℕ) (f : A �
         | inr e ↦ rw e (h.0, enter_each ws q c h.1 p)
       ]
 
-  -- whatever stands before and behind
+  -- whatever comes before and after
   enter_alike : (acc : List (A × ℕ)) (front r : List (B × ℕ)) (q : A) (c : ℕ) → Each P acc → P q → Alike other (front ++ (spread f acc ++ (each_of c (f q) ++ r))) (front ++ (spread f (enter key acc q c) ++ r))
   enter_alike [] front r q c h p =
       subst (λ s. Alike other (front ++ (each_of c (f q) ++ r)) (front ++ (s ++ r))) (sym (append-nil (each_of c (f q)))) (alike_refl other _)
@@ -121,16 +121,16 @@ alike_gathered key ws =
     (subst (λ s. Alike key s (spread (λ x. x ∷ []) (gathered key [] ws))) (spread_self ws)
     (gathered_alike key key (λ x. x ∷ []) (λ x. ⊤) (λ x y p q e. ap (λ k. k ∷ []) e) [] ws tt (each_true ws)))
 
--- to gather is to group
+-- gathering gives the groups
 pub gathered_is : {A : Type 0} (key : A → List ℕ) (ws : List (A × ℕ)) → gathered key [] ws ≡ collected key ws
 gathered_is key ws = sym (collected_apart key (gathered key [] ws) (gathered_apart key [] ws tt)) ∙ sym (collected_alike key ws (gathered key [] ws) (alike_gathered key ws))
 
--- where elements of one key lead to elements of the same keys, their groups lead to the same groups as they do
+-- if elements with the same key lead to elements with the same keys, their groups lead to the same groups as they do themselves
 pub regrouped : {A B : Type 0} (key : A → List ℕ) (other : B → List ℕ) (f : A → List B) (P : A → Type 0) → ((x y : A) → P x → P y → key x ≡ key y → map other (f x) ≡ map other (f y)) → (ws : List (A × ℕ)) → Each P ws → collected other (spread f (collected key ws)) ≡ collected other (spread f ws)
 regrouped key other f P same ws h =
     ap (λ s. collected other (spread f s)) (sym (gathered_is key ws)) ∙ sym (collected_alike other (spread f ws) (spread f (gathered key [] ws)) (gathered_alike key other f P same [] ws tt h))
 
--- groups weigh together what their elements weigh
+-- all groups together weigh what their elements weigh
 pub total_groups : {A : Type 0} (key : A → List ℕ) (xs : List A) → total (groups key xs) ≡ length xs
 total_groups {A} key xs =
     let alike : Alike key (each_of 1 xs) (gathered key [] (each_of 1 xs)) = alike_gathered key (each_of 1 xs) in

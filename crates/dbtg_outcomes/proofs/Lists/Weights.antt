@@ -1,4 +1,4 @@
--- Lists whose elements have weights: where two of them have the same groups.
+-- Lists whose elements have weights, and when two of them have the same groups.
 -- key is what tells groups apart; ws, vs are lists with weights; before, all are lists of keys.
 use Rattle.std.proofs.Common.{append_assoc, ◌≡◌, refl, sym, ◌∙◌, ap, subst, ℕ, zero, suc, ◌+◌, ◌*◌, Bool, true, false, ◌||◌, cond, List, [], ◌∷◌, ◌++◌, map, length, arith, inl, inr, ◌⊎◌}
 use Rattle.std.specs.Prelude.{filter}
@@ -21,18 +21,18 @@ among_append (j ∷ js) t k =
       | inr h ↦ rw h (among_append js t k)
     ]
 
--- whoever is the same as one that is among them is among them
+-- a key that equals one of the keys is among them
 among_same : (s : List (List ℕ)) (j k : List ℕ) → bytes_eq k j ≡ true → among s j ≡ among s k
 among_same s j k h = ap (among s) (sym ((bytes_eq-Decides k j).0 h))
 
--- another list of keys in place of these
+-- other keys in place of these, if they are the same set
 firsts_alike : {A : Type 0} (key : A → List ℕ) (s t : List (List ℕ)) (xs : List A) → ((k : List ℕ) → among s k ≡ among t k) → firsts key s xs ≡ firsts key t xs
 firsts_alike key s t [] h = refl
 firsts_alike key s t (x ∷ xs) h =
     let rest : firsts key (key x ∷ s) xs ≡ firsts key (key x ∷ t) xs = firsts_alike key (key x ∷ s) (key x ∷ t) xs (λ k. ap (λ b. bytes_eq k (key x) || b) (h k)) in
     rw (h (key x), rest) refl
 
--- the keys before, and then those of xs
+-- first the keys before, then those of xs
 or_turn : (a b c : Bool) → (b || (a || c)) ≡ ((a || b) || c)
 or_turn true true c = refl
 or_turn true false c = refl
@@ -49,7 +49,7 @@ firsts_append key before all (x ∷ xs) ys h =
       | inr g ↦ rw (g, rest) refl
     ]
 
--- all of these keys are among those
+-- all of the second keys are among the first
 abbrev pub AllAmong : List (List ℕ) → List (List ℕ) → Type 0
 AllAmong s [] = ⊤
 AllAmong s (j ∷ js) = (among s j ≡ true) × AllAmong s js
@@ -62,7 +62,7 @@ AllAmong_self : (ks : List (List ℕ)) → AllAmong ks ks
 AllAmong_self [] = tt
 AllAmong_self (k ∷ ks) = (rw ((bytes_eq-Decides k k).1 refl) refl, AllAmong_more k ks ks (AllAmong_self ks))
 
--- what comes behind keys that are there already changes nothing
+-- a key that is already among them changes nothing
 known_again : (s ks : List (List ℕ)) (k : List ℕ) → AllAmong s ks → (among ks k || among s k) ≡ among s k
 known_again s [] k h = refl
 known_again s (j ∷ js) k h =
@@ -75,7 +75,7 @@ none_new : {A : Type 0} (key : A → List ℕ) (s : List (List ℕ)) (xs : List 
 none_new key s [] h = refl
 none_new key s (x ∷ xs) h = rw h.0 (none_new key (key x ∷ s) xs (AllAmong_more (key x) s (map key xs) h.1))
 
--- xs, ys, zs, where the keys of ys are all among those of xs
+-- xs, ys, zs, if the keys of ys are all among those before them
 firsts_skip : {A : Type 0} (key : A → List ℕ) (before : List (List ℕ)) (xs ys zs : List A) → AllAmong (map key xs ++ before) (map key ys) → firsts key before (xs ++ (ys ++ zs)) ≡ firsts key before (xs ++ zs)
 firsts_skip key before xs ys zs h =
     let all : List (List ℕ) = map key xs ++ before in
@@ -86,12 +86,12 @@ firsts_skip key before xs ys zs h =
 
 -- WEIGHTS
 
--- what the elements with this key weigh
+-- the weight of the elements with this key
 abbrev pub weight : {A : Type 0} → (A → List ℕ) → List ℕ → List (A × ℕ) → ℕ
 weight key k [] = 0
 weight key k (w ∷ ws) = cond (bytes_eq k (key w.0)) w.1 0 + weight key k ws
 
--- what all weigh
+-- the weight of all elements
 abbrev pub total : {A : Type 0} → List (A × ℕ) → ℕ
 total [] = 0
 total (w ∷ ws) = w.1 + total ws
@@ -100,11 +100,11 @@ total (w ∷ ws) = w.1 + total ws
 abbrev pub names : {A : Type 0} → List (A × ℕ) → List A
 names ws = map (λ w. w.0) ws
 
--- the first of each group, with what the group weighs
+-- the first element of each group, with the weight of the group
 abbrev pub collected : {A : Type 0} → (A → List ℕ) → List (A × ℕ) → List (A × ℕ)
 collected key ws = map (λ x. (x, weight key (key x) ws)) (firsts key [] (map (λ w. w.0) ws))
 
--- the groups have the same firsts, and weigh the same
+-- the groups have the same first elements and the same weights
 pub record Alike {A : Type 0} (key : A → List ℕ) (ws vs : List (A × ℕ)) : Type 0 where
   pub firsts_are : (before : List (List ℕ)) → firsts key before (map (λ w. w.0) ws) ≡ firsts key before (map (λ w. w.0) vs)
   pub weights_are : (k : List ℕ) → weight key k ws ≡ weight key k vs
@@ -131,7 +131,7 @@ total_append : {A : Type 0} (ws vs : List (A × ℕ)) → total (ws ++ vs) ≡ t
 total_append [] vs = omega arith
 total_append (w ∷ ws) vs = let rest = total_append ws vs in omega arith
 
--- how many keys are this
+-- how many of the keys are this one
 times : List ℕ → List (List ℕ) → ℕ
 times k [] = 0
 times k (j ∷ js) = cond (bytes_eq k j) 1 0 + times k js
@@ -162,7 +162,7 @@ AllAmong_wider : (s t ks : List (List ℕ)) → ((k : List ℕ) → among s k �
 AllAmong_wider s t [] h a = tt
 AllAmong_wider s t (k ∷ ks) h a = (h k a.0, AllAmong_wider s t ks h a.1)
 
--- what is in the middle is among all
+-- what is among the middle part is among all
 in_middle : (a p b c : List (List ℕ)) (k : List ℕ) → among p k ≡ true → among ((a ++ (p ++ b)) ++ c) k ≡ true
 in_middle a p b c k h =
     among_append (a ++ (p ++ b)) c k
@@ -182,7 +182,7 @@ length_map f (x ∷ xs) = let rest = length_map f xs in omega (arith, rest)
 -- MERGING
 
 module _ {A : Type 0} (key : A → List ℕ) where
-  -- elements ps of weight d, and later as many of the same keys of weight c: these go, and the first weigh both
+  -- elements ps of weight d, and later as many of the same keys and of weight c: these are dropped, and the first ones get both weights
   pub merged : (ws us vs : List (A × ℕ)) (ps qs : List A) (d c : ℕ) → map key ps ≡ map key qs → Alike key (ws ++ (each_of d ps ++ (us ++ (each_of c qs ++ vs)))) (ws ++ (each_of (d + c) ps ++ (us ++ vs)))
   merged ws us vs ps qs d c e = record {
     firsts_are = λ before. ap (firsts key before) names_before ∙ firsts_skip key before (names ws ++ (ps ++ names us)) qs (names vs) (all_found before) ∙ ap (firsts key before) (sym names_after);
@@ -263,7 +263,7 @@ module _ {A : Type 0} (key : A → List ℕ) where
         rest : bytes_eq k (key w.0) ≡ false → (bytes_eq k (key w.0) || among (map (λ v. key v.0) ws) k) ≡ false → among (map (λ v. key v.0) ws) k ≡ false
         rest g h = sym (rw g refl) ∙ h
 
-  -- what is a group of its own weighs what its one element weighs
+  -- a group of one element weighs what this element weighs
   abbrev pub WeighOwn : List (A × ℕ) → List (A × ℕ) → Type 0
   WeighOwn all [] = ⊤
   WeighOwn all (w ∷ ws) = (weight key (key w.0) all ≡ w.1) × WeighOwn all ws
@@ -291,7 +291,7 @@ module _ {A : Type 0} (key : A → List ℕ) where
   weights_own all [] h = refl
   weights_own all (w ∷ ws) h = λ i. (w.0, h.0 i) ∷ weights_own all ws h.1 i
 
-  -- none of them has a key of these
+  -- none of them has one of these keys
   abbrev pub NoneAmong : List (List ℕ) → List (A × ℕ) → Type 0
   NoneAmong s [] = ⊤
   NoneAmong s (w ∷ ws) = (among s (key w.0) ≡ false) × NoneAmong s ws
@@ -319,7 +319,7 @@ module _ {A : Type 0} (key : A → List ℕ) where
   none_of_none [] = tt
   none_of_none (w ∷ ws) = (refl, none_of_none ws)
 
-  -- where no two have the same key, each is a group of its own
+  -- if no two have the same key, each is a group of its own
   pub collected_apart : (ws : List (A × ℕ)) → Apart ws → collected key ws ≡ ws
   collected_apart ws h = ap (map (λ x. (x, weight key (key x) ws))) (firsts_apart [] ws (none_of_none ws) h) ∙ weights_own ws ws (own ws h)
 

@@ -45,7 +45,7 @@ made_other u v o x h =
 
 -- HOW MANY ARE LEFT
 
--- of these scripts, the first of which is unit u's
+-- how many statements of these scripts are left; the first script is unit u's
 pub left : ℕ → List (List Statement) → List (ℕ × Statement) → ℕ
 left u [] o = 0
 left u (script ∷ scripts) o = (length script - made u o) + left (suc u) scripts o
@@ -81,7 +81,7 @@ left_more (suc j) u (s ∷ scripts) o v script x e f g =
     let own = made_other u v o x (λ i. omega arith) in
     omega arith
 
--- nothing is left where each unit has made its script
+-- if each unit has made its script, nothing is left
 pub none_left : (u : ℕ) (scripts : List (List Statement)) (o : List (ℕ × Statement)) → ((j : ℕ) (script : List Statement) → slice_get scripts j ≡ Some script → made (u + j) o ≡ length script) → left u scripts o ≡ 0
 unfolding left
 none_left u [] o h = refl
@@ -105,7 +105,7 @@ all_made (suc j) u (s ∷ scripts) o script e f =
     let rest = all_made j (suc u) scripts o script none f in
     omega arith
 
--- a script of which a statement is left
+-- a script that has a statement left
 pub record IsLeft (u : ℕ) (scripts : List (List Statement)) (o : List (ℕ × Statement)) : Type 0 where
   pub place : ℕ
   pub script : List Statement
@@ -128,18 +128,18 @@ left_some u (s ∷ scripts) o n e =
           record { place = suc rest.place; script = rest.script; next = rest.next; script_is = rest.script_is; next_is = ap (slice_get rest.script) is ∙ rest.next_is }
     ]
 
--- ONE STATEMENT MORE
+-- ONE MORE STATEMENT
 
 module _ (scripts : List (List Statement)) where
   -- the units
   abbrev pub units : List ℕ
   units = range_with_len 1 (length scripts)
 
-  -- an order goes on with one statement, in every way
+  -- an order continues with one statement, in every way
   abbrev pub ext : List (ℕ × Statement) → List (List (ℕ × Statement))
   ext o = extended scripts o (range_with_len 1 (length scripts))
 
-  -- all orders that begin so, up to n statements more
+  -- all orders that begin like this one, with n more statements
   abbrev pub begun : List (ℕ × Statement) → ℕ → List (List (ℕ × Statement))
   begun first n = completed scripts n first
 
@@ -169,7 +169,7 @@ module _ (scripts : List (List Statement)) where
   flat_self [] = refl
   flat_self (o ∷ os) = ap (λ l. o ∷ l) (flat_self os)
 
-  -- the last statement comes in every way
+  -- the last statement is added in every way
   pub completed_last : (n : ℕ) (o : List (ℕ × Statement)) → completed scripts (suc n) o ≡ flat_map ext (completed scripts n o)
   unfolding completed
   completed_last zero o = flat_self (ext o) ∙ sym (append-nil (ext o))
@@ -187,7 +187,7 @@ module _ (scripts : List (List Statement)) where
   pub next_left : (o : List (ℕ × Statement)) (u : ℕ) (x : Statement) → next_of scripts o u ≡ Some x → left 1 scripts o ≡ suc (left 1 scripts (o ++ (u, x) ∷ []))
   next_left o u x e = let at = next_of_unit o u x e in left_more at.0 1 scripts o u at.1 x at.2 at.3 at.4
 
-  -- where statements are left, a unit has a next one
+  -- if statements are left, some unit has a next one
   next_some : (o : List (ℕ × Statement)) (n : ℕ) → left 1 scripts o ≡ suc n → (s : ℕ × Statement) × IsNext o s
   unfolding unit_at
   next_some o n e =
@@ -217,7 +217,7 @@ module _ (scripts : List (List Statement)) where
       let is : left 1 scripts (at.0 ++ last.0 ∷ []) ≡ left 1 scripts o = ap (left 1 scripts) last.2 in
       omega arith
 
-  -- each has as many statements more
+  -- each is longer by as many statements
   pub begun_long : (first : List (ℕ × Statement)) (n : ℕ) (o : List (ℕ × Statement)) → In o (begun first n) → length o ≡ length first + n
   unfolding completed
   begun_long first zero o (inl e) = let same : length first ≡ length o = ap length e in omega arith
@@ -233,7 +233,7 @@ module _ (scripts : List (List Statement)) where
   pub begun_more : (first : List (ℕ × Statement)) (n : ℕ) (o : List (ℕ × Statement)) (s : ℕ × Statement) → In o (begun first n) → IsNext o s → In (o ++ s ∷ []) (begun first (suc n))
   begun_more first n o s i h = subst (λ (l : List (List (ℕ × Statement))). In (o ++ s ∷ []) l) (sym (completed_last n first)) (in_flat_map ext o (o ++ s ∷ []) (begun first n) i (in_ext o s h))
 
-  -- an order that is begun goes on to the end of all scripts
+  -- an order that is begun continues to the end of all scripts
   pub record IsCompleted (first o : List (ℕ × Statement)) (n : ℕ) : Type 0 where
     pub rest : List (ℕ × Statement)
     pub begun_with : In (o ++ rest) (completed scripts n first)
@@ -259,12 +259,12 @@ module _ (scripts : List (List Statement)) where
       let rest = completed_begins k at.0 e at.2 in
       (one.0 ∷ rest.0, sym (append_assoc o (one.0 ∷ []) rest.0) ∙ ap (λ l. l ++ rest.0) one.2 ∙ rest.1)
 
-  -- a statement in the midst of an order: what stands before it is begun, and it is its unit's next
+  -- a statement within an order: the part before it is begun, and it is the next of its unit
   pub record IsAmid (o p : List (ℕ × Statement)) (s : ℕ × Statement) : Type 0 where
     pub before : In (o ++ p) (completed scripts (length p) o)
     pub next : IsNext (o ++ p) s
 
-  -- in an order that begins so, a statement stands among the first ones or behind them
+  -- if an order begins in this way, each of its statements is in the beginning or comes after it
   pub front_or_amid : (first r before rest : List (ℕ × Statement)) (s : ℕ × Statement) → first ++ r ≡ before ++ s ∷ rest → ((q : List (ℕ × Statement)) × (first ≡ before ++ s ∷ q)) ⊎ ((p : List (ℕ × Statement)) × (first ++ p ≡ before))
   front_or_amid [] r before rest s e = inr (before, refl)
   front_or_amid (t ∷ first) r [] rest s e = let same : t ≡ s = cc in inl (first, ap (λ (u : ℕ × Statement). u ∷ first) same)

@@ -1,4 +1,4 @@
--- Groups that go on with the next statements of units.
+-- Groups that continue with the next statements of units.
 -- m is a meeting, g a group, u a unit, x a statement, w an order with a weight.
 use Rattle.std.proofs.Common.{◌≡◌, refl, sym, ◌∙◌, ap, subst, ℕ, ◌+◌, ◌<◌, ◌≤◌, List, [], ◌∷◌, ◌++◌, length, get_or, take, drop, Some, None, arith, append_assoc, append-nil}
 use Rattle.std.specs.List.{range_with_len}
@@ -35,7 +35,7 @@ module _ (m : Meeting) where
     noted = noted_nothing m notes;
   }
 
-  -- by the next statement of one unit
+  -- a group continues with the next statement of one unit
   pub extends_one : (g : Group) (fs : List Entry) (u : ℕ) (x : Statement) (run : Run) (place status : ℕ) (old new : List (List ℕ × Group)) (before after : List Note) → fs ≡ g.history → next_of m.scripts (statements_of g.history) u ≡ Some x → IsRunOf m (statements_of fs ++ (u, x) ∷ []) run → HasStatus m (statements_of fs) u x status → place ≡ length (entries_of u fs) → IsAdded old (state_key m (statements_of run.history)) (record { history = run.history; orders = g.orders }) new → HasNoted before (record { unit = u; place = place; status = status }) after → Extends m g (u ∷ []) old new before after
   extends_one g fs u x run place status old new before after same e of has p added noted =
       let own : IsRunOf m (statements_of g.history ++ (u, x) ∷ []) run = subst (λ (es : List Entry). IsRunOf m (statements_of es ++ (u, x) ∷ []) run) same of in
@@ -78,7 +78,7 @@ module _ (m : Meeting) where
 
   -- GROUP BY GROUP
 
-  -- what is held of groups behind one another
+  -- the orders of groups, split into those of the first and of the last groups
   record AreSplit (gs hs : List Group) (ws : List (List (ℕ × Statement) × ℕ)) : Type 0 where
     front : List (List (ℕ × Statement) × ℕ)
     rest : List (List (ℕ × Statement) × ℕ)
@@ -98,7 +98,7 @@ module _ (m : Meeting) where
   one_held g (w ∷ []) h = (w, refl, h.0)
   one_held g (w ∷ (v ∷ ws)) h = absurd h.1
 
-  -- and one more
+  -- the same for the last group alone
   pub record HasLast (gs : List Group) (g : Group) (ws : List (List (ℕ × Statement) × ℕ)) : Type 0 where
     pub front : List (List (ℕ × Statement) × ℕ)
     pub last : List (ℕ × Statement) × ℕ
@@ -142,7 +142,7 @@ module _ (m : Meeting) where
       let next : take i layer ++ g ∷ [] ≡ take (i + 1) layer = ap (λ (f : Group). take i layer ++ f ∷ []) is ∙ sym (take_more layer i g low) in
       subst (λ (gs : List Group). ExtendsAll m gs b k n) next (extends_last (take i layer) g a b k l n h r)
 
-  -- more states than this from some of the groups are more from all of them
+  -- if some of the groups lead to more states than this, all of them do
   lead_on : (gs hs : List Group) (new : List (List ℕ × Group)) (k n : List Note) (most : ℕ) → ExtendsAll m gs new k n → most < length new → LeadToMore m (gs ++ hs) most
   lead_on gs hs new k n most h many = λ ws held.
       let parts = split gs hs ws held in

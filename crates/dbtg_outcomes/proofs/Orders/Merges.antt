@@ -1,4 +1,4 @@
--- The orders are all merges of the scripts, in the order of a dictionary.
+-- The orders are all merges of the scripts, sorted like a dictionary.
 -- o, p, e, f are orders, s, t statements with their units, u, v units, k how many statements are left.
 use Rattle.std.proofs.Common.{◌≡◌, refl, sym, ◌∙◌, ap, subst, ℕ, zero, suc, ◌+◌, ◌<◌, ◌≤◌, Bool, List, [], ◌∷◌, ◌++◌, length, map, Option, Some, None, inl, inr, ◌⊎◌, ⊎_elim, arith, append_assoc, append-nil, slice_get}
 use Rattle.std.specs.Prelude.{◌==◌, filter, flat_map, option_and_then, option_map, option_to_list, if◌then◌else◌}
@@ -17,7 +17,7 @@ use Rattle.dbtg_outcomes.proofs.Orders.Mixed.{Begins, first_begins, first_left, 
 
 -- LISTS
 
--- what is left of a list whose item behind the first ones is known
+-- the rest of a list, if the element after its beginning is known
 left_of : {X : Type 0} (xs rest : List X) (y : X) → slice_get (xs ++ rest) (length xs) ≡ Some y → (others : List X) × (rest ≡ y ∷ others)
 left_of [] [] y e = absurd (cc)
 left_of [] (z ∷ rest) y e = let same : z ≡ y = cc in (rest, ap (λ x. x ∷ rest) same)
@@ -26,7 +26,7 @@ left_of (x ∷ xs) rest y e = left_of xs rest y e
 -- THEY BEGIN THE SCRIPTS
 
 module _ (scripts : List (List Statement)) where
-  -- one statement more, of another unit
+  -- one more statement, of another unit
   other_own : (u : ℕ) (p : List (ℕ × Statement)) (s : ℕ × Statement) → (s.0 ≡ u → ⊥) → own u (p ++ s ∷ []) ≡ own u p
   other_own u p s h =
       own_append u p (s ∷ [])
@@ -108,9 +108,9 @@ module _ (scripts : List (List Statement)) where
       mixed_is_order scripts first o front.0 front.1 (record { of_units = λ s i. h.of_units s (in_contains o s i); of_scripts = λ u script at. ([], append-nil (own u o) ∙ h.of_scripts u script at) })
       (λ u script at. sym (length-map (filter (λ (t : ℕ × Statement). t.0 == u) o) (λ (t : ℕ × Statement). t.1)) ∙ ap (λ (l : List Statement). length l) (h.of_scripts u script at))
 
-  -- AS A DICTIONARY HAS THEM
+  -- SORTED LIKE A DICTIONARY
 
-  -- orders that go on from o with u and with a higher unit
+  -- an order that continues from o with one unit comes before one that continues with a higher unit
   before : (o : List (ℕ × Statement)) (s t : ℕ × Statement) (e f r q : List (ℕ × Statement)) → s.0 < t.0 → (o ++ s ∷ []) ++ r ≡ e → (o ++ t ∷ []) ++ q ≡ f → IsBefore (turns e) (turns f)
   before o s t e f r q low first second = record {
     both = turns o;
@@ -128,7 +128,7 @@ module _ (scripts : List (List Statement)) where
   in_order_append (o ∷ os) ps h g between =
       ((λ f c. ⊎_elim (λ i. h.0 f (in_contains os f i)) (λ i. between o f (inl refl) i) (of_append f os ps (contains_in (os ++ ps) f c))), in_order_append os ps h.1 g (λ e f i j. between e f (inr i) j))
 
-  -- what goes on from o with one of these units
+  -- e continues from o with one of these units
   pub record GoesOn (o : List (ℕ × Statement)) (us : List ℕ) (e : List (ℕ × Statement)) : Type 0 where
     pub step : ℕ × Statement
     pub unit_in : In step.0 us
@@ -143,7 +143,7 @@ module _ (scripts : List (List Statement)) where
       let begun_with = completed_begins scripts k at.0 e at.2 in
       record { step = (from.0, one.0); unit_in = from.1; rest = begun_with.0; is = ap (λ (l : List (ℕ × Statement)). l ++ begun_with.0) one.2 ∙ begun_with.1 }
 
-  -- the orders that go on from o, unit by unit, where those from each order further on are in order
+  -- the orders that continue from o, unit by unit, are sorted if those that continue from each longer order are
   units_in_order : (k : ℕ) (o : List (ℕ × Statement)) (n u : ℕ) → ((p : List (ℕ × Statement)) → AreInOrder (completed scripts k p)) → AreInOrder (flat_map (completed scripts k) (extended scripts o (range_with_len u n)))
   units_in_order k o zero u h = tt
   units_in_order k o (suc n) u h =

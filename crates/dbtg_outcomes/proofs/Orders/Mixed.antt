@@ -26,7 +26,7 @@ own_first s r =
     ap (λ (b : Bool). map (λ (t : ℕ × Statement). t.1) (if b then s ∷ filter (λ (t : ℕ × Statement). t.0 == s.0) r else filter (λ (t : ℕ × Statement). t.0 == s.0) r)) (eq-eqb s.0 s.0 refl)
 
 module _ (scripts : List (List Statement)) where
-  -- each statement is of a unit, and those of each unit are the beginning of its script
+  -- each statement belongs to a unit, and those of each unit are the beginning of its script
   pub record Begins (o : List (ℕ × Statement)) : Type 0 where
     pub of_units : (s : ℕ × Statement) → In s o → (0 < s.0) × (s.0 ≤ length scripts)
     pub of_scripts : (u : ℕ) (script : List Statement) → unit_at scripts u ≡ Some script → (rest : List Statement) × (own u o ++ rest ≡ script)
@@ -78,7 +78,7 @@ module _ (scripts : List (List Statement)) where
 abbrev pub by_one : ℕ → List Statement → List (ℕ × Statement)
 by_one u xs = map {B = ℕ × Statement} (λ x. (u, x)) xs
 
--- all statements are that unit's
+-- all statements belong to that unit
 own_all : (u : ℕ) (xs : List Statement) → own u (by_one u xs) ≡ xs
 own_all u [] = refl
 own_all u (x ∷ xs) = own_first (u, x) (by_one u xs) ∙ ap (λ (l : List Statement). x ∷ l) (own_all u xs)
@@ -89,7 +89,7 @@ own_none u v (x ∷ xs) h =
     ap (λ (b : Bool). map (λ (t : ℕ × Statement). t.1) (if b then (v, x) ∷ filter (λ (t : ℕ × Statement). t.0 == u) (by_one v xs) else filter (λ (t : ℕ × Statement). t.0 == u) (by_one v xs))) (ne_eqb v u h)
     ∙ own_none u v xs h
 
--- all but the last script, and the last
+-- all scripts but the last, and the last
 last_count : (scripts : List (List Statement)) (n : ℕ) (script : List Statement) → slice_get scripts n ≡ Some script → length scripts ≡ suc n → count_statements (take n scripts) + length script ≡ count_statements scripts
 last_count [] n script e long = absurd (omega arith)
 last_count (s ∷ []) zero script e long = let same : s ≡ script = cc in let count : length s ≡ length script = ap length same in omega arith
@@ -105,7 +105,7 @@ no_last [] e = refl
 no_last (s ∷ scripts) e = absurd (omega arith)
 
 module _ (scripts : List (List Statement)) where
-  -- the last script is one of the scripts, where there is any
+  -- the last script is one of the scripts, if there are any
   record HasLast : Type 0 where
     place : ℕ
     long : length scripts ≡ suc place
@@ -156,7 +156,7 @@ module _ (scripts : List (List Statement)) where
       let count : 0 + length (made_first first scripts) ≡ length (made_first first scripts) = omega arith in
       subst (λ (n : ℕ). In (made_first first scripts) (begun scripts [] n)) count (goes_on scripts [] 0 [] (made_first first scripts) (nothing_begun scripts []) (first_begins first))
 
-  -- behind it the statements of the others are left
+  -- after it the statements of the others are left
   others_count : (first : Bool) → count_statements (others first scripts) + length (first_script first scripts) ≡ count_statements scripts
   others_count false = let none : count_statements scripts + 0 ≡ count_statements scripts = omega arith in none
   others_count true = by (length scripts) refl where
@@ -175,7 +175,7 @@ module _ (scripts : List (List Statement)) where
       let count = others_count first in
       omega arith
 
-  -- where each has made its whole script it is one of all orders
+  -- if each unit has made its whole script, the order is one of all orders
   pub mixed_is_order : (first : Bool) (o r : List (ℕ × Statement)) → made_first first scripts ++ r ≡ o → Begins scripts o → ((u : ℕ) (script : List Statement) → unit_at scripts u ≡ Some script → made u o ≡ length script) → In o (orders first scripts)
   unfolding unit_at
   mixed_is_order first o r e h all =

@@ -45,13 +45,13 @@ module _ (m : Meeting) where
   pub next_fitting : IsMeeting m → (o : List (ℕ × Statement)) (u : ℕ) (x : Statement) → 0 < u → u ≤ length m.scripts → next_of m.scripts o u ≡ Some x → fits m.schema x ≡ true
   next_fitting meets o u x some most e = next_fits m meets.sound meets.fit o (u, x) (record { unit = in_range (length m.scripts) 1 u (omega arith) (omega arith); next = e })
 
-  -- one group more
+  -- one more group
   pub hold_next : (key : List (ℕ × Statement) → List ℕ) (old new : List (List ℕ × Group)) (seen : List (List (ℕ × Statement) × ℕ)) (k : List ℕ) (g : Group) (q : List (ℕ × Statement)) (c : ℕ) → Hold m key old seen → k ≡ key q → IsHeld m g (q, c) → IsAdded old k g new → Hold m key new (seen ++ (q, c) ∷ [])
   hold_next key old new seen k g q c h e held added =
       subst (λ ws. Stand m key new ws) (sym (gathered_append key [] seen ((q, c) ∷ [])))
       (entered m key old new (gathered key [] seen) k g q c (gathered_apart key [] seen tt) h e held added)
 
-  -- the group of the order that goes on with a unit's next statement
+  -- the group of the order that continues with a unit's next statement
   pub hold_extended : (group : Group) (u : ℕ) (x : Statement) (run : Run) (key : List ℕ) (old new : List (List ℕ × Group)) → next_of m.scripts (statements_of group.history) u ≡ Some x → IsRunOf m (statements_of group.history ++ (u, x) ∷ []) run → key ≡ state_key m (statements_of run.history) → IsAdded old key (record { history = run.history; orders = group.orders }) new → (seen : List (List (ℕ × Statement) × ℕ)) (w : List (ℕ × Statement) × ℕ) → IsHeld m group w → Hold m (state_key m) old seen → Hold m (state_key m) new (seen ++ each_of w.1 (extended_by m.scripts w.0 u))
   hold_extended group u x run key old new e is k added seen w held hold =
       let order : statements_of run.history ≡ w.0 ++ (u, x) ∷ [] = is.order_is ∙ ap (λ l. l ++ (u, x) ∷ []) held.order_is in
@@ -66,7 +66,7 @@ module _ (m : Meeting) where
       let none : extended_by m.scripts w.0 u ≡ [] = ap (λ (n : Option Statement). option_to_list (option_map (λ x. w.0 ++ (u, x) ∷ []) n)) next in
       subst (λ (l : List (List (ℕ × Statement))). Hold m (state_key m) gs (seen ++ each_of w.1 l)) (sym none) (subst (λ l. Hold m (state_key m) gs l) (sym (append-nil seen)) hold)
 
-  -- and its note
+  -- the note of this statement
   pub noted_extended : (es fs : List Entry) (u : ℕ) (x : Statement) (place status : ℕ) (old new : List Note) → fs ≡ es → next_of m.scripts (statements_of es) u ≡ Some x → HasStatus m (statements_of fs) u x status → place ≡ length (entries_of u fs) → HasNoted old (record { unit = u; place = place; status = status }) new → AreNoted m ((statements_of es, u) ∷ []) old new
   noted_extended es fs u x place status old new same e has p noted =
       noted_next m (statements_of es) u x (record { unit = u; place = place; status = status }) old new e

@@ -9,13 +9,13 @@ same_lines : difference_text (codes "NEXT 2" ++ 10 ∷ []) (codes "NEXT 2" ++ 10
 unfolding lines
 same_lines = refl
 
--- what the first has comes before, whatever the order of the lines
+-- the lines that only the first text has come first, whatever their order
 first_in_front : difference_text (codes "A:1" ++ 10 ∷ codes "B:1" ++ 10 ∷ []) (codes "C:1" ++ 10 ∷ codes "A:1" ++ 10 ∷ [])
     ≡ codes "- B:1" ++ 10 ∷ codes "+ C:1" ++ 10 ∷ []
 unfolding lines
 first_in_front = refl
 
--- a line that begins as another is another
+-- a line that only begins like another is a different line
 longer_line : difference_text (codes "A:1" ++ 10 ∷ []) (codes "A:1.2" ++ 10 ∷ []) ≡ codes "- A:1" ++ 10 ∷ codes "+ A:1.2" ++ 10 ∷ []
 unfolding lines
 longer_line = refl

@@ -19,7 +19,7 @@ two = 5 ∷ 0 ∷ 8 ∷ []
 abbrev three : List ℕ
 three = 5 ∷ 0 ∷ 7 ∷ 7 ∷ []
 
--- the order of facts says nothing; one fact more does, on either side, and so does one that only begins as another
+-- the order of facts makes no difference; one more fact does, on either side, and so does one that only begins like another
 in_any_order : same_facts (one ∷ two ∷ []) (two ∷ one ∷ []) ≡ true
 in_any_order = refl
 
@@ -32,7 +32,7 @@ one_less = refl
 longer : same_facts (one ∷ []) (three ∷ []) ≡ false
 longer = refl
 
--- the first of two that are alike is named, though it is itself like none before
+-- the first of those that are alike is named, though it is itself like none before it
 abbrev three_results : List Told
 three_results = told (codes "A:1") (one ∷ []) ∷ told (codes "A:2") (two ∷ []) ∷ told (codes "A:3") (two ∷ []) ∷ []
 
@@ -54,7 +54,7 @@ apart_shown : shown_behind three_results (told (codes "A:4") (three ∷ [])) (co
 unfolding lines
 apart_shown = refl
 
--- only in brief are results compared
+-- results are compared only in brief
 not_in_brief : none_before false ≡ None
 not_in_brief = refl
 

@@ -1,4 +1,4 @@
--- Records are named by their STOREs: facts that are the same but for numbers, and some that are not.
+-- Records are named by their STOREs: facts that are the same except for numbers, and some that are not.
 use Rattle.std.proofs.Common.{◌≡◌, List, ℕ, [], ◌∷◌, Option, Some, None, Bool, true, false, refl}
 use Rattle.dbtg_cells.specs.declared.key.DbKey.{DbKey}
 use Rattle.dbtg_cells.specs.declared.key.Owner.TheVariants.{System, Rec}
@@ -33,18 +33,18 @@ stores u k = made u (Store 0 [] nothing) k
 abbrev reads : ℕ → DbKey → Entry
 reads u k = made u (Get None) k
 
--- unit 1's records stand in front, whoever was faster; what is read was stored by nobody here
+-- unit 1's records come first, whichever unit was faster; nobody here stored the record that is read
 ordered_by_unit : stored (1 ∷ 2 ∷ []) (stores 2 (record_of 0 1) ∷ reads 1 (record_of 0 1) ∷ stores 1 (record_of 0 2) ∷ stores 2 (record_of 0 3) ∷ []) ≡ record_of 0 2 ∷ record_of 0 1 ∷ record_of 0 3 ∷ []
 ordered_by_unit = refl
 
--- a name is the type and the place; a number that is used again is another record
+-- a name is the type and the place; a number that is used again names another record
 second : key_name (record_of 0 2 ∷ record_of 0 1 ∷ []) (record_of 0 1) ≡ 0 ∷ 0 ∷ 1 ∷ []
 second = refl
 
 next_generation : key_name (record_of 0 1 ∷ again ∷ []) again ≡ 0 ∷ 0 ∷ 1 ∷ []
 next_generation = refl
 
--- a record of another type, and one that nobody stored, keep apart
+-- a record of another type keeps apart, and so does one that nobody stored
 of_its_type : key_name (record_of 0 1 ∷ record_of 1 1 ∷ []) (record_of 1 1) ≡ 0 ∷ 1 ∷ 1 ∷ []
 of_its_type = refl
 
@@ -71,11 +71,11 @@ run_with n k next = record {
 abbrev facts : Run → List (List ℕ)
 facts run = named true (1 ∷ 2 ∷ []) run
 
--- numbers that were exchanged, and which number is free, say nothing
+-- exchanged numbers, and which number is free, make no difference
 numbers_exchanged : same_facts (facts (run_with 1 2 3)) (facts (run_with 2 1 4)) ≡ true
 numbers_exchanged = refl
 
--- in a run like that, unit 2 is current of unit 1's record
+-- in a similar run, unit 2 is current of unit 1's record
 abbrev other_current : Run
 other_current = record (run_with 1 2 3) {
   units = record { number = 2; currency = record { run_unit = Some (record_of 0 1); types = Some (record_of 0 2) ∷ []; areas = None ∷ []; sets = None ∷ [] }; modes = None ∷ []; kept = (record_of 0 2, 3) ∷ [] } ∷ [];
@@ -84,7 +84,7 @@ other_current = record (run_with 1 2 3) {
 currents_tell : same_facts (facts (run_with 1 2 3)) (facts other_current) ≡ false
 currents_tell = refl
 
--- the values are exchanged, and the numbers are not
+-- the values are exchanged, but not the numbers
 abbrev other_values : Run
 other_values = record (run_with 1 2 3) {
   image = record {

@@ -19,7 +19,7 @@ row_unit_one = refl
 row_unit_two : uses_of 2 second_first ≡ (2, Update) ∷ []
 row_unit_two = refl
 
--- a unit that has it not open
+-- a unit that does not have it open
 row_unit_three : uses_of 3 second_first ≡ []
 row_unit_three = refl
 

@@ -1,4 +1,4 @@
--- From states that are one without the order in which units opened an area the same statements get the same answers.
+-- The same statements get the same answers from states that differ at most in the order in which units opened an area.
 -- a and b are areas, u and n are units.
 use Rattle.std.proofs.Common.{◌≡◌, refl, sym, ◌∙◌, ap, subst, ℕ, ◌+◌, ◌-◌, Bool, true, false, not, List, [], ◌∷◌, ◌++◌, Option, Some, None, arith}
 use Rattle.std.proofs.lemmas.List.Elements.{filter-append}
@@ -58,7 +58,7 @@ swapped p q (x ∷ xs) = by (swapped p q xs) (p x) (q x) refl refl where
 
 -- ONE STATEMENT
 
--- outcomes that are one but for the order of users
+-- outcomes that differ at most in the order of users
 record Alike (o p : StatementEffect) : Type 0 where
   answer : o.answer ≡ p.answer
   unit_is : o.unit ≡ p.unit
@@ -148,7 +148,7 @@ module _ (db : Database) (unit : Unit) (usage : ℕ → List (ℕ × Mode)) (sam
         (subst (λ (check : Option Cause). Alike (effect_on_cells schema capacity db unit statement) (unless_refused eb unit check (done_on_cells schema capacity eb unit statement))) (checks_alike statement)
         (unless (first_cause (checks_on_cells schema (whole schema capacity db) unit statement)) (done_on_cells schema capacity db unit statement) (done_on_cells schema capacity eb unit statement) (done_alike statement)))
 
--- ALL THAT FOLLOW
+-- ALL LATER STATEMENTS
 
 module _ (schema : Lists) (capacity : ℕ) where
   -- the answer, and the state after it

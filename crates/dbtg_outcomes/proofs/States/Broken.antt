@@ -1,4 +1,4 @@
--- Orders that break a wish: from the groups of a layer to all its orders, and from these to what comes.
+-- Orders that break a wish: from the groups of a layer to all its orders, and from these to the statuses that come.
 -- m is a meeting, w a wish, o an order, x is a statement, n how many statements are made.
 use Rattle.std.proofs.Common.{◌≡◌, get_or, take, ⊎_elim, refl, sym, ◌∙◌, ap, subst, ℕ, ◌+◌, ◌-◌, ◌<◌, ◌≤◌, Bool, true, false, List, [], ◌∷◌, ◌++◌, length, map, Option, Some, None, arith, inl, inr, append_assoc, slice_get}
 use Rattle.std.specs.Prelude.{Contains, is_some, nat_le, nat_lt, option_and_then, unwrap_or}
@@ -46,7 +46,7 @@ module _ (m : Meeting) (w : Wish) where
       let codes : code ≡ b.code = there.code_is ∙ ap (λ (z : StatementEffect). status_code b.statement z.answer.status) one ∙ sym b.status.code_is in
       ap (breaks w) codes ∙ b.breaks_is
 
-  -- so the status that is found decides
+  -- so the status that is found decides whether the wish is broken
   pub broken_by : (o : List (ℕ × Statement)) (x : Statement) (code : ℕ) (broken : Bool) → next_of m.scripts o w.unit ≡ Some x → made w.unit o ≡ w.place - 1 → HasStatus m o w.unit x code → broken ≡ breaks w code → IsBroken m w o broken
   broken_by o x code true e p h is = record { statement = x; next_is = e; place_is = p; code = code; status = h; breaks_is = sym is }
   broken_by o x code false e p h is = λ b. let clash : false ≡ true = is ∙ same_code o x code e h b in absurd (cc)
@@ -85,7 +85,7 @@ module _ (m : Meeting) (w : Wish) where
       breaks_is = b.breaks_is;
     }
 
-    -- where no group of a layer breaks the wish, none of its orders does
+    -- if no group of a layer breaks the wish, none of its orders does
     layer_unbroken : (n : ℕ) (gs : List Group) → AreHeld m gs (layer m n) → IsBrokenIn m w gs None → (o : List (ℕ × Statement)) → Contains (orders_after m.first m.scripts n) o → Breaks m w o → ⊥
     layer_unbroken n gs held none o c b =
         let i = contains_in (orders_after m.first m.scripts n) o c in
@@ -103,7 +103,7 @@ module _ (m : Meeting) (w : Wish) where
 
     -- FROM AN ORDER TO WHAT COMES
 
-    -- a statement of the scripts that are not made first is not among those that are
+    -- a statement of the scripts that are not made first is not in the script that is made first
     not_first : (first : Bool) → w.unit ≤ length (others first m.scripts) → (x : Statement) → In (w.unit, x) (made_first first m.scripts) → ⊥
     not_first false low x i = absurd i
     not_first true low x i =
@@ -120,7 +120,7 @@ module _ (m : Meeting) (w : Wish) where
       pub is_broken : Breaks m w o
 
     module _ (free : w.unit ≤ length (others m.first m.scripts)) where
-      -- what comes and breaks the wish comes behind such an order
+      -- a status that comes and breaks the wish comes after such an order
       begun_of : (code : ℕ) (comes : Comes m w.unit (w.place - 1) code) → breaks w code ≡ true → IsBegun comes.before
       begun_of code comes broken =
           let front = made_first m.first m.scripts in
@@ -147,7 +147,7 @@ module _ (m : Meeting) (w : Wish) where
                 }
           ]
 
-      -- turns behind fewer statements break no wish that these do not break
+      -- if fewer statements do not break the wish, turns that break it are longer
       pub fewest : (n : ℕ) → IsUnbroken m w n → (turns : List ℕ) → BreaksBy m w turns → length (made_first m.first m.scripts) + n < length turns
       fewest n unbroken turns by =
           let front = made_first m.first m.scripts in
@@ -203,7 +203,7 @@ module _ (m : Meeting) (w : Wish) where
   pub hunt_begins : (hunt : Hunt) → hunt.broken ≡ None → IsAt m 0 hunt.search → Hunts m w 0 hunt
   hunt_begins hunt none at = subst (IsHunt m w 0 hunt) (sym none) (at, λ k low o c b. absurd (omega arith))
 
-  -- what is found stays
+  -- once turns are found they stay
   pub hunt_stays : (hunt : Hunt) (turns : List ℕ) → hunt.broken ≡ Some turns → HuntsOn m w 1 hunt hunt
   hunt_stays hunt turns some = record { hunts = λ n h. subst (IsHunt m w (n + 1) hunt) (sym some) (subst (IsHunt m w n hunt) some h); limit_is = refl }
 
@@ -236,7 +236,7 @@ module _ (m : Meeting) (w : Wish) where
       let all : 0 + count_statements scripts ≡ count_statements (others m.first m.scripts) = omega (arith, ap count_statements same) in
       subst (λ (k : ℕ). k < count_states m) is (subst (λ (n : ℕ). hunt.search.limit < states_within m n) all (over 0 h))
 
--- those that are not made first are no more than all
+-- there are no more scripts that are not made first than there are scripts
 pub others_few : (first : Bool) (scripts : List (List Statement)) → length (others first scripts) ≤ length scripts
 others_few false scripts = omega arith
 others_few true scripts = let few = length-take-le (length scripts - 1) scripts (omega arith) in omega arith
@@ -246,7 +246,7 @@ pub none_found : (broken : Option (List ℕ)) → is_some broken ≡ false → b
 none_found None e = refl
 none_found (Some turns) e = absurd (cc)
 
--- a statement that is there is one of a unit with a number, at a place of a script that is not made first
+-- the statement of the wish exists: it belongs to a numbered unit, and has a place in a script that is not made first
 pub there : (m : Meeting) (w : Wish) → is_there m w ≡ true → (0 < w.unit) × (0 < w.place) × (w.unit ≤ length (others m.first m.scripts))
 there m w is =
     let both = and_parts (nat_lt 0 w.unit) _ is in

@@ -1,4 +1,4 @@
--- A run of moves at whose end all scripts are at their end comes out as one of the results, and so does a history in which all are made.
+-- A run of moves that ends with all scripts at their end comes out as one of the results, and so does a history in which all are made.
 -- m is a meeting, es are entries, o is an order, u is a unit.
 use Rattle.std.proofs.Common.{◌≡◌, refl, sym, ◌∙◌, ap, subst, ℕ, suc, ◌+◌, true, false, List, [], ◌∷◌, ◌++◌, length, map, Option, Some, None, inl, inr, arith, append-nil, slice_get}
 use Rattle.std.specs.Prelude.{◌==◌, filter, flat_map, option_map, if◌then◌else◌}
@@ -35,7 +35,7 @@ use Rattle.dbtg_outcomes.proofs.States.States.{has_group}
 
 -- THE STATEMENTS OF A UNIT
 
--- those of its entries
+-- the statements of a unit are those of its entries
 own_is : (u : ℕ) (es : List Entry) → own u (statements_of es) ≡ map (λ (e : Entry). e.statement) (entries_of u es)
 own_is u [] = refl
 own_is u (e ∷ es) =

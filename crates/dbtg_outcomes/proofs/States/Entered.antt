@@ -20,7 +20,7 @@ use Rattle.dbtg_outcomes.proofs.Lists.Ranges.{next_range}
 abbrev note_at : ℕ → ℕ → ℕ → Note
 note_at u i code = record { unit = u; place = i; status = code }
 
--- a note of the statement brings its status
+-- a note of the statement adds its status
 pub takes_own : (u i : ℕ) (note : Note) (old new : List ℕ) → (eqb note.unit u && eqb note.place i) ≡ true → IsEntered old note.status new → TakesNote u i note old new
 takes_own u i note old new of e =
     let tests = and_parts (eqb note.unit u) (eqb note.place i) of in
@@ -43,7 +43,7 @@ takes_own u i note old new of e =
       };
     }
 
--- any other does not
+-- any other note adds nothing
 pub takes_other : (u i : ℕ) (note : Note) (statuses : List ℕ) → (eqb note.unit u && eqb note.place i) ≡ false → TakesNote u i note statuses statuses
 takes_other u i note statuses other =
     let apart : (code : ℕ) → note ≡ note_at u i code → ⊥ = λ code same.
@@ -62,7 +62,7 @@ takes_other u i note statuses other =
 pub none_noted : (u i : ℕ) → AreOfNotes [] u i []
 none_noted u i = record { rising = tt; noted = λ code c. absurd (contains_in [] code c); all = λ code c. absurd (contains_in [] (note_at u i code) c) }
 
--- the next of the notes
+-- the next note
 pub next_noted : (notes : List Note) (k : ℕ) (d : Note) (u i : ℕ) (old new : List ℕ) → k < length notes → AreOfNotes (take k notes) u i old → TakesNote u i (get_or notes k d) old new → AreOfNotes (take (k + 1) notes) u i new
 next_noted notes k d u i old new low h t = subst (λ (ns : List Note). AreOfNotes ns u i new) (sym (take_more notes k d low)) (t.taken (take k notes) h)
 

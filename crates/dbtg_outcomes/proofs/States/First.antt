@@ -24,13 +24,13 @@ use Rattle.dbtg_outcomes.proofs.States.Histories.{made_is}
 use Rattle.dbtg_outcomes.proofs.States.Noted.{none_noted_of, noted_of_more}
 use Rattle.dbtg_outcomes.proofs.States.Runs.{made_more, status_of}
 
--- where there is a statement to be made first, there is a unit
+-- if there is a statement to be made first, there is a unit
 pub first_has_unit : (first : Bool) (scripts : List (List Statement)) (i : ℕ) → i < length (first_script first scripts) → 0 < length scripts
 first_has_unit false scripts i low = absurd (omega arith)
 first_has_unit true [] i low = absurd (omega arith)
 first_has_unit true (s ∷ scripts) i low = omega arith
 
--- they fit
+-- the statements that are made first fit
 pub first_fits : (p : Statement → Bool) (first : Bool) (scripts : List (List Statement)) → list_all (list_all p) scripts ≡ true → list_all p (first_script first scripts) ≡ true
 first_fits p false scripts h = refl
 first_fits p true [] h = refl

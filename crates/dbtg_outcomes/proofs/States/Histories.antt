@@ -1,4 +1,4 @@
--- Histories of the sequential database, beside the orders of their statements.
+-- Histories of the sequential database, and the orders of their statements.
 -- es are entries, u is a unit, n is how many units there are.
 use Rattle.std.proofs.Common.{◌≡◌, refl, sym, ◌∙◌, ap, subst, ℕ, zero, suc, ◌+◌, ◌-◌, ◌<◌, ◌≤◌, true, false, List, [], ◌∷◌, ◌++◌, length, map, Option, Some, None, arith, slice_get}
 use Rattle.std.specs.Prelude.{◌==◌, filter, option_map, option_to_list, if◌then◌else◌}
@@ -63,7 +63,7 @@ module _ (schema : Lists) (capacity : ℕ) where
       let high = rest.1 in
       (rest.0, omega arith)
 
--- an entry of a history is of one of its units, and its statement fits
+-- an entry of a history belongs to one of its units, and its statement fits
 pub record IsEntryOf (schema : Lists) (n : ℕ) (e : Entry) : Type 0 where
   pub numbered : 0 < e.unit
   pub within : e.unit ≤ n

@@ -23,7 +23,7 @@ counted_low n h = rw (lt-ltb n (2 ^ 64) h) refl
 counted_high : (n : ℕ) → 2 ^ 64 ≤ n → counted n ≡ None
 counted_high n h = rw (le-ltb n (2 ^ 64) h) refl
 
--- the numbers of two groups together
+-- the sum of the numbers of two groups
 pub sum_counted : (a b : Option ℕ) (d c : ℕ) → a ≡ counted d → b ≡ counted c → sum_of a b ≡ counted (d + c)
 sum_counted a b d c e f =
     (λ i. sum_of (e i) (f i)) ∙ by (cases_lt d (2 ^ 64)) (cases_lt c (2 ^ 64)) where
@@ -46,7 +46,7 @@ module _ (m : Meeting) where
     stand_alone (g ∷ gs) [] s = absurd s
     stand_alone (g ∷ gs) (w ∷ ws) s = (s.0.1, stand_alone gs ws s.1)
 
-    -- a group of a new key goes behind the others
+    -- a group with a new key comes after the others
     behind : (gs : List (List ℕ × Group)) (ws : List (List (ℕ × Statement) × ℕ)) (k : List ℕ) (g : Group) (q : List (ℕ × Statement)) (c : ℕ) → Stand m key gs ws → k ≡ key q → IsHeld m g (q, c) → among (keys_of gs) k ≡ false → Stand m key (gs ++ (k, g) ∷ []) (enter key ws q c)
     behind [] [] k g q c s e h a = ((e, h), tt)
     behind [] (w ∷ ws) k g q c s e h a = absurd s
@@ -92,7 +92,7 @@ module _ (m : Meeting) where
           | inr n ↦ rw n (s.0, joined gs ws i k known g q c a.1 s.1 e h at)
         ]
 
-    -- where a group is added, its order enters
+    -- when a group is added, its order is added
     pub entered : (old new : List (List ℕ × Group)) (ws : List (List (ℕ × Statement) × ℕ)) (k : List ℕ) (g : Group) (q : List (ℕ × Statement)) (c : ℕ) → Apart key ws → Stand m key old ws → k ≡ key q → IsHeld m g (q, c) → IsAdded old k g new → Stand m key new (enter key ws q c)
     entered old new ws k g q c a s e h (inl b) = subst (λ (l : List (List ℕ × Group)). Stand m key l (enter key ws q c)) (sym b.1) (behind old ws k g q c s e h b.0)
     entered old new ws k g q c a s e h (inr b) =

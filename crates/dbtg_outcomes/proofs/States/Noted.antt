@@ -1,4 +1,4 @@
--- What is noted of statuses, step by step.
+-- The notes of statuses, step by step.
 -- m is a meeting, o is an order, u is a unit, x is a statement, ps are orders with units.
 use Rattle.std.proofs.Common.{◌≡◌, refl, sym, ◌∙◌, ap, subst, ℕ, ◌+◌, List, [], ◌∷◌, ◌++◌, Some, None, inl, inr, ◌⊎◌, ⊎_elim, append_assoc}
 use Rattle.std.specs.Prelude.{Contains}
@@ -37,7 +37,7 @@ no_middle : {X : Type 0} (before rest : List X) (x : X) → [] ≡ before ++ x �
 no_middle [] rest x e = cc
 no_middle (b ∷ before) rest x e = cc
 
--- what stands in a list with one more is the last, or was there
+-- an element of a list with one more is the new one, or was there before
 last_or_before : {X : Type 0} (xs before rest : List X) (last x : X) → xs ++ last ∷ [] ≡ before ++ x ∷ rest → ((xs ≡ before) × (last ≡ x)) ⊎ ((q : List X) × (xs ≡ before ++ x ∷ q))
 last_or_before [] [] rest last x e = let same : last ≡ x = cc in inl (refl, same)
 last_or_before [] (b ∷ before) rest last x e = let none : [] ≡ before ++ x ∷ rest = cc in absurd (no_middle before rest x none)
@@ -56,7 +56,7 @@ module _ (m : Meeting) where
   pub none_noted_of : AreNotedOf m [] []
   none_noted_of = record { all = λ before s rest e. absurd (no_middle before rest s e); only = λ note c. absurd (contains_in [] note c) }
 
-  -- and one more
+  -- the same with one more statement
   pub noted_of_more : (o : List (ℕ × Statement)) (u : ℕ) (x : Statement) (note : Note) (old new : List Note) → IsNote m o u x note → HasNoted old note new → AreNotedOf m o old → AreNotedOf m (o ++ (u, x) ∷ []) new
   noted_of_more o u x note old new is h noted = record {
     all = λ before s rest e.

@@ -1,4 +1,4 @@
--- The groups of the same result, and all outcomes as they are given out.
+-- The groups of the same result, and all outcomes as they are returned.
 -- m is a meeting, g a group, w an order with a weight.
 use Rattle.std.proofs.Common.{◌≡◌, refl, sym, ◌∙◌, ap, subst, ℕ, ◌+◌, ◌-◌, ◌<◌, List, [], ◌∷◌, ◌++◌, length, get_or, take, map, Option, Some, arith}
 use Rattle.std.proofs.lemmas.List.{take_more}
@@ -53,7 +53,7 @@ module _ (m : Meeting) where
   pub holds_nothing : HoldAll m [] []
   holds_nothing = record { holds = hold_nothing }
 
-  -- the next of the last layer's groups
+  -- the next group of the last layer
   pub holds_next : (last : List Group) (i : ℕ) (g : Group) (old new : List (List ℕ × Group)) → i < length last → g ≡ get_or last i g → HoldAll m (take i last) old → Joins m g old new → HoldAll m (take (i + 1) last) new
   holds_next last i g old new low is h joins =
       let next : take i last ++ g ∷ [] ≡ take (i + 1) last = ap (λ (f : Group). take i last ++ f ∷ []) is ∙ sym (take_more last i g low) in
@@ -70,7 +70,7 @@ module _ (m : Meeting) where
         (stand_alone m (result_text m) results (gathered (result_text m) [] ws) (h.holds ws held));
   }
 
-  -- AS THEY ARE GIVEN OUT
+  -- AS THEY ARE RETURNED
 
   pub units_alone : (es : List Entry) → map (λ (e : Entry). e.unit) es ≡ map (λ (s : ℕ × Statement). s.0) (statements_of es)
   units_alone [] = refl
@@ -93,7 +93,7 @@ module _ (m : Meeting) where
       let both : k + w.1 + total ws ≡ k + (w.1 + total ws) = omega arith in
       orders_given gs ws (sum_of n g.orders) (k + w.1) h.1 (sum_counted n g.orders k w.1 e h.0.orders_are) ∙ ap counted both
 
-  -- of a search that has made all statements
+  -- the outcomes of a search that has made all statements
   pub are_outcomes : IsMeeting m → (s : Search) (seen last : List Group) (notes : List Note) (all : given.Outcomes) → IsAt m (count_statements (others m.first m.scripts)) s → seen ≡ s.layer.items → notes ≡ s.notes.items → AreByResult m seen last → all.orders ≡ all_orders (Some 0) last → all.results.items ≡ map one_result last → AreAllAnswered notes m.scripts all.answered.items → AreOutcomes m all
   are_outcomes meets s seen last notes all at same noted by number results answers =
       let of : gathered (result_text m) [] (layer m (count_statements (others m.first m.scripts))) ≡ groups (result_text m) (orders m.first m.scripts) = gathered_is (result_text m) (layer m (count_statements (others m.first m.scripts))) ∙ layer_last m meets.sound meets.fit (count_statements (others m.first m.scripts)) in

@@ -1,4 +1,4 @@
--- What comes of statements that are made whole, as the run of an order.
+-- The result of statements that are made whole, as the run of an order.
 -- m is a meeting, o is an order, u is a unit, x is a statement.
 use Rattle.std.proofs.Common.{◌≡◌, refl, sym, ◌∙◌, ap, subst, ℕ, ◌+◌, List, [], ◌∷◌, ◌++◌, length, get_or, append_assoc}
 use Rattle.std.proofs.Math.Seq.{get_or-append_seam}
@@ -16,7 +16,7 @@ use Rattle.dbtg_outcomes.specs.Outcomes.{HasStatus}
 use Rattle.dbtg_outcomes.specs.Inside.Outcomes.{IsMaking, IsRunOf}
 use Rattle.dbtg_outcomes.specs.Results.{Meeting, state_of}
 
--- four lists behind one another
+-- four lists, one after another
 pub four_behind : {X : Type 0} (k a b c d l1 l2 l3 l4 : List X) → k ≡ [] → l1 ≡ k ++ a → l2 ≡ l1 ++ b → l3 ≡ l2 ++ c → l4 ≡ l3 ++ d → l4 ≡ a ++ (b ++ (c ++ d))
 four_behind k a b c d l1 l2 l3 l4 z e f g h = h ∙ ap (λ l. l ++ d) (g ∙ ap (λ l. l ++ c) (f ∙ ap (λ l. l ++ b) (e ∙ ap (λ l. l ++ a) z))) ∙ simp append_assoc
 

@@ -1,5 +1,5 @@
--- Two legal states of a schema with the same units, whose images are the same in the order of units, are one but for the order in which
--- units opened an area.
+-- If two legal states of a schema with the same units have the same image in the order of units, they differ at most in the order in
+-- which units opened an area.
 -- k is a key, s a set, o an owner, t a record type, n a number, a an area, u and v units; db and eb are the databases.
 use Rattle.std.proofs.Common.{◌≡◌, append-nil, refl, sym, ◌∙◌, ap, subst, ◌&&◌, ℕ, zero, suc, ◌+◌, ◌<◌, ◌≤◌, Bool, true, false, List, [], ◌∷◌, ◌++◌, length, Option, Some, None, inl, inr, ⊎_elim, ◌⊎◌, arith, map, slice_get}
 use Rattle.std.specs.Prelude.{◌==◌, flat_map, is_some, nat_le, nat_lt, option_map, option_and_then, unwrap_or}
@@ -26,13 +26,13 @@ use Rattle.dbtg_unit.proofs.Public.{In, all_are_live, all_at, in_range, live_in_
 use Rattle.dbtg_outcomes.specs.Alike.{unordered, uses_of}
 use Rattle.dbtg_outcomes.specs.Results.{by_unit, in_unit_order}
 
--- LISTS OF WHAT EACH HAS
+-- LISTS WITH WHAT IS SAID OF EACH ELEMENT
 
--- each with what is said of it
+-- each element with what is said of it
 abbrev paired : {X Y : Type 0} → (X → Y) → List X → List (X × Y)
 paired {X} {Y} f xs = map {B = X × Y} (λ x. (x, f x)) xs
 
--- where two lists name the same things and say the same of each
+-- if two lists have the same elements and say the same of each, the same is said of one
 pub map_same : {X Y : Type 0} (f g : X → Y) (xs : List X) (x : X) → map f xs ≡ map g xs → In x xs → f x ≡ g x
 map_same f g [] x e i = absurd i
 map_same {X} {Y} f g (z ∷ xs) x e i =
@@ -109,7 +109,7 @@ module _ (es : List (ℕ × Mode)) where
       filter-append (λ (e : ℕ × Mode). e.0 == u) (uses_of k es) (by_unit (range_with_len (k + 1) n) es)
       ∙ (λ i. other_uses u k es (λ e. omega (arith, low, e)) i ++ uses_below n (k + 1) u (omega (arith, low)) i)
 
-  -- each unit in the range has what it had
+  -- each unit in the range has the area open as before
   uses_within : (n k u : ℕ) → k ≤ u → u < k + n → uses_of u (by_unit (range_with_len k n) es) ≡ uses_of u es
   uses_within zero k u low high = absurd (omega (arith, low, high))
   uses_within (suc n) k u low high =
@@ -122,7 +122,7 @@ module _ (es : List (ℕ × Mode)) where
             ∙ (λ i. own_uses u es i ++ uses_below n (k + 1) u (omega (arith, is)) i)
             ∙ append-nil (uses_of u es)
 
-  -- no other has one
+  -- no other unit has the area open
   uses_beyond : (n u : ℕ) → list_all (λ e. nat_lt 0 e.0 && nat_le e.0 n) es ≡ true → (u ≡ 0) ⊎ (n < u) → uses_of u es ≡ []
   uses_beyond n u all out = none_pass (λ e. e.0 == u) es (λ e i. apart e (all_at (λ e. nat_lt 0 e.0 && nat_le e.0 n) e es all i)) where
     apart : (e : ℕ × Mode) → (nat_lt 0 e.0 && nat_le e.0 n) ≡ true → (e.0 == u) ≡ false
@@ -249,7 +249,7 @@ same_unordered schema capacity n one other lo lp count count' same units =
       units = units i;
     }
 
--- and they have the same image in the order of units
+-- such states also have the same image in the order of units
 module _ (schema : Lists) (capacity : ℕ) (units : List ℕ) where
   abbrev areas : List ℕ
   areas = range_with_len 0 (length schema.areas)

@@ -1,4 +1,4 @@
--- Orders that lead to the same state go on alike: to the same states, and to the same result.
+-- Orders that lead to the same state continue alike: to the same states, and to the same result.
 -- m is a meeting, o and p are orders, u is a unit, s a statement with its unit.
 use Rattle.std.proofs.Common.{◌≡◌, refl, sym, ◌∙◌, ap, ℕ, ◌+◌, Bool, true, false, List, [], ◌∷◌, ◌++◌, length, Option, Some, None, inl, inr, map, append_assoc, append-nil}
 use Rattle.std.specs.Prelude.{◌==◌, flat_map, option_and_then, option_map, option_to_list, slice_get, if◌then◌else◌}
@@ -27,7 +27,7 @@ use Rattle.dbtg_outcomes.proofs.States.Runs.{units_after_order}
 use Rattle.dbtg_outcomes.proofs.States.SameImages.{image_alike, map_same, same_unordered}
 use Rattle.dbtg_outcomes.proofs.Orders.Begun.{made_more}
 
--- ONE STATEMENT MORE
+-- ONE MORE STATEMENT
 
 module _ (m : Meeting) where
   state_more : (state : State) (o : List (ℕ × Statement)) (s : ℕ × Statement) → state_after m.schema m.capacity state (o ++ s ∷ []) ≡ state_after m.schema m.capacity (state_after m.schema m.capacity state o) (s ∷ [])
@@ -50,7 +50,7 @@ module _ (m : Meeting) where
 
   -- THE SAME STATE
 
-  -- what comes after an order depends on this alone
+  -- what comes after an order depends only on this
   pub record SameState (o p : List (ℕ × Statement)) : Type 0 where
     pub made_same : (u : ℕ) → In u (units_of m) → made u o ≡ made u p
     pub state_same : unordered (state_of m o) ≡ unordered (state_of m p)

@@ -107,7 +107,7 @@ module _ (m : Meeting) where
       let order : In (o ++ (u, x) ∷ whole.rest) (orders m.first m.scripts) = subst (λ (l : List (ℕ × Statement)). In l (orders m.first m.scripts)) (append_assoc o ((u, x) ∷ []) whole.rest) is in
       (whole.rest, in_contains (orders m.first m.scripts) (o ++ (u, x) ∷ whole.rest) order)
 
-  -- what is noted of an order that is begun comes
+  -- what is noted of an order that is begun is a status that comes
   pub noted_comes : (n : ℕ) (o : List (ℕ × Statement)) (u : ℕ) (x : Statement) (note : Note) → In o (orders_after m.first m.scripts n) → In u (units_of m) → next_of m.scripts o u ≡ Some x → IsNote m o u x note → Comes m note.unit note.place note.status
   noted_comes n o u x note i j e h =
       let whole = next_completes n o u x i j e in
@@ -133,7 +133,7 @@ module _ (m : Meeting) where
   unfolding completed
   first_held es e h = (record { order_is = e; history_of = h; orders_are = ap counted (sym (first_weight (state_key m (made_first m.first m.scripts)) (made_first m.first m.scripts))) }, tt)
 
-  -- what is noted of the script that is made first comes
+  -- what is noted of the script that is made first is a status that comes
   first_comes : (note : Note) → IsNoteIn m (made_first m.first m.scripts) note → Comes m note.unit note.place note.status
   first_comes note h =
       let front = made_first m.first m.scripts in
@@ -160,9 +160,9 @@ module _ (m : Meeting) where
     only = λ note c. first_comes note (noted.only note c);
   }
 
-  -- ONE STATEMENT MORE
+  -- ONE MORE STATEMENT
 
-  -- what a search becomes by one statement more
+  -- a search with one more statement
   pub record IsNextSearch (old new : given.Search) (next : List (List ℕ × Group)) : Type 0 where
     pub all : ExtendsAll m old.layer.items next old.notes.items new.notes.items
     pub few : length next ≤ old.limit - old.states
@@ -174,7 +174,7 @@ module _ (m : Meeting) where
     pub gathers : gathered (state_key m) [] (next_orders m (layer m n)) ≡ layer m (suc n)
     gathers = gathered_is (state_key m) _ ∙ layer_next m meets.sound meets.fit n
 
-    -- more states than there may be
+    -- there are more states than the limit
     pub over_next : LeadToMore m old.layer.items (old.limit - old.states) → old.limit < states_within m (n + 1)
     over_next more =
         let many : old.limit - old.states < length (layer m (suc n)) = subst (λ (ws : List (List (ℕ × Statement) × ℕ)). old.limit - old.states < length ws) gathers (more (layer m n) at.held) in
@@ -230,7 +230,7 @@ module _ (m : Meeting) where
       let rest = states_grow k n in
       omega arith
 
-  -- by one statement more, where memory does
+  -- the search goes on by one statement if there is memory
   pub advances_one : IsMeeting m → (old new : given.Search) (seen : List Group) (next : List (List ℕ × Group)) (count : ℕ) → seen ≡ old.layer.items → ExtendsAll m seen next old.notes.items new.notes.items → length next ≤ old.limit - old.states → count ≡ length next → new.layer.items ≡ map (λ g. g.1) next → new.states ≡ old.states + count → new.limit ≡ old.limit → Advances m 1 old new
   advances_one meets old new seen next count same all few long layer_is states_are limit_is = record {
     at = λ n at.
@@ -246,7 +246,7 @@ module _ (m : Meeting) where
     limit_is = limit_is;
   }
 
-  -- or the limit does not allow it
+  -- or the limit does not allow that
   pub over_one : IsMeeting m → (old : given.Search) (seen : List Group) → seen ≡ old.layer.items → LeadToMore m seen (old.limit - old.states) → IsOver m 1 old
   over_one meets old seen same more = λ n at. over_next meets n old at (λ ws held. more ws (subst (λ (gs : List Group). AreHeld m gs ws) (sym same) held))
 
@@ -264,7 +264,7 @@ module _ (m : Meeting) where
   pub under_way : (k : ℕ) (a b : given.Search) → Advances m k a b → IsUnderWay m a → IsUnderWay m b
   under_way k a b h g = record { made = g.made + k; at = h.at g.made g.at }
 
-  -- whatever is over goes no further
+  -- a search that is over goes no further
   pub over_later : (j k l : ℕ) (a b : given.Search) → j + k ≤ l → Advances m j a b → IsOver m k b → IsOver m l a
   over_later j k l a b most h over = λ n at.
       let here : b.limit < states_within m (n + j + k) = over (n + j) (h.at n at) in
@@ -291,7 +291,7 @@ module _ (m : Meeting) where
   held_histories (g ∷ gs) [] h = absurd h
   held_histories (g ∷ gs) (w ∷ ws) h = (h.0.history_of, held_histories gs ws h.1)
 
-  -- the statuses that are noted at the end are just those that come
+  -- the statuses that are noted at the end are exactly those that come
   pub all_statuses : (s : given.Search) → IsAt m (count_statements (others m.first m.scripts)) s → (a : Answered) → AreOfNotes s.notes.items a.unit (a.place - 1) a.statuses.items → AreStatuses m a
   all_statuses s at a h = record {
     rising = h.rising;
@@ -300,7 +300,7 @@ module _ (m : Meeting) where
         let has = has_note comes in
         h.all code (subst (λ (k : Note). Contains s.notes.items k) (is_note comes has) has.noted);
   } where
-    -- a statement that comes is among those that are made first, or behind them
+    -- a statement that comes is in the script that is made first, or after it
     has_note : {code : ℕ} (comes : Comes m a.unit (a.place - 1) code) → HasNote m s.notes.items comes.before a.unit comes.statement
     has_note {code} comes =
         let front = made_first m.first m.scripts in

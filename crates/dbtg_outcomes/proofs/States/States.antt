@@ -48,7 +48,7 @@ module _ {A : Type 0} (key : A → List ℕ) where
         | inr g ↦ ⊎_elim (λ e. inl e) (λ j. inr (first_of (key x ∷ before) xs y j)) (rw g at i)
       ]
 
-  -- each has one of its key among the firsts, where none was before
+  -- an element with the same key is among the first ones, if there was none before
   abbrev Has : List (List ℕ) → List A → A → Type 0
   Has before xs x = (among before (key x) ≡ true) ⊎ ((y : A) × In y (firsts key before xs) × (key y ≡ key x))
 
@@ -112,7 +112,7 @@ module _ (m : Meeting) where
         ∙ list_all-append (λ (s : ℕ × Statement). fits m.schema s.1) at.0 (last.0 ∷ [])
         ∙ and_from _ _ before one
 
-    -- so do all that are behind the script that is made first
+    -- the statements after the script that is made first fit too
     orders_fit : (n : ℕ) (o : List (ℕ × Statement)) → In o (orders_after m.first m.scripts n) → list_all (λ (s : ℕ × Statement). fits m.schema s.1) o ≡ true
     orders_fit n o i =
         let front = made_first m.first m.scripts in

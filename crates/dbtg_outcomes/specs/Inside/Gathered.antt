@@ -1,4 +1,4 @@
--- Elements with weights, gathered one after another into groups: those of one group have the same key.
+-- Elements with weights, gathered one after another into groups: the elements of a group have the same key.
 -- key is what tells groups apart; ws are elements with weights, q is an element, c its weight.
 use Rattle.std.specs.Prelude.{ℕ, ◌+◌, List, [], ◌∷◌, map, if◌then◌else◌}
 use Rattle.std.specs.Str.{bytes_eq}

@@ -1,4 +1,4 @@
--- Groups as they are given out.
+-- Groups as they are returned.
 use Rattle.std.specs.Prelude.{ℕ, List, [], ◌∷◌, Option, map}
 use Rattle.dbtg_outcomes.specs.declared.groups.Group.{Group}
 use Rattle.dbtg_outcomes.specs.declared.outcomes.OneResult.{OneResult}

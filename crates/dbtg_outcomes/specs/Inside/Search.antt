@@ -31,7 +31,7 @@ OrderAndUnit = MadeOrder × ℕ
 
 -- GROUPS
 
--- each state to which n statements lead, behind the script that is made first: the first order that leads to it, and how many do
+-- each state that n statements lead to after the script that is made first: its first order, and how many orders lead to it
 abbrev pub layer : Meeting → ℕ → List CountedOrder
 layer m n = groups (state_key m) (orders_after m.first m.scripts n)
 
@@ -105,7 +105,7 @@ pub record AreNotedOf (m : Meeting) (order : MadeOrder) (notes : List Note) : Ty
 
 -- THE SEARCH
 
--- the search has made n statements behind the script that is made first. It holds the states to which they lead, has counted all states
+-- the search has made n statements after the script that is made first. It holds the states to which they lead, has counted all states
 -- so far, and has noted the status of every statement so far
 pub record IsAt (m : Meeting) (n : ℕ) (s : given.Search) : Type 0 where
   pub held : AreHeld m s.layer.items (layer m n)

@@ -24,7 +24,7 @@ pub record AreOfNotes (notes : List Note) (u i : ℕ) (statuses : List ℕ) : Ty
   pub noted : (code : ℕ) → Contains statuses code → Contains notes (record { unit = u; place = i; status = code })
   pub all : (code : ℕ) → Contains notes (record { unit = u; place = i; status = code }) → Contains statuses code
 
--- these are the statuses that were noted of a statement, and with one note more those are
+-- with one more note, the old statuses of a statement become the new ones
 pub record TakesNote (u i : ℕ) (note : Note) (old new : List ℕ) : Type 0 where
   pub taken : (notes : List Note) → AreOfNotes notes u i old → AreOfNotes (notes ++ note ∷ []) u i new
 

@@ -21,12 +21,12 @@ pub record Breaks (m : Meeting) (w : Wish) (o : List (ℕ × Statement)) : Type 
   pub status : HasStatus m o w.unit statement code
   pub breaks_is : breaks w code ≡ true
 
--- it does, or not
+-- whether it does
 abbrev pub IsBroken : Meeting → Wish → List (ℕ × Statement) → Bool → Type 0
 IsBroken m w o true = Breaks m w o
 IsBroken m w o false = Breaks m w o → ⊥
 
--- the turns of the order of a group after which it does, with that of the wish; none if there is no such group
+-- the turns of the order of a group after which it does, and then the turn of the wish; none if there is no such group
 abbrev pub IsBrokenIn : Meeting → Wish → List Group → Option (List ℕ) → Type 0
 IsBrokenIn m w gs None = (g : Group) → Contains gs g → Breaks m w (statements_of g.history) → ⊥
 IsBrokenIn m w gs (Some turns) =
@@ -54,6 +54,6 @@ pub record HuntsOn (m : Meeting) (w : Wish) (k : ℕ) (old new : Hunt) : Type 0 
   pub hunts : (n : ℕ) → Hunts m w n old → Hunts m w (n + k) new
   pub limit_is : new.search.limit ≡ old.search.limit
 
--- with k statements more, it would come to more states than its limit
+-- k more statements would lead to more states than its limit
 abbrev pub IsHuntOver : Meeting → Wish → ℕ → Hunt → Type 0
 IsHuntOver m w k hunt = (n : ℕ) → Hunts m w n hunt → hunt.search.limit < states_within m (n + k)

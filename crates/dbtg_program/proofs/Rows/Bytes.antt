@@ -18,12 +18,12 @@ tab_in_a_note : refusal card (42 ∷ 9 ∷ []) ≡ Some (record { line = 1; caus
 unfolding lines tokens onto into digits
 tab_in_a_note = refl
 
--- a text that is not closed is fault 3, before its first word is 2
+-- a text that is not closed is fault 3, which comes before the 2 of its first word
 unclosed : refusal card (34 ∷ []) ≡ Some (record { line = 1; cause = AsInScript UnexpectedWord })
 unfolding lines tokens onto into digits
 unclosed = refl
 
--- a note, and a line with one word after it
+-- a note, and after it a line with one word
 second_line : refusal card (42 ∷ 10 ∷ 88 ∷ []) ≡ Some (record { line = 2; cause = AsInScript NoStatementWord })
 unfolding lines tokens onto into digits
 second_line = refl
@@ -33,7 +33,7 @@ paragraph : refusal card (42 ∷ 10 ∷ 88 ∷ 46 ∷ []) ≡ None
 unfolding lines tokens onto into digits
 paragraph = refl
 
--- the paragraph's carriage return goes first
+-- the carriage return after a paragraph is dropped first
 paragraph_and_return : refusal card (88 ∷ 46 ∷ 13 ∷ 10 ∷ []) ≡ None
 unfolding lines tokens onto into digits
 paragraph_and_return = refl

@@ -14,7 +14,7 @@ use Rattle.dbtg_program.proofs.Rows.Words.{at_end, of_lines, played}
 
 -- the fields of CARD are CNO, 9(4), and CNAME, X(8)
 
--- what is less than 0 ends the program, and changes nothing
+-- a result below 0 ends the program, and changes nothing
 below_zero : played card (of_lines card ("01 N PIC 9(2)" ∷ "MOVE 07 TO N" ∷ "SUBTRACT 7 FROM N" ∷ "SUBTRACT 1 FROM N" ∷ "STOP" ∷ [])) []
     ≡ record { statements = []; values = Num 0 ∷ text "" ∷ Num 0 ∷ []; end = Some (Size 4) }
 unfolding within verdict onto into digits
@@ -26,7 +26,7 @@ above_the_greatest : played card (of_lines card ("01 N PIC 99" ∷ "MOVE 98 TO N
 unfolding within verdict onto into digits
 above_the_greatest = refl
 
--- a text that is longer than its field; spaces at its end don't count
+-- a text longer than its field; spaces at its end don't count
 too_long_a_text : played card (of_lines card ("01 T PIC X(9)" ∷ "MOVE \"ABCDEFGH \" TO T" ∷ "MOVE T TO CUSTOMER.CNAME" ∷ "MOVE \"ABCDEFGHI\" TO T" ∷ "MOVE T TO CUSTOMER.CNAME" ∷ [])) []
     ≡ record { statements = []; values = Num 0 ∷ text "ABCDEFGH" ∷ text "ABCDEFGHI" ∷ []; end = Some (Size 5) }
 unfolding within verdict onto into digits
@@ -63,7 +63,7 @@ paragraph_at_the_end : played card (of_lines card ("GO TO LAST-LINE" ∷ "ASSERT
 unfolding within verdict onto into digits
 paragraph_at_the_end = refl
 
--- round and round: 100,000 sentences are over at the last of them
+-- a loop: at the last of 100,000 sentences the program is astray
 abbrev pub circle : Program
 circle = of_lines card ("HERE." ∷ "GO TO HERE" ∷ [])
 

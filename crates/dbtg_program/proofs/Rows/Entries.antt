@@ -1,4 +1,4 @@
--- Which entries are of a program, and the state after them.
+-- Which entries belong to a program, and the state after them.
 use Rattle.std.proofs.Common.{◌≡◌, refl, ℕ, [], ◌∷◌, None, false}
 use Rattle.std.specs.Fmt.{digits}
 use Rattle.dbtg_unit.specs.declared.statement.Statement.{Statement}
@@ -14,7 +14,7 @@ use Rattle.dbtg_program.specs.States.{beginning}
 use Rattle.dbtg_program.specs.Going.{AreOf, state_after, within}
 use Rattle.dbtg_program.proofs.Rows.Words.{done, no, of_lines}
 
--- it keeps what it got, and frees all where there is nothing
+-- it keeps what it got, and frees everything if there is nothing
 abbrev pub keeper : Program
 keeper = of_lines card ("GET" ∷ "IF STATUS = 0413 GO TO NOTHING" ∷ "KEEP" ∷ "STOP" ∷ "NOTHING." ∷ "FREE" ∷ [])
 
@@ -30,7 +30,7 @@ not_kept : AreOf card keeper (entry 0 (Get None) (no NoCurrentOfRunUnit) ∷ ent
 unfolding within verdict onto into digits
 not_kept h = let e : Free false ≡ Keep = h.1.0 in absurd cc
 
--- after a GET that was done it keeps, and makes nothing after its STOP
+-- after a GET that was done it keeps, and makes nothing after STOP
 kept : AreOf card keeper (entry 0 (Get None) done ∷ entry 1 Keep done ∷ [])
 unfolding within verdict onto into digits
 kept = (refl, (refl, tt))

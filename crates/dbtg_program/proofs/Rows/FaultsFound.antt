@@ -9,7 +9,7 @@ use Rattle.dbtg_program.specs.Faults.{cause_number, sentence_faults}
 use Rattle.dbtg_program.specs.Sentences.{Holding, Text}
 use Rattle.dbtg_program.proofs.Rows.Words.{lines_at_once}
 
--- the line and the number of each fault of sentences, the first with this number
+-- the line and the number of each fault of these sentences, the first of which has this number
 abbrev pub faults_in : Text → ℕ → List Holding → List (ℕ × ℕ)
 faults_in text at [] = []
 faults_in text at (l ∷ ls) = map (λ c. (l.number, cause_number c)) (sentence_faults text at l) ++ faults_in text (at + 1) ls
@@ -22,7 +22,7 @@ none : fault_of ("01 N PIC 9(4)" ∷ "AGAIN." ∷ "IF N = 3 GO TO OUT" ∷ "STOR
 unfolding onto into digits
 none = refl
 
--- words of the language are no paragraphs; a name without a period is none
+-- words of the language are not paragraphs, and neither is a name without a period
 keep_is_a_statement : fault_of ("KEEP." ∷ "GO TO KEEP" ∷ []) ≡ Some (2, 21)
 unfolding onto into digits
 keep_is_a_statement = refl
@@ -60,7 +60,7 @@ less_than_zero : fault_of ("MOVE -5 TO CUSTOMER.CNO" ∷ []) ≡ Some (1, 3)
 unfolding onto into digits
 less_than_zero = refl
 
--- 10: a literal for which the field has no room, or no field could have
+-- 10: a literal that the field has no room for, or that no field could have
 no_room : fault_of ("MOVE 10000 TO CUSTOMER.CNO" ∷ []) ≡ Some (1, 10)
 unfolding onto into digits
 no_room = refl
@@ -86,7 +86,7 @@ fraction : fault_of ("MOVE 1.5 TO CUSTOMER.CNO" ∷ []) ≡ Some (1, 23)
 unfolding onto into digits
 fraction = refl
 
--- a field word is judged before the words before it
+-- a field word is judged before the words that precede it
 unknown_field_word : fault_of ("STORE CUSTOMR CNO = N" ∷ []) ≡ Some (1, 23)
 unfolding onto into digits
 unknown_field_word = refl
@@ -107,7 +107,7 @@ paragraph_and_counter : fault_of ("01 N PIC 9" ∷ "N." ∷ []) ≡ None
 unfolding onto into digits
 paragraph_and_counter = refl
 
--- 25: at the second of two; a text that is added at its own word, which is before the other's 23
+-- 25 comes at the second of two; a text that is added has it at its own word, before the 23 of the other
 moved_kind : fault_of ("MOVE 1 TO CUSTOMER.CNAME" ∷ []) ≡ Some (1, 25)
 unfolding onto into digits
 moved_kind = refl
@@ -134,7 +134,7 @@ counter_behind : fault_of ("GET" ∷ "01 STATUS PIC 9" ∷ []) ≡ Some (2, 26)
 unfolding onto into digits
 counter_behind = refl
 
--- signs stand by themselves in IF and ASSERT alone
+-- signs are words of their own only in IF and ASSERT
 sign_in_a_word : fault_of ("STORE CUSTOMER CNO = 1<2" ∷ []) ≡ Some (1, 3)
 unfolding onto into digits
 sign_in_a_word = refl

@@ -13,7 +13,7 @@ use Rattle.dbtg_program.specs.Going.{within}
 use Rattle.dbtg_program.specs.Spelling.{words_text}
 use Rattle.dbtg_program.proofs.Rows.Words.{of_lines, played, done}
 
--- after STORE, MODIFY and USING, and after FIND SORTED; a text goes in with the spaces that its item wants
+-- after STORE, MODIFY and USING, and after FIND SORTED; a text is padded with the spaces that its item requires
 in_every_place : played shop (of_lines shop (
     "01 WORD PIC X(4)"
     ∷ "01 COUNT PIC 9(3)"
@@ -40,7 +40,7 @@ in_every_place : played shop (of_lines shop (
 unfolding within verdict onto into digits
 in_every_place = refl
 
--- words as a script has them, one space between two
+-- words as a script has them, with one space between them
 as_spelled : words_text (plain (codes "STORE") ∷ plain (codes "ITEM") ∷ plain (codes "PART") ∷ equals ∷ literal (codes "A B") ∷ plain (codes "QTY") ∷ equals ∷ plain (codes "12") ∷ []) ≡ codes "STORE ITEM PART = \"A B\" QTY = 12"
 as_spelled = refl
 

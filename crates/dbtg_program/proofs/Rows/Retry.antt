@@ -39,7 +39,7 @@ clerk = of_lines shop (
 abbrev pub bolt : Statement
 bolt = find (Calc items (text "BOLT" ∷ []))
 
--- another takes 4 of 10 in between; the second attempt goes by what GET gave
+-- another unit takes 4 of 10 in between; the second attempt uses what GET returned
 second_attempt : played shop clerk (
     done ∷ found (item_key 1) ∷ done ∷ got (item_key 1) (text "BOLT" ∷ Num 10 ∷ []) ∷ no ChangedByAnother
     ∷ found (item_key 1) ∷ done ∷ got (item_key 1) (text "BOLT" ∷ Num 6 ∷ []) ∷ done ∷ [])
@@ -63,7 +63,7 @@ too_few : played shop clerk (done ∷ found (item_key 1) ∷ done ∷ got (item_
 unfolding within verdict onto into digits
 too_few = refl
 
--- a refusal for another cause ends it at the ASSERT in line 12; a GET that is refused leaves the work area as it was
+-- a refusal for another cause ends it at the ASSERT in line 12; a GET that is refused leaves the work area unchanged
 other_refusal : played shop clerk (done ∷ found (item_key 1) ∷ done ∷ got (item_key 1) (text "BOLT" ∷ Num 8 ∷ []) ∷ no Deleted ∷ [])
     ≡ record {
       statements = OpenArea side Update ∷ bolt ∷ Keep ∷ Get None ∷ modify items 1 (Num 5) ∷ [];

@@ -1,4 +1,4 @@
--- The words in which the worked rows are told.
+-- The words in which the worked rows are written.
 use Prim.Native.String.{String}
 use Rattle.std.proofs.Common.{◌≡◌, refl, ap}
 use Rattle.std.specs.Prelude.{ℕ, ◌+◌, true, false, ◌==◌, List, [], ◌∷◌, ◌++◌, Option, Some, None, map, codes, if◌then◌else◌}
@@ -20,7 +20,7 @@ use Rattle.dbtg_program.specs.Reading.{program_of}
 
 -- WORDS, CUT AT ONCE
 
--- the words outside a text and inside one, of which the definition asks for each anew at each byte
+-- the words outside a text and inside one: the definition computes each of them again at each byte
 abbrev pub both_with : ℕ → List ℕ → List Token × List Token → List Token × List Token
 both_with b bs p = (
   (if b == 32 then p.0 else (if b == 61 then equals ∷ p.0 else (if b == 34 then p.1 else onto b bs p.0))),

@@ -1,4 +1,4 @@
--- A statement that is due in a program without faults is spelled as a line of a script without a fault, which says it.
+-- A statement that is due in a program without faults is spelled as a line of a script that says it and has no fault.
 use Rattle.std.proofs.Common.{◌≡◌, ℕ, zero, suc, ◌+◌, ◌≤◌, Bool, true, false, not, ◌&&◌, List, [], ◌∷◌, ◌++◌, length, map, Option, Some, None, slice_get, refl, sym, ap, subst, ◌∙◌, arith}
 use Rattle.std.specs.Prelude.{◌==◌, codes, if◌then◌else◌, is_none, nat_le, option_map, slice_set, unwrap_or}
 use Rattle.std.specs.List.{flat_map, list_all, list_any}
@@ -76,7 +76,7 @@ good text at number l one h =
       sentence = ap (λ (b : Bool). first (if b then sentence_faults text at (cut number l) else [])) (sym one) ∙ none_after (whole_faults at (trimmed l)) own h;
     }
 
--- a line of the program: which of these lines it is
+-- a line of the program, and the line of the text that it comes from
 pub record IsFrom (text : Text) (from : ℕ) (ls : List (List ℕ)) (x : Line) : Type 0 where
   pub l : List ℕ
   pub k : ℕ
@@ -109,7 +109,7 @@ from_line text (l ∷ ls) at number i x h is = by (λ j e. further text number l
     by rest true e (suc i) q = rest i q
     by rest false e i q = rest i q
 
--- WORDS THAT ARE NO FIELDS
+-- WORDS THAT ARE NOT FIELDS
 
 firsts_from : (here : Bool) (ws : List Token) → map (λ m. m.0) (marked_from here ws) ≡ ws
 firsts_from here [] = refl

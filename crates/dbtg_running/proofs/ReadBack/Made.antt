@@ -64,7 +64,7 @@ one_of p (y ∷ ys) (suc n) x all at = one_of p ys n x (and_parts (p y) (list_al
 
 -- ONE PROGRAM
 
--- what is so of a script that was made: it says the statements of the entries, and its lines have no fault, if they are not too long
+-- a script that was made says the statements of the entries, and its lines have no fault if they are not too long
 pub record IsScriptOf (schema : Lists) (es : List Entry) (made : List ℕ) : Type 0 where
   pub says : script schema made ≡ map (λ e. e.statement) es
   pub clean : AllByRecursion (λ l. length l ≤ 1000 → Clean schema l) (statement_lines made)

@@ -1,4 +1,4 @@
--- The values that a program has can be spelled in a line, so the words of each statement that is due can.
+-- The values that a program has can be spelled in a line, and so can the words of each statement that is due.
 use Rattle.std.proofs.Common.{◌≡◌, ℕ, zero, suc, ◌+◌, ◌-◌, ◌^◌, Bool, true, false, List, [], ◌∷◌, length, map, Option, Some, None, slice_get, refl, arith}
 use Rattle.std.specs.Prelude.{◌==◌, decimal, if◌then◌else◌, nat_le, nat_lt, slice_set, unwrap_or}
 use Rattle.std.specs.List.{All, list_all}
@@ -44,7 +44,7 @@ abbrev pub can_say : Value → Bool
 can_say (Num n) = nat_lt n (2 ^ 64)
 can_say (Text t) = list_all is_text_byte t
 
--- and each value of a state
+-- each value of a state can be spelled
 abbrev pub Says : List Value → Type 0
 Says values = list_all can_say values ≡ true
 
@@ -112,7 +112,7 @@ module _ (schema : Lists) (sound : IsSound schema) (program : Program) where
       by None = h
       by (Some k) = placed_says values k (map as_field items) h (items_say (item_list schema key.rtype) items good is.1)
 
-  -- after an answer that can be said the values still can
+  -- after an answer that can be said, the values can still be spelled
   pub told_says : (state : ProgramState) (s : said.Statement) (answer : Answer) → IsSayable schema answer.key answer.items → Says state.values → Says (told program state s answer).values
   told_says state s answer is h = by (is_done answer.status)
     where
@@ -130,7 +130,7 @@ beginning_says (i ∷ items) = and_from _ _ (empty i.picture) (beginning_says it
 
 -- A SENTENCE
 
--- the operand can be spelled, the word stand in a line
+-- the operand can be spelled, and the word can stand in a line
 abbrev pub operand_says : Operand → Bool
 operand_says (operand.Literal v) = can_say v
 operand_says (operand.Field f) = true
@@ -232,7 +232,7 @@ module _ (schema : Lists) (program : Program) (each : (x : Line) (i : ℕ) → s
       by None e = tt
       by (Some l) e = done_kept schema program state l.number l.sentence h (each l state.at e)
 
-  -- where a statement is due, the values can be spelled, and the line at which the program stands makes it
+  -- if a statement is due, the values can be spelled, and the line at which the program stands makes it
   abbrev pub Stands : Due → Type 0
   Stands (due at s) = Says at.values × (at_line schema program at (line_at program at) ≡ makes s)
   Stands (ended at how) = Unit {0}

@@ -1,4 +1,4 @@
--- Words that are printed with spaces between them are read back, and a line of them has no fault where they have none.
+-- Words that are printed with spaces between them are read back, and a line of them has no fault if they have none.
 use Rattle.std.proofs.Common.{◌≡◌, ℕ, ◌≤◌, Bool, true, false, not, ◌&&◌, List, [], ◌∷◌, ◌++◌, length, refl, sym, ap, subst, ◌∙◌, arith, append_assoc}
 use Rattle.std.specs.Prelude.{◌==◌, None, if◌then◌else◌, nat_le, nat_lt}
 use Rattle.std.specs.List.{list_all}
@@ -19,7 +19,7 @@ use Rattle.dbtg_trace.proofs.Public.{Clean, all_append, all_imply, apart, behind
 
 -- WORDS OF A LINE
 
--- a word as a printable line has it: letters, one or more; or a text without quotes
+-- a word as a printable line has it: one or more letters, or a text without quotes
 abbrev pub is_word : Token → Bool
 is_word (plain t) = nat_lt 0 (length t) && list_all is_letter t && list_all shows t
 is_word equals = true

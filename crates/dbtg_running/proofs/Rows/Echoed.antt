@@ -16,7 +16,7 @@ use Rattle.dbtg_going.proofs.Rows.Alternately.{entry, looker}
 use Rattle.dbtg_running.specs.Checking.{program_lines}
 use Rattle.dbtg_running.specs.Echoing.{lines_made}
 
--- GET is refused, so the program goes on at NOTHING, and frees all
+-- GET is refused, so the program goes on at NOTHING, and frees everything
 jumped : lines_made card false looker (map (λ l. codes l) ("01 SEEN PIC 9(2)" ∷ "GET." ∷ "IF STATUS = 0413 GO TO NOTHING" ∷ "ADD 1 TO SEEN" ∷ "STOP" ∷ "NOTHING." ∷ "FREE ALL" ∷ [])) (beginning looker)
     (entry 1 1 (Get None) (no NoCurrentOfRunUnit) ∷ entry 2 1 (Free true) done ∷ []) ≡ codes "GET." ++ 10 ∷ codes "FREE ALL" ++ 10 ∷ []
 unfolding within verdict onto into digits
@@ -37,7 +37,7 @@ with_values : lines_made card true (of_lines card written) (map (λ l. codes l) 
 unfolding within verdict onto into digits
 with_values = refl
 
--- two programs, of eight sentences and of one
+-- two programs, one of eight sentences and one of a single sentence
 counted : program_lines 1 (looker ∷ of_lines card ("GET" ∷ []) ∷ []) ≡ codes "program 1: 8 sentences" ++ 10 ∷ codes "program 2: 1 sentences" ++ 10 ∷ []
 unfolding onto into digits
 counted = refl

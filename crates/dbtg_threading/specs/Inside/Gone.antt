@@ -1,4 +1,4 @@
--- Units that have gone by programs to their ends, and the history that they have made.
+-- Units that have followed programs to their ends, and the history that they have made.
 -- entries are those of one unit, in their order.
 use Rattle.std.specs.Prelude.{ℕ, ◌≡◌, ◌+◌, List, [], ◌∷◌, ◌++◌, All, Option, Some, None, length}
 use Rattle.dbtg_schema.specs.Lists.{Lists}
@@ -24,18 +24,18 @@ statement_after schema program entries = due_after schema (length entries) (next
 abbrev pub AreInTurn : Lists → Program → List Entry → Type 0
 AreInTurn schema program entries = (before : List Entry) (e : Entry) (behind : List Entry) → entries ≡ before ++ e ∷ behind → statement_after schema program before ≡ Some e.statement
 
--- the entries are of the program, and its unit makes no other statement after them
+-- the entries belong to the program, and its unit makes no other statement after them
 pub record HasGone (schema : Lists) (program : Program) (entries : List Entry) : Type 0 where
   pub are_of : AreOf schema program entries
   pub in_turn : AreInTurn schema program entries
   pub at_end : statement_after schema program entries ≡ None
 
--- a unit before and after it has gone by the program
+-- a unit before and after it has followed the program
 pub record WentBy (schema : Lists) (program : Program) (before after : UnitView) : Type 0 where
   pub number : after.unit.number ≡ before.unit.number
   pub gone : HasGone schema program after.journal
 
--- each unit has gone by the program at its place
+-- each unit has followed the program at its place
 abbrev pub HaveGone : Lists → List Program → List UnitView → List UnitView → Type 0
 HaveGone schema = AtEach (WentBy schema)
 

@@ -12,7 +12,7 @@ use Rattle.dbtg_trace.specs.Parts.{arrow_at, begins_arrow}
 use Rattle.dbtg_trace.proofs.ArrowSteps.{not_here}
 use Rattle.dbtg_trace.proofs.ReadBack.Grammar.{clear, is_sign_word, some_bytes}
 
--- A BYTE MORE
+-- ONE MORE BYTE
 
 at_space : (b : ℕ) (bs : List ℕ) → (b == 32) ≡ true → tokens false (b ∷ bs) ≡ tokens false bs
 unfolding tokens
@@ -79,7 +79,7 @@ weaker : (ts : List Token) → clear true ts ≡ true → clear false ts ≡ tru
 weaker [] h = refl
 weaker (t ∷ ts) h = (and_parts (fits value t) (clear (is_sign_word t) ts) h).1
 
--- behind a byte that is no quote, the bytes are still outside of texts; behind a quote they are inside
+-- after a byte that is not a quote, the bytes are still outside texts; after a quote they are inside one
 rest_clear : (inside : Bool) (b : ℕ) (bs : List ℕ) → clear false (tokens inside (b ∷ bs)) ≡ true → clear false (tokens (if b == 34 then not inside else inside) bs) ≡ true
 rest_clear true b bs h = by (b == 34) refl
   where
@@ -94,7 +94,7 @@ rest_clear false b bs h = by (byte b)
     by (quote e f g) = rw g (ap (clear false) (sym (at_quote b bs e f g)) ∙ h)
     by (letter e f g) = rw g (onto_clear b bs (tokens false bs) (ap (clear false) (sym (at_letter b bs e f g)) ∙ h))
 
--- a word that begins with > is no value
+-- a word that begins with > is not a value
 headed : (t : List ℕ) (ts : List Token) → clear true (plain (62 ∷ t) ∷ ts) ≡ false
 headed t ts = ap (λ (k : Bool). k && list_all is_digit (62 ∷ t) && clear false ts) (some_bytes (length t))
 
@@ -138,7 +138,7 @@ quiet false b bs tail h = by (byte b)
     by (quote e f g) = other f
     by (letter e f g) = other f
 
--- the first arrow behind such bytes, which are no open text, is the one that stands behind a space
+-- after such bytes, if they leave no text open, the first arrow is the one that follows the space
 pub arrow_behind : (inside : Bool) (bs tail : List ℕ) → clear false (tokens inside bs) ≡ true → ends_in_text inside bs ≡ false → arrow_at inside (bs ++ 32 ∷ 61 ∷ 62 ∷ tail) ≡ Some (length bs + 1)
 unfolding arrow_at
 arrow_behind true [] tail h e = absurd cc

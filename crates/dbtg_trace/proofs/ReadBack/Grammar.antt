@@ -1,4 +1,4 @@
--- What the grammar of statements says of the signs and of the last word of an accepted line: behind a sign = a value stands, and a word
+-- What the grammar of statements says of the signs and of the last word of an accepted line: a value follows each sign =, and a word
 -- that may be any name is never the last.
 use Rattle.std.proofs.Common.{◌≡◌, ℕ, suc, arith, Bool, true, false, not, ◌&&◌, ◌||◌, List, [], ◌∷◌, ◌++◌, map, Option, Some, None, refl, ap, subst, ◌∙◌}
 use Rattle.std.specs.Prelude.{if◌then◌else◌, nat_lt}
@@ -16,7 +16,7 @@ use Rattle.dbtg_script.specs.StatementFaults.{at_other, faults_from, said}
 use Rattle.dbtg_script.specs.StatementGrammar.{Form, Kind, Labelled, key, other_than, name, equals_sign, signed, keyed, value, fits, is_equals, is_value}
 use Rattle.dbtg_script.specs.Tokens.{Token, plain, equals, literal}
 
--- so holds of each start
+-- P holds of each start
 abbrev pub Each : (Start Kind Role → Type 0) → List (Start Kind Role) → Type 0
 Each P [] = Unit {0}
 Each P (s ∷ ss) = P s × Each P ss
@@ -38,7 +38,7 @@ some_bytes n = grind (arith, nat_tests)
 
 -- A SIGN AND ITS VALUE
 
--- a sign = stands here
+-- the form is the sign =
 abbrev is_sign : Form → Bool
 is_sign nothing = false
 is_sign (one k r) = is_equals k
@@ -46,11 +46,11 @@ is_sign (both f g) = false
 is_sign (either f g) = false
 is_sign (many f) = false
 
--- a value has to stand here
+-- a value must come here
 abbrev pub wants_value : Form → Bool
 wants_value w = not (may_end w) && list_all (λ (s : Start Kind Role). is_value s.kind) (starts w)
 
--- there is no sign = but with a value directly behind it
+-- a value follows directly after each sign =
 abbrev pub valued : Form → Bool
 valued nothing = true
 valued (one k r) = not (is_equals k)
@@ -58,7 +58,7 @@ valued (both f g) = valued g && (valued f || (is_sign f && wants_value g))
 valued (either f g) = valued f && valued g
 valued (many f) = valued f
 
--- so it is behind this start, and where it is a sign a value has to stand behind it
+-- the same holds after this start; and if the start is a sign =, a value must follow it
 abbrev pub Keeps : Start Kind Role → Type 0
 Keeps s = (valued s.rest ≡ true) × (is_equals s.kind ≡ true → wants_value s.rest ≡ true)
 
@@ -133,7 +133,7 @@ may_be_last signed r = true
 may_be_last keyed r = true
 may_be_last value r = true
 
--- the last word may be so
+-- each word that may come last may be the last
 abbrev pub ended : Form → Bool
 ended nothing = true
 ended (one k r) = may_be_last k r
@@ -162,7 +162,7 @@ followed_ended (both f e) g h k = both_ended (both f e) g h k
 followed_ended (either f e) g h k = both_ended (either f e) g h k
 followed_ended (many f) g h k = both_ended (many f) g h k
 
--- what may end behind another may end itself
+-- if a form followed by another may end, both may end
 followed_ends : (r g : Form) → may_end (followed r g) ≡ true → (may_end r ≡ true) × (may_end g ≡ true)
 followed_ends nothing g h = (refl, h)
 followed_ends (one kind r) g h = absurd cc
@@ -229,7 +229,7 @@ is_sign_word (plain t) = false
 is_sign_word equals = true
 is_sign_word (literal t) = false
 
--- behind each sign = a value stands; the flag says that a sign stands in front
+-- a value follows each sign =; the flag says that a sign comes just before
 abbrev pub clear : Bool → List Token → Bool
 clear sign [] = true
 clear sign (t ∷ ts) = (not sign || fits value t) && clear (is_sign_word t) ts

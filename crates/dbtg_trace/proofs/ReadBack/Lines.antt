@@ -1,4 +1,4 @@
--- The line of an entry is read back: its unit, its statement, its answer; and so are lines, one behind another.
+-- The line of an entry is read back: its unit, its statement, its answer; and so are lines, one after another.
 use Rattle.std.proofs.Common.{◌≡◌, ℕ, ◌+◌, ◌-◌, ◌^◌, ◌<◌, ◌≤◌, Bool, true, false, not, ◌&&◌, List, [], ◌∷◌, ◌++◌, drop, length, take, Option, Some, None, inl, inr, refl, sym, ap, subst, ◌∙◌, arith, append_assoc, true≢false}
 use Rattle.std.specs.Prelude.{◌==◌, codes, decimal, if◌then◌else◌, nat_le, nat_lt, option_and_then, option_map}
 use Rattle.std.specs.List.{list_all}
@@ -262,7 +262,7 @@ module _ (schema : Lists) (sound : IsSound schema) (named : IsNamed schema) (uni
   pub says_entry : (n : ℕ) → line_entry schema units n body ≡ as_said n e ∷ []
   says_entry n = one_said schema units n body (as_said n e) one (entry_back n)
 
--- LINES, ONE BEHIND ANOTHER
+-- LINES, ONE AFTER ANOTHER
 
 lines_back : (schema : Lists) → IsSound schema → IsNamed schema → (units : ℕ) → units ≤ 255 → (ls : List (List ℕ)) (es : List Entry) (count n : ℕ) → AreLinesOf schema units ls es → count + length es ≤ 524280
     → (lines_verdict schema units count n (lines (trace_lines schema ls es)) ≡ None) × (entries_of schema units n (lines (trace_lines schema ls es)) ≡ all_said n es)

@@ -38,7 +38,7 @@ ends_at (x ∷ xs) c d =
     ap (λ (b : Bool). b && get_or (x ∷ (xs ++ c ∷ [])) (length (x ∷ (xs ++ c ∷ [])) - 1) 0 == d) (some_bytes (length (xs ++ c ∷ [])))
     ∙ ap (λ (n : ℕ). get_or (x ∷ (xs ++ c ∷ [])) n 0 == d) place ∙ ap (λ (b : ℕ). b == d) (at_end (x ∷ xs) c)
 
--- bytes are none, or have a last one
+-- there are no bytes, or there is a last one
 pub last_of : (xs : List ℕ) → (xs ≡ []) ⊎ ((front : List ℕ) × (c : ℕ) × (xs ≡ front ++ c ∷ []))
 last_of [] = inl refl
 last_of (x ∷ xs) = elim (last_of xs) [
@@ -50,7 +50,7 @@ and_false : (b : Bool) → (b && false) ≡ false
 and_false true = refl
 and_false false = refl
 
--- what the last does not pass, not all pass
+-- a test that the last one fails is not passed by all
 pub not_all : (p : ℕ → Bool) (xs : List ℕ) (c : ℕ) → p c ≡ false → list_all p (xs ++ c ∷ []) ≡ false
 not_all p [] c h = ap (λ (b : Bool). b && true) h
 not_all p (x ∷ xs) c h = ap (λ (b : Bool). p x && b) (not_all p xs c h) ∙ and_false (p x)
@@ -85,7 +85,7 @@ period_there : (xs : List ℕ) → has_byte 46 (xs ++ 46 ∷ []) ≡ true
 period_there [] = refl
 period_there (x ∷ xs) = second_or (x == 46) (has_byte 46 (xs ++ 46 ∷ [])) (period_there xs)
 
--- behind a colon too a period is the last byte, or nothing is left
+-- after a colon, too, a period is the last byte, or nothing is left
 behind_colon : (xs : List ℕ) → (behind 58 (xs ++ 46 ∷ []) ≡ []) ⊎ ((ys : List ℕ) × (behind 58 (xs ++ 46 ∷ []) ≡ ys ++ 46 ∷ []))
 behind_colon [] = inl refl
 behind_colon (x ∷ xs) = by (x == 58) (behind_colon xs)
@@ -95,7 +95,7 @@ behind_colon (x ∷ xs) = by (x == 58) (behind_colon xs)
     by true r = inr (xs, refl)
     by false r = r
 
--- a key is a name, a number, and what stands behind them
+-- a key is a name, a number, and what follows them
 abbrev key_with : List ℕ → List ℕ → Bool
 key_with whole rest = is_number (in_front 46 rest) && (if has_byte 46 rest then is_number (behind 46 rest) else true)
 

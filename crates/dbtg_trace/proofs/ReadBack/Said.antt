@@ -75,7 +75,7 @@ number_ends_well n h = let p = and_parts (nat_lt 0 (length (decimal n))) (list_a
 no_quotes : (w : List ℕ) → list_all is_letter w ≡ true → list_all (λ b. not (b == 34)) w ≡ true
 no_quotes w h = all_imply is_letter (λ b. not (b == 34)) letter_is_no_quote w h
 
--- what is so of a value's text: it is printable, it ends as it began, it ends well
+-- the text of a value is printable, ends as it began, and ends well
 value_shows : (p : Picture) (v : Value) → IsPicture p → value_fits p v ≡ true → list_all shows (value_text v) ≡ true
 value_shows (Number n) (Num v) is h = all_imply is_digit shows digit_shows (decimal v) (digits v (number_is_low n v is.1 h))
 value_shows (Number n) (Text t) is h = absurd cc

@@ -56,7 +56,7 @@ stands [] r h = absurd (omega (arith, h))
 stands (t ∷ ts) zero h = ap (λ b. b || among t.name (names ts)) (bytes_same t.name)
 stands (t ∷ ts) (suc r) h = second_or (bytes_eq (name_at ts r) t.name) (among (name_at ts r) (names ts)) (stands ts r (omega (arith, h)))
 
--- of names that differ, each is found at its place
+-- if the names differ, each is found at its place
 found_at : (ts : List RecordType) (r i : ℕ) → r < length ts → distinct bytes_eq (names ts) ≡ true → position_from (bytes_eq (name_at ts r)) i (names ts) ≡ Some (i + r)
 found_at [] r i h d = absurd (omega (arith, h))
 found_at (t ∷ ts) zero i h d =

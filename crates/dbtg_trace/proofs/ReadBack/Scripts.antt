@@ -28,7 +28,7 @@ use Rattle.dbtg_trace.specs.Printing.{trace_text}
 use Rattle.dbtg_trace.proofs.ReadBack.Lines.{read_back}
 use Rattle.dbtg_trace.proofs.ReadBack.Sayable.{sayable, units_there}
 
--- a line has no fault as the first of a script
+-- the line has no fault as the first line of a script
 abbrev pub Clean : Lists → List ℕ → Type 0
 Clean schema l = first (line_faults schema 0 l) ≡ None
 
@@ -44,7 +44,7 @@ none_mapped : (number : ℕ) (cs : List Cause) → first {X = Fault} (map (λ c.
 none_mapped number [] h = refl
 none_mapped number (c ∷ cs) h = absurd cc
 
--- where there is room for more statements, so there is for one
+-- if there is room for more statements, there is room for one
 roomy : (one full room other : Bool) (xs : List Cause) → room ≡ false → first (when (one && full) cause.TooMuch ++ when other cause.LineNotAllowed ++ (if one then xs else [])) ≡ None
     → first (when (one && room) cause.TooMuch ++ when other cause.LineNotAllowed ++ (if one then xs else [])) ≡ None
 roomy one full true other xs e h = absurd cc
@@ -70,18 +70,18 @@ clean_lines schema count number (l ∷ ls) h =
     (at_first schema count (trimmed l) (none_mapped number (line_faults schema count (trimmed l)) (none_in_front here later h)))
     (clean_lines schema (count_after count (trimmed l)) (number + 1) ls (none_after here later h))
 
--- so has none of the lines of accepted scripts
+-- the lines of accepted scripts have no fault either
 pub clean_scripts : (schema : Lists) (texts : List (List ℕ)) → AllByRecursion (λ text. refusal schema text ≡ None) texts → AllByRecursion (AllByRecursion (Clean schema)) (map statement_lines texts)
 clean_scripts schema [] h = tt
 clean_scripts schema (text ∷ texts) h = (clean_lines schema 0 1 (lines text) (none_after (too_long text) (lines_faults schema 0 1 (lines text)) h.0), clean_scripts schema texts h.1)
 
--- what holds of all holds of the one at a place, or there is none
+-- what holds of all elements and of the default holds of the one at a place, or of the default
 at_place : {X : Type 0} (P : X → Type 0) (xs : List X) (n : ℕ) (d : X) → AllByRecursion P xs → P d → P (unwrap_or (slice_get xs n) d)
 at_place P [] n d all p = p
 at_place P (x ∷ xs) zero d all p = all.0
 at_place P (x ∷ xs) (suc n) d all p = at_place P xs n d all.1 p
 
--- a line that is there, and holds a statement, has no fault
+-- if the line holds a statement, it has no fault
 abbrev Beside : Lists → List ℕ → Type 0
 Beside schema l = (s : Statement) → line_statement schema l ≡ Some s → Clean schema l
 
@@ -123,7 +123,7 @@ are_lines schema units scripts before (e ∷ es) all says within answers =
 
 -- THE HISTORY
 
--- what is so of a history in which each unit makes the beginning of a script whose lines have no fault
+-- a history in which each unit makes the beginning of a script whose lines have no fault
 module _ (schema : Lists) (sound : IsSound schema) (capacity : ℕ) (texts : List (List ℕ)) (history : List Entry) (clean : AllByRecursion (AllByRecursion (Clean schema)) (map statement_lines texts))
     (begin : BeginScripts schema texts history) (answers : AnswersHold schema capacity (opening_state schema (length texts)) history) where
   have : HaveScripts texts history

@@ -131,7 +131,7 @@ items_there (t ∷ ts) (suc r) h all = items_there ts r (omega (arith, h)) (All-
 
 -- THE KEY
 
--- what stands behind the colon of a key
+-- what follows the colon of a key
 abbrev numbers : DbKey → List ℕ
 numbers k = decimal k.number ++ generation_text k.generation
 

@@ -1,4 +1,4 @@
--- The words of printed bytes: letters up to a byte that is none are a word, and so are bytes between quotes.
+-- The words of printed bytes: letters up to a byte that is not one are a word, and so are bytes between quotes.
 use Rattle.std.proofs.Common.{◌≡◌, ℕ, ◌+◌, ◌*◌, ◌-◌, ◌/◌, ◌%◌, ◌^◌, ◌<◌, ◌≤◌, Bool, true, false, not, ◌&&◌, ◌||◌, List, [], ◌∷◌, ◌++◌, length, refl, ap, ◌∙◌, arith}
 use Rattle.std.specs.Prelude.{◌==◌, decimal, if◌then◌else◌, nat_lt}
 use Rattle.std.specs.List.{list_all}
@@ -18,7 +18,7 @@ use Rattle.dbtg_trace.proofs.ReadBack.Grammar.{off, some_bytes}
 pub all_append : (p : ℕ → Bool) (xs ys : List ℕ) → list_all p xs ≡ true → list_all p ys ≡ true → list_all p (xs ++ ys) ≡ true
 all_append p xs ys a b = list_all-append p xs ys ∙ and_from (list_all p xs) (list_all p ys) a b
 
--- what passes one test passes another
+-- what passes one test passes another that follows from it
 pub all_imply : (p q : ℕ → Bool) → ((b : ℕ) → p b ≡ true → q b ≡ true) → (xs : List ℕ) → list_all p xs ≡ true → list_all q xs ≡ true
 all_imply p q f [] h = refl
 all_imply p q f (x ∷ xs) h = let k = and_parts (p x) (list_all p xs) h in and_from (q x) (list_all q xs) (f x k.0) (all_imply p q f xs k.1)
@@ -47,7 +47,7 @@ digit_is_letter b h = grind (arith, nat_tests, h)
 
 -- A WORD
 
--- no byte of a word stands first
+-- the first byte does not belong to a word
 abbrev pub apart : List ℕ → Bool
 apart [] = true
 apart (c ∷ cs) = not (is_letter c)
@@ -79,7 +79,7 @@ word_first b (c ∷ cs) rest h a =
     let q = and_parts (is_letter c) (list_all is_letter cs) p.1 in
     letter_first b (c ∷ (cs ++ rest)) p.0 ∙ ap (onto b (c ∷ (cs ++ rest))) (word_first c cs rest p.1 a) ∙ onto_joined b c (cs ++ rest) (c ∷ cs) (tokens false rest) q.0
 
--- letters, one or more of them, up to a byte that is none
+-- one or more letters, up to a byte that is not one
 pub word_of : (w rest : List ℕ) → nat_lt 0 (length w) ≡ true → list_all is_letter w ≡ true → apart rest ≡ true → tokens false (w ++ rest) ≡ plain w ∷ tokens false rest
 word_of [] rest some h a = absurd cc
 word_of (b ∷ bs) rest some h a = word_first b bs rest h a
@@ -114,7 +114,7 @@ pub ends_behind : (inside : Bool) (xs ys : List ℕ) → ends_in_text inside (xs
 ends_behind inside [] ys = refl
 ends_behind inside (x ∷ xs) ys = ends_behind (if x == 34 then not inside else inside) xs ys
 
--- bytes without a quote stand where they began
+-- bytes without a quote end inside a text exactly if they began inside one
 pub ends_as_begun : (inside : Bool) (xs : List ℕ) → list_all (λ b. not (b == 34)) xs ≡ true → ends_in_text inside xs ≡ inside
 ends_as_begun inside [] h = refl
 ends_as_begun inside (x ∷ xs) h =

@@ -40,7 +40,7 @@ a_tab_in_a_note : line_faults shop 2 0 (codes "*\t") ≡ AsInScript cause.LineNo
 unfolding tokens onto into arrow_at
 a_tab_in_a_note = refl
 
--- the first line with a fault is told
+-- the first line with a fault is reported
 the_first_line : refusal shop 2 (codes "* load\n1: KEEP => 0\nKEEP\n") ≡ Some (record { line = 2; cause = NoAnswer })
 unfolding tokens onto into lines arrow_at
 the_first_line = refl

@@ -33,7 +33,7 @@ one_space_only : halves (codes "1:  KEEP  =>") ≡ Some (codes " KEEP ", codes "
 unfolding arrow_at
 one_space_only = refl
 
--- an arrow in a text is none
+-- an arrow inside a text does not count
 behind_the_text : halves (codes "1:A \"=>\" => 1") ≡ Some (codes "A \"=>\"", codes " 1")
 unfolding arrow_at
 behind_the_text = refl
@@ -42,12 +42,12 @@ in_an_open_text : halves (codes "1:A \"B => 1") ≡ None
 unfolding arrow_at
 in_an_open_text = refl
 
--- the first counts
+-- the first arrow counts
 two_arrows : halves (codes "1:A=>B=>C") ≡ Some (codes "A", codes "B=>C")
 unfolding arrow_at
 two_arrows = refl
 
--- a greater-than sign apart is no arrow
+-- a greater-than sign apart from its = is not an arrow
 no_arrow : halves (codes "1: A = > 1") ≡ None
 unfolding arrow_at
 no_arrow = refl

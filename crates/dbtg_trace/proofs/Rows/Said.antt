@@ -1,4 +1,4 @@
--- What is said behind an arrow, and by a trace.
+-- What is said after an arrow, and by a trace.
 use Rattle.std.specs.Prelude.{◌≡◌, refl, List, [], ◌∷◌, Some, None, codes}
 use Rattle.std.specs.Fmt.{digits}
 use Rattle.dbtg_unit.proofs.Rows.Defined.Schemas.{shop}

@@ -27,11 +27,11 @@ part_verdict schema part = first (part_faults schema part)
 unfoldable pub entry_verdict : Lists → ℕ → List ℕ → Option TraceCause
 entry_verdict schema units line = first (entry_faults schema units line)
 
--- the first fault of a line behind `count` statements
+-- the first fault of a line after `count` statements
 unfoldable pub line_verdict : Lists → ℕ → ℕ → List ℕ → Option TraceCause
 line_verdict schema units count line = first (line_faults schema units count line)
 
--- the first fault of lines behind `count` statements; the first line has this number
+-- the first fault of lines after `count` statements; the first line has this number
 unfoldable pub lines_verdict : Lists → ℕ → ℕ → ℕ → List (List ℕ) → Option Fault
 lines_verdict schema units count number ls = first (lines_faults schema units count number ls)
 
@@ -40,7 +40,7 @@ abbrev pub Refuses : EntryFault → Option TraceCause → Type 0
 Refuses entry.Memory v = Unit {0}
 Refuses (entry.Refused cause) v = v ≡ Some cause
 
--- the first of these faults is told, and not a refusal of memory
+-- the first of these faults is reported, and not a refusal of memory
 abbrev pub IsToldAtOnce : {A : Type 0} → List TraceCause → Result A EntryFault → Type 0
 IsToldAtOnce causes result = (c : TraceCause) → first causes ≡ Some c → MatchResult result (λ _. ⊥) (λ e. e ≡ entry.Refused c)
 
@@ -49,7 +49,7 @@ abbrev pub at_line : ℕ → EntryFault → TraceFault
 at_line number entry.Memory = trace.Memory
 at_line number (entry.Refused cause) = trace.Refused number cause
 
--- the fault of a line of a script that is a part of a line
+-- the fault of a part of a line, which is read as a line of a script
 abbrev pub in_entry : LineFault → EntryFault
 in_entry script.Memory = entry.Memory
 in_entry (script.Refused cause) = entry.Refused (AsInScript cause)

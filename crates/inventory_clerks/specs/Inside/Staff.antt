@@ -5,8 +5,8 @@ use Rattle.dbtg_run.specs.declared.settled.Settled.{Settled}
 use Rattle.inventory_clerks.specs.declared.order.Order.{Order}
 use Rattle.inventory_clerks.specs.Orders.{AreFilled}
 
--- in the history are two units: the entries of the one fill all orders of the first clerk, each by entries of its own, and those of
--- the other all of the second
+-- the history has the entries of two units: those of one fill all orders of the first clerk, each by entries of its own, and those of
+-- the other fill all orders of the second
 pub record HaveFilled (firsts seconds : List Order) (settled : Settled) : Type 0 where
   pub one : ℕ
   pub other : ℕ

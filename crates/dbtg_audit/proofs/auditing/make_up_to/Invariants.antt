@@ -7,7 +7,7 @@ use Rattle.dbtg_trace.specs.declared.traced.Traced.{Traced}
 use Rattle.dbtg_audit.specs.Inside.Audits.{HasMadeSo}
 use Rattle.dbtg_audit.proofs.auditing.make_up_to.Given as goal
 
--- all is so of the statements that are made, and the others are left
+-- all that is said of the statements made so far holds, and the others are left
 abbrev pub invariant-loop-one : goal.invariant-loop-one
 invariant-loop-one l =
     (before : List Traced) × (before ++ into_iter_items l.one-iterator ≡ l.fn.traced) × HasMadeSo l.fn.statuses l.initial.database before l.database

@@ -7,7 +7,7 @@ use Rattle.dbtg_trace.specs.declared.traced.Traced.{Traced}
 use Rattle.dbtg_audit.specs.Inside.Audits.{HasToldAll}
 use Rattle.dbtg_audit.proofs.every.tell_all.Given as goal
 
--- all that differs of the statements made so far is told, and the others are left
+-- all that differs in the statements made so far is reported, and the others are left
 abbrev pub invariant-loop-one : goal.invariant-loop-one
 invariant-loop-one l =
     (before : List Traced) × (before ++ into_iter_items l.one-iterator ≡ l.fn.traced) × HasToldAll l.fn.statuses l.schema l.initial.database before l.database l.initial.out.items l.out.items l.so

@@ -2,7 +2,7 @@ use Rattle.std.proofs.Common.{◌≡◌, length}
 use Rattle.dbtg_command.specs.Hints.{row_of_word}
 use Rattle.dbtg_command.proofs.explain.hints.row_of_word.Given as goal
 
--- no row that is passed has the word
+-- no row already passed has the word
 abbrev pub invariant-loop-row : goal.invariant-loop-row
 invariant-loop-row l = row_of_word l.word l.rest ≡ row_of_word l.word l.table
 

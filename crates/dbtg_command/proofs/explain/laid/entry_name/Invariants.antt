@@ -3,7 +3,7 @@ use Rattle.dbtg_script.specs.Lines.{lines}
 use Rattle.dbtg_command.specs.FaultyWord.{entry_name}
 use Rattle.dbtg_command.proofs.explain.laid.entry_name.Given as goal
 
--- no name is passed
+-- no word already passed is a name
 abbrev pub invariant-loop-word : goal.invariant-loop-word
 invariant-loop-word l = entry_name (lines l.rest) ≡ entry_name (lines l.words)
 

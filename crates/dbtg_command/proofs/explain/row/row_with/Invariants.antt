@@ -2,7 +2,7 @@ use Rattle.std.proofs.Common.{◌≡◌, length}
 use Rattle.dbtg_command.specs.Explaining.{row_of}
 use Rattle.dbtg_command.proofs.explain.row.row_with.Given as goal
 
--- no row that is passed has the code
+-- no row already passed has the code
 abbrev pub invariant-loop-row : goal.invariant-loop-row
 invariant-loop-row l = row_of l.code l.rest ≡ row_of l.code l.table
 

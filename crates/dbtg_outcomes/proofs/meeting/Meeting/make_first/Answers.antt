@@ -15,7 +15,7 @@ use Rattle.dbtg_outcomes.proofs.meeting.Meeting.make_first.Goals as goal
 script_is : (m n : Meeting) (script : List Statement) → m ≡ n → script ≡ first_script m.first m.scripts → script ≡ first_script n.first n.scripts
 script_is m n script same is = is ∙ ap (λ (k : Meeting). first_script k.first k.scripts) same
 
--- all of it is made
+-- the whole script is made
 whole : (m : Meeting) (script : List Statement) (i u : ℕ) → script ≡ first_script m.first m.scripts → length script ≤ i → u ≡ length m.scripts → by_one u (take i script) ≡ made_first m.first m.scripts
 whole m script i u is all unit =
     ap (by_one u) (take_all i script all ∙ is) ∙ ap (λ (v : ℕ). by_one v (first_script m.first m.scripts)) unit
