@@ -13,6 +13,9 @@ use dbtg_cells::{CellName, Layout, name_eq};
 use indexmap::IndexMap;
 use std::alloc::AllocError;
 
+/// How many names live in place.
+pub(crate) const NAMES_IN_PLACE: usize = 8;
+
 /// How the first held names are found. The index leads to all others.
 #[derive(Clone, Copy, Drop)]
 pub(crate) enum FirstNames {
@@ -28,7 +31,7 @@ impl FirstNames {
         ensures { result ≡ first_count self.now }
     {
         match self {
-            FirstNames::InPlace => 8,
+            FirstNames::InPlace => NAMES_IN_PLACE,
             FirstNames::Numbered(_layout, count) => *count,
         }
     }
@@ -95,15 +98,15 @@ fn find_indexed(
     index: &IndexMap<NameKey, usize>,
     name: &CellName,
 ) -> Option<usize>
-    requires { IsIndexOf (get key_eq index.now) 8 names.now }
+    requires { IsIndexOf (get key_eq index.now) NAMES_IN_PLACE names.now }
     ensures { result ≡ position_from (name_eq name.now) 0 names.now }
 {
-    if names.len() <= 8 {
+    if names.len() <= NAMES_IN_PLACE {
         return find_name(names, name);
     }
     match find_key(index, &name_key(name)) {
         Some(at) => Some(at),
-        None => find_name(&names[..8], name),
+        None => find_name(&names[..NAMES_IN_PLACE], name),
     }
 }
 

@@ -6,6 +6,7 @@ use Rattle.dbtg_cells.specs.declared.name.CellName.{CellName}
 use Rattle.dbtg_cells.specs.declared.name.CellName.TheVariants.{Usage, Extent, Ring, Slot}
 use Rattle.dbtg_cells.specs.declared.numbering.Layout.{Layout}
 use Rattle.dbtg_cells.specs.Names.{name_eq}
+use Rattle.dbtg_unit.specs.declared.names.TheConstants.{NAMES_IN_PLACE}
 use Rattle.dbtg_unit.specs.declared.names.FirstNames.{FirstNames}
 use Rattle.dbtg_unit.specs.declared.names.FirstNames.TheVariants.{InPlace, Numbered}
 use Rattle.dbtg_unit.specs.declared.names.NameKey.{NameKey}
@@ -25,7 +26,7 @@ name_key (Slot t n) = record { kind = 4; of = t; owner = 0; number = n }
 
 -- how many of the held names the index doesn't lead to
 abbrev pub first_count : FirstNames → ℕ
-first_count InPlace = 8
+first_count InPlace = NAMES_IN_PLACE
 first_count (Numbered layout count) = count
 
 -- a place, if it lies past this many first names
