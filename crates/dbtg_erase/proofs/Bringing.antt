@@ -94,7 +94,7 @@ module _ (taken : DbKey → List DbKey) where
   in_two (suc m) n (suc t) i j order e f = in_two m n t (suc i) j (brought_from taken order (slice_get order i)) (omega arith) (omega arith)
 
 module _ (taken taken' : DbKey → List DbKey) (cells cells' : DbKey → List CellName) (wanting : CellName → Bool)
-    (finds : (d : DbKey) → find wanting (cells d) ≡ find wanting (cells' d)) (brings : (d : DbKey) → find wanting (cells d) ≡ None → taken d ≡ taken' d) where
+    (finds : (d : DbKey) → find wanting (cells d) ≡ find wanting (cells' d)) (brings_doomed : (d : DbKey) → find wanting (cells d) ≡ None → taken d ≡ taken' d) where
   -- from place i on the first missing cell is the same; where none is missing, the lists are the same
   abbrev pub Agree : ℕ → List DbKey → List DbKey → Type 0
   Agree i xs ys =
@@ -147,5 +147,5 @@ module _ (taken taken' : DbKey → List DbKey) (cells cells' : DbKey → List Ce
     by (Some d) e low high later =
         one_more i d _ _
         (kept_at taken m (suc i) i (with_those order (taken d)) d (still_at order (taken d) i d e)) (kept_at taken' n (suc i) i (with_those order (taken' d)) d (still_at order (taken' d) i d e))
-        (λ h. subst (λ zs. Agree (suc i) (brought taken m (suc i) (with_those order (taken d))) (brought taken' n (suc i) (with_those order zs))) (brings d h)
+        (λ h. subst (λ zs. Agree (suc i) (brought taken m (suc i) (with_those order (taken d))) (brought taken' n (suc i) (with_those order zs))) (brings_doomed d h)
         (later (with_those order (taken d)) (omega arith) (omega arith)))

@@ -142,8 +142,8 @@ module _ (schema : Lists) (capacity : ℕ) (db : Database) (hands : Hands) (unit
       (λ all. ap (map slot_name) (all_members_are d (λ c i. all c (inr i))))
 
   -- where all are held, what it brings
-  pub brings : (option : Erase) (d : DbKey) → find (λ c. not (held c)) (cells_of_doomed schema db d) ≡ None → taken_with schema capacity db option d ≡ taken_in schema hands option d
-  brings option d none =
+  pub brings_doomed : (option : Erase) (d : DbKey) → find (λ c. not (held c)) (cells_of_doomed schema db d) ≡ None → taken_with schema capacity db option d ≡ taken_in schema hands option d
+  brings_doomed option d none =
       let all = none_wanting held (cells_of_doomed schema db d) none in
       taken_is d (λ c i. all c (inr (in_left c (own_rings schema d) (map slot_name (members_of_all schema db d)) i)))
       (λ c i. all c (inr (in_right c (own_rings schema d) (map slot_name (members_of_all schema db d)) i))) option
@@ -176,10 +176,10 @@ module _ (schema : Lists) (capacity : ℕ) (db : Database) (hands : Hands) (unit
 
   -- the work list over the held cells is the database's, as far as the held cells go
   pub gone_agrees : (option : Erase) (k : DbKey) → is_live db k ≡ true
-      → Agree (taken_with schema capacity db option) (taken_in schema hands option) (cells_of_doomed schema db) (cells_of_gone schema hands) (λ c. not (held c)) finds (brings option)
+      → Agree (taken_with schema capacity db option) (taken_in schema hands option) (cells_of_doomed schema db) (cells_of_gone schema hands) (λ c. not (held c)) finds (brings_doomed option)
       0 (doomed_in_turn schema capacity db option k) (gone_in schema capacity hands option k)
   gone_agrees option k live =
       let few = met_few schema capacity db agrees.legal option k live in
       let most = few_keys in
-      agree (taken_with schema capacity db option) (taken_in schema hands option) (cells_of_doomed schema db) (cells_of_gone schema hands) (λ c. not (held c)) finds (brings option)
+      agree (taken_with schema capacity db option) (taken_in schema hands option) (cells_of_doomed schema db) (cells_of_gone schema hands) (λ c. not (held c)) finds (brings_doomed option)
       (length (all_keys schema capacity db)) (most_gone schema capacity) 0 (k ∷ []) (omega arith) (omega arith)

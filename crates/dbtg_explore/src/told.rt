@@ -6,7 +6,7 @@ ghost use Rattle.dbtg_script.specs.Printing.Texts.{run_text};
 ghost use Rattle.std.specs.List.{range_with_len};
 ghost use Rattle.std.specs.Prelude.{◌≡◌, ◌≤◌, ◌++◌, [], length, map, IfOk};
 
-use dbtg_going::{Reached, push_programs};
+use dbtg_going::{Reached, push_each_program};
 use dbtg_outcomes::usage_by_unit;
 use dbtg_program::Program;
 use dbtg_schema::Schema;
@@ -38,6 +38,6 @@ pub fn told_text(
         &run.image,
         run.units.as_slice(),
     )?;
-    push_programs(&mut out, programs, reached)?;
+    push_each_program(&mut out, programs, reached)?;
     Ok(out)
 }

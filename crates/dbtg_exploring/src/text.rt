@@ -12,7 +12,7 @@ ghost use Rattle.std.specs.Prelude.{◌≡◌, ◌≤◌, ◌++◌, List, IfOk, 
 
 use crate::setting::Setting;
 use dbtg_explore::{Endless, Explored, Failure, told_text};
-use dbtg_going::{ProgramRun, Reached, push_end, push_programs, run_programs, run_text};
+use dbtg_going::{ProgramRun, Reached, push_each_program, push_end, run_programs, run_text};
 use dbtg_outcomes::{Told, as_numbers, named, none_before, push_shown};
 use dbtg_schema::Row;
 use dbtg_script::{push_number, turns_text};
@@ -153,7 +153,7 @@ impl<'a> Setting<'a> {
         ensures { IfOk result (λ numbers. numbers.items ≡ programs_text 1 self.now.programs.now reached.now) }
     {
         let mut lines = Vec::new(alloc);
-        push_programs(&mut lines, self.programs, reached)?;
+        push_each_program(&mut lines, self.programs, reached)?;
         as_numbers(alloc, lines.as_slice())
     }
 

@@ -7,7 +7,7 @@ use crate::going::ProgramRun;
 use crate::member::{Reached, Standing};
 use dbtg_program::{End, Program};
 use dbtg_schema::Schema;
-use dbtg_script::{has_byte, push_items, push_number, push_run};
+use dbtg_script::{has_byte, push_each_item, push_number, push_run};
 use std::alloc::{AllocError, Global};
 
 fn push_with_line(out: &mut Vec<u8>, word: &[u8], line: u64) -> Result<(), AllocError>
@@ -71,7 +71,7 @@ fn push_program(
     push_number(out, unit)?;
     out.push(b' ')?;
     push_standing(out, reached.standing)?;
-    push_items(
+    push_each_item(
         out,
         behind(reached.state.values(), items),
         behind(program.fields.as_slice(), items),

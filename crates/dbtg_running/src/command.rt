@@ -13,7 +13,9 @@ ghost use Rattle.std.specs.Prelude.{◌≡◌, ◌≤◌, IfErr, IfOk, length, m
 use crate::echo::scripts_made;
 use crate::programs::{Programs, read_programs};
 use dbtg_command::{Fault, OrderKind, Source, read_schema, read_turns};
-use dbtg_going::{Around, ProgramRun, Reached, Standing, push_programs, run_programs, run_text};
+use dbtg_going::{
+    Around, ProgramRun, Reached, Standing, push_each_program, run_programs, run_text,
+};
 use dbtg_program::{End, Program};
 use dbtg_replay::replay::{AnswerForm, Shown, check_count, push_given};
 use dbtg_schema::{Row, Schema};
@@ -90,7 +92,7 @@ fn text_with_statements(
         texts: made.as_slice(),
     };
     push_given(alloc, &mut out, schema, shown, &given.run)?;
-    push_programs(&mut out, list, given.programs.as_slice())?;
+    push_each_program(&mut out, list, given.programs.as_slice())?;
     Ok(out)
 }
 

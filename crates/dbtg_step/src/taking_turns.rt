@@ -106,7 +106,7 @@ fn is_done(runner: &UnitState, left: usize) -> bool
 
 // One turn of a unit, step by step; nothing if there is no such unit, or its script is at its end. No other unit holds
 // anything, so the unit never waits, and its steps come to an end.
-fn take_turn(
+fn take_one_turn(
     alloc: Global,
     schema: &Schema,
     capacity: u16,
@@ -152,7 +152,7 @@ pub fn take_turns(
     ensures turned { OnOk result (HaveTurned (core_of schema.now capacity parts.old) turns.now (core_of schema.now capacity parts.new) noted.old noted.new) }
 {
     for unit in turns {
-        take_turn(alloc, schema, capacity, parts, *unit, noted)?;
+        take_one_turn(alloc, schema, capacity, parts, *unit, noted)?;
     }
     Ok(())
 }

@@ -71,8 +71,8 @@ area_left = 2 ∷ 0 ∷ 0 ∷ 0 ∷ 0 ∷ 0 ∷ 0 ∷ 0 ∷ 0 ∷ 0 ∷ 0 ∷ 0 
 takes_area : at_word (area_word main) (λ n. bit_or n (2 ^ 1)) free ≡ area_taken
 takes_area = refl
 
-takes_cells : at_word (cell_word about 8) (λ _. 2) (at_word (cell_word about 5) (λ _. 2) (at_word (cell_word about 2) (λ _. 2) area_taken)) ≡ cells_taken
-takes_cells = refl
+taken_cell_words : at_word (cell_word about 8) (λ _. 2) (at_word (cell_word about 5) (λ _. 2) (at_word (cell_word about 2) (λ _. 2) area_taken)) ≡ cells_taken
+taken_cell_words = refl
 
 draws_ticket : at_word 0 (λ n. (n + 1) % 2 ^ 64) cells_taken ≡ ticket_drawn
 draws_ticket = refl

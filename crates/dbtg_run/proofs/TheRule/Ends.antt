@@ -148,8 +148,8 @@ module _ (about : About) where
   joins id other m ms s K at ne there = record { sound = K.sound; few = K.few; all = K.all; seats = unites about K.all s.views K.seats id other m ms at ne there; worded = K.worded }
 
   -- the seat with all units learns the history
-  pub learns : (id slots : ℕ) (ms : List SeatUnit) (c : List (ℕ × Option Cell)) → Allows (LatchRule about) slots id (record { live = true; about = about; members = ms }, c) 0 (λ n. n) (Learns (step slots 0 0 0 none) (record { live = true; about = about; members = ms }, c))
-  learns id slots ms c s K deep at bound = (record { live = true; about = about; members = ms }, keeps, tt, same, (refl, λ _. (few, whole)))
+  pub seat_learns : (id slots : ℕ) (ms : List SeatUnit) (c : List (ℕ × Option Cell)) → Allows (LatchRule about) slots id (record { live = true; about = about; members = ms }, c) 0 (λ n. n) (Learns (step slots 0 0 0 none) (record { live = true; about = about; members = ms }, c))
+  seat_learns id slots ms c s K deep at bound = (record { live = true; about = about; members = ms }, keeps, tt, same, (refl, λ _. (few, whole)))
     where
       same : LatchRule about (stepped s 0 (get_or s.words 0 0) id c (record { live = true; about = about; members = ms }) keeps)
       same = subst (LatchRule about) (λ j. record { words = sym (set-get_or s.words 0 0) j; homes = s.homes; views = sym (set_again s.views id (record { live = true; about = about; members = ms }) at) j }) K

@@ -175,12 +175,12 @@ module _ (about : About) (s : State (Option Cell) SeatKnowledge) (K : LatchRule 
   }
 
 -- kind 4
-pub draws : (about : About) (id : ℕ) (m : SeatUnit) (slots : ℕ) (rest : List (ℕ × Option Cell)) (x : Statement) (g : List (Option Owner)) (answer : Answer) (unit' : Unit) (held' : List (CellName × Cell)) → fits about.schema.value x ≡ true
+pub whole_draw : (about : About) (id : ℕ) (m : SeatUnit) (slots : ℕ) (rest : List (ℕ × Option Cell)) (x : Statement) (g : List (Option Owner)) (answer : Answer) (unit' : Unit) (held' : List (CellName × Cell)) → fits about.schema.value x ≡ true
     → ((db : Database) → Agrees about.schema.value about.capacity db (hands_of m) m.unit → Ready ≡ need about.schema.value about.capacity db m.unit (record { areas = m.areas; cells = m.held; guesses = g }) x)
     → ((db : Database) → Agrees about.schema.value about.capacity db (hands_of m) m.unit → Comes about m x answer unit' held' db)
     → length m.journal < MOST_STATEMENTS
     → Allows (LatchRule about) slots id (lone about m, rest) 0 (λ n. (n + 1) % 2 ^ 64) (Draws x answer unit' held' (step slots 0 1 0 none) (lone about m, rest))
-draws about id m slots rest x g answer unit' held' fit ready comes room s K deep at bound = (
+whole_draw about id m slots rest x g answer unit' held' fit ready comes room s K deep at bound = (
   lone about (drawn (entry (get_or s.words 0 0) (suc m.place) x answer) unit' held' m),
   keeps,
   tt,

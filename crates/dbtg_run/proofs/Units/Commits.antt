@@ -45,7 +45,7 @@ use Rattle.dbtg_run.specs.Posed.{IsOurs}
 use Rattle.dbtg_run.specs.Drawn.{IsDone}
 use Rattle.dbtg_run.specs.Inside.Drawn.{cells_after}
 use Rattle.dbtg_run.proofs.TheRule.Facts.{shown_bare, values_bared}
-use Rattle.dbtg_run.proofs.TheRule.Tickets.{Comes, draws}
+use Rattle.dbtg_run.proofs.TheRule.Tickets.{Comes, whole_draw}
 use Rattle.dbtg_run.proofs.Units.Uses.{need_bared, real_bared}
 
 -- CELLS AFTER A PLAN
@@ -146,7 +146,7 @@ module _ (about : About) (unit : Unit) (journal : List Entry) (exclusive : Bool)
       → Allows (LatchRule key) slots id me 0 (λ n. (n + 1) % 2 ^ 64) (Draws picked answer unit' held' (step slots 0 1 0 none) me)
   draws_as key id slots me picked answer unit' held' known is p a u h fit ready room =
       subst (λ (t : About × (Sat × Statement)). Allows (LatchRule t.0) slots id t.1.0 0 (λ n. (n + 1) % 2 ^ 64) (Draws t.1.1 answer unit' held' (step slots 0 1 0 none) t.1.0)) (λ i. (sym known i, (sym is i, sym p i)))
-      (draws about id m slots (empty_slots about hands.cells) x hands.guesses answer unit' held' fit
+      (whole_draw about id m slots (empty_slots about hands.cells) x hands.guesses answer unit' held' fit
       (λ db agrees. sym (ready db (in_hand db agrees)) ∙ need_bared about.schema.value about.capacity db unit x hands)
       (comes answer unit' held' a u h) room)
 

@@ -69,8 +69,8 @@ second (both f g) = g
 second f = f
 
 -- the role of the first word
-pub leads : (r : Role) (k : Kind) (g : Form) (ws : List Labelled) → Derives fits (both (one k r) g) ws → lead ws ≡ r
-leads r k g ws d = ap lead (d.2 ∙ ap (λ (z : List Labelled). z ++ d.1) d.3.1)
+pub lead_of_derived : (r : Role) (k : Kind) (g : Form) (ws : List Labelled) → Derives fits (both (one k r) g) ws → lead ws ≡ r
+lead_of_derived r k g ws d = ap lead (d.2 ∙ ap (λ (z : List Labelled). z ++ d.1) d.3.1)
 
 -- THE LAST WORD WITH A ROLE
 

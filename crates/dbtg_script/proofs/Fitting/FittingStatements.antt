@@ -27,7 +27,7 @@ use Rattle.dbtg_script.specs.StatementGrammar.{Labelled, assignment, closing, de
 use Rattle.dbtg_script.specs.Statements.{change_of, line_statement, prepend, script, statement_by, statement_of, statements_of}
 use Rattle.dbtg_script.specs.Tokens.{Token, tokens}
 use Rattle.dbtg_script.proofs.Reading.Accepted.{derived_line, none_rest}
-use Rattle.dbtg_script.proofs.Fitting.Derivations.{lacking, leads, second, named_last}
+use Rattle.dbtg_script.proofs.Fitting.Derivations.{lacking, lead_of_derived, second, named_last}
 use Rattle.dbtg_script.proofs.Fitting.FittingFinds.{find_fits}
 use Rattle.dbtg_script.proofs.Fitting.FittingItems.{bits_fit, changes_differ, changes_fit, items_known, stored_fit}
 use Rattle.dbtg_script.proofs.Fitting.FittingNames.{Clean, EachSaid, area_is, clean, not_when, set_is, type_is}
@@ -63,24 +63,24 @@ module _ (schema : Lists) (sound : IsSound schema) (ws : List Labelled) (c : Cle
   get_fits = elim (has role.TypeName ws) as (λ b. if_named (is_type schema) (cond b (Some (type_in schema ws)) None) ≡ true) [ true ↦ type_is schema sound.limits (type_text ws) | false ↦ refl ]
 
   by_statement : Derives fits statement ws → statement_fits schema (statement_of schema ws) ≡ true
-  by_statement (inl d) = ap (λ r. statement_fits schema (statement_by schema ws r)) (leads role.Open (key (codes "OPEN")) (second opening) ws d) ∙ area_is schema sound.limits (named role.AreaName ws)
-  by_statement (inr (inl d)) = ap (λ r. statement_fits schema (statement_by schema ws r)) (leads role.Close (key (codes "CLOSE")) (second closing) ws d) ∙ area_is schema sound.limits (named role.AreaName ws)
+  by_statement (inl d) = ap (λ r. statement_fits schema (statement_by schema ws r)) (lead_of_derived role.Open (key (codes "OPEN")) (second opening) ws d) ∙ area_is schema sound.limits (named role.AreaName ws)
+  by_statement (inr (inl d)) = ap (λ r. statement_fits schema (statement_by schema ws r)) (lead_of_derived role.Close (key (codes "CLOSE")) (second closing) ws d) ∙ area_is schema sound.limits (named role.AreaName ws)
   by_statement (inr (inr (inl d))) =
-      ap (λ r. statement_fits schema (statement_by schema ws r)) (leads role.Find (key (codes "FIND")) (second find) ws d) ∙ (λ i. find_fits schema sound ws c s d i && bits_fit ws schema.sets i)
-  by_statement (inr (inr (inr (inl d)))) = ap (λ r. statement_fits schema (statement_by schema ws r)) (leads role.Get (key (codes "GET")) (second getting) ws d) ∙ get_fits
+      ap (λ r. statement_fits schema (statement_by schema ws r)) (lead_of_derived role.Find (key (codes "FIND")) (second find) ws d) ∙ (λ i. find_fits schema sound ws c s d i && bits_fit ws schema.sets i)
+  by_statement (inr (inr (inr (inl d)))) = ap (λ r. statement_fits schema (statement_by schema ws r)) (lead_of_derived role.Get (key (codes "GET")) (second getting) ws d) ∙ get_fits
   by_statement (inr (inr (inr (inr (inl d))))) =
-      ap (λ r. statement_fits schema (statement_by schema ws r)) (leads role.Store (key (codes "STORE")) (second storing) ws d)
+      ap (λ r. statement_fits schema (statement_by schema ws r)) (lead_of_derived role.Store (key (codes "STORE")) (second storing) ws d)
       ∙ (λ i. (type_is schema sound.limits (type_text ws) i && stored_fit ws (item_list schema (type_in schema ws)) s i) && bits_fit ws schema.sets i)
   by_statement (inr (inr (inr (inr (inr (inl d)))))) =
-      ap (λ r. statement_fits schema (statement_by schema ws r)) (leads role.Insert (key (codes "INSERT")) (second inserting) ws d)
+      ap (λ r. statement_fits schema (statement_by schema ws r)) (lead_of_derived role.Insert (key (codes "INSERT")) (second inserting) ws d)
       ∙ set_of role.Insert role.Plain d.3.0 d.4.3.0 d.4.4.0 (d.2 ∙ (λ i. d.3.1 i ++ (d.4.2 ∙ (λ j. d.4.3.1 j ++ d.4.4.1 j)) i))
   by_statement (inr (inr (inr (inr (inr (inr (inl d))))))) =
-      ap (λ r. statement_fits schema (statement_by schema ws r)) (leads role.Remove (key (codes "REMOVE")) (second removing) ws d)
+      ap (λ r. statement_fits schema (statement_by schema ws r)) (lead_of_derived role.Remove (key (codes "REMOVE")) (second removing) ws d)
       ∙ set_of role.Remove role.Plain d.3.0 d.4.3.0 d.4.4.0 (d.2 ∙ (λ i. d.3.1 i ++ (d.4.2 ∙ (λ j. d.4.3.1 j ++ d.4.4.1 j)) i))
-  by_statement (inr (inr (inr (inr (inr (inr (inr (inl d)))))))) = ap (λ r. statement_fits schema (statement_by schema ws r)) (leads role.Modify (key (codes "MODIFY")) (second modifying) ws d) ∙ modify_fits d
-  by_statement (inr (inr (inr (inr (inr (inr (inr (inr (inl d))))))))) = ap (λ r. statement_fits schema (statement_by schema ws r)) (leads role.Delete (key (codes "DELETE")) (second deleting) ws d)
+  by_statement (inr (inr (inr (inr (inr (inr (inr (inl d)))))))) = ap (λ r. statement_fits schema (statement_by schema ws r)) (lead_of_derived role.Modify (key (codes "MODIFY")) (second modifying) ws d) ∙ modify_fits d
+  by_statement (inr (inr (inr (inr (inr (inr (inr (inr (inl d))))))))) = ap (λ r. statement_fits schema (statement_by schema ws r)) (lead_of_derived role.Delete (key (codes "DELETE")) (second deleting) ws d)
   by_statement (inr (inr (inr (inr (inr (inr (inr (inr (inr (inl d)))))))))) = ap (λ r. statement_fits schema (statement_by schema ws r)) (ap lead d.1)
-  by_statement (inr (inr (inr (inr (inr (inr (inr (inr (inr (inr d)))))))))) = ap (λ r. statement_fits schema (statement_by schema ws r)) (leads role.Free (key (codes "FREE")) (second freeing) ws d)
+  by_statement (inr (inr (inr (inr (inr (inr (inr (inr (inr (inr d)))))))))) = ap (λ r. statement_fits schema (statement_by schema ws r)) (lead_of_derived role.Free (key (codes "FREE")) (second freeing) ws d)
 
 -- the statement of a line without faults fits
 line_fits : (schema : Lists) → IsSound schema → (line : List ℕ) → is_allowed line ≡ true → first (statement_faults schema line) ≡ None → statement_fits schema (statement_of schema (labels fits statement (tokens false line))) ≡ true

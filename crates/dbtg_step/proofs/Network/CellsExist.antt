@@ -265,7 +265,7 @@ module _ (schema : Lists) (capacity : ℕ) (sound : IsSound schema) (db : Databa
   -- the rings of a STORE
   store_rings_exist : (k : DbKey) → is_number capacity k.number ≡ true → all_exist schema capacity (store_rings schema unit k) ≡ true
   store_rings_exist k number =
-      all_flat (is_cell schema capacity) _ (set_numbers schema) (λ s i. all_join (is_cell schema capacity) (current s) (own s) (current_exist s) (own_exist s))
+      all_flat (is_cell schema capacity) _ (set_numbers schema) (λ s i. all_join (is_cell schema capacity) (current s) (own s) (all_currents_exist s) (own_exist s))
     where
       current : ℕ → List CellName
       current s = if list_any (λ s'. s' == s) (automatic_sets schema k.rtype) then ring_names s (current_owner schema unit s) else []
@@ -273,8 +273,8 @@ module _ (schema : Lists) (capacity : ℕ) (sound : IsSound schema) (db : Databa
       own : ℕ → List CellName
       own s = if owns schema s k.rtype then Ring s (Some (k.rtype, k.number)) ∷ [] else []
 
-      current_exist : (s : ℕ) → all_exist schema capacity (current s) ≡ true
-      current_exist s = cond_both (list_any (λ s'. s' == s) (automatic_sets schema k.rtype)) _ _ (λ cs. all_exist schema capacity cs ≡ true) (λ e. current_ring_exists s) (λ e. refl)
+      all_currents_exist : (s : ℕ) → all_exist schema capacity (current s) ≡ true
+      all_currents_exist s = cond_both (list_any (λ s'. s' == s) (automatic_sets schema k.rtype)) _ _ (λ cs. all_exist schema capacity cs ≡ true) (λ e. current_ring_exists s) (λ e. refl)
 
       own_exist : (s : ℕ) → all_exist schema capacity (own s) ≡ true
       own_exist s = cond_both (owns schema s k.rtype) _ _ (λ cs. all_exist schema capacity cs ≡ true) (λ e. and_from _ _ (and_from _ _ e number) refl) (λ e. refl)

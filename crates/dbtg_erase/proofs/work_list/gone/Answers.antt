@@ -16,8 +16,8 @@ loop-place-preserved c =
     let taken = taken_in c.args.schema.now c.args.held.now c.args.option in
     let most = most_gone c.args.schema.now c.args.capacity in
     let at : slice_get c.loop-place.gone c.loop-place.place ≡ Some d = sym c.get.ensures ∙ c.in-Some.is in
-    let brings : c.bring.new.gone ≡ with_those c.loop-place.gone (taken d) = c.in_ok-bring-in-Some.ensures in
+    let brings_doomed : c.bring.new.gone ≡ with_those c.loop-place.gone (taken d) = c.in_ok-bring-in-Some.ensures in
     let below : c.loop-place.place < most = subst (λ n. c.loop-place.place < n) c.most_gone-most.ensures c.loop-place-test.true in
-    ap (λ gone. brought taken (most - (c.loop-place.place + 1)) (c.loop-place.place + 1) gone) brings
+    ap (λ gone. brought taken (most - (c.loop-place.place + 1)) (c.loop-place.place + 1) gone) brings_doomed
     ∙ sym (brought_next taken most c.loop-place.place c.loop-place.gone d below at)
     ∙ c.loop-place.invariant

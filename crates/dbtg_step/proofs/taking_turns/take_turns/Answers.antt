@@ -14,8 +14,8 @@ pub loop-unit-preserved : goal.loop-unit-preserved
 loop-unit-preserved c =
     let old = core_of c.args.schema.now c.args.capacity c.args.parts.now in
     let mid = core_of c.args.schema.now c.args.capacity c.loop-unit.parts in
-    let new = core_of c.args.schema.now c.args.capacity c.take_turn.new.parts in
+    let new = core_of c.args.schema.now c.args.capacity c.take_one_turn.new.parts in
     record {
       well = c.in_ok-take_turn.ensures.well;
-      turned = turned_next c.args.turns.now c.loop-unit.unit-index _ (omega (arith, c.loop-unit-test.true)) old mid new c.args.noted.now c.loop-unit.noted c.take_turn.new.noted c.loop-unit.invariant.turned c.in_ok-take_turn.ensures.turned;
+      turned = turned_next c.args.turns.now c.loop-unit.unit-index _ (omega (arith, c.loop-unit-test.true)) old mid new c.args.noted.now c.loop-unit.noted c.take_one_turn.new.noted c.loop-unit.invariant.turned c.in_ok-take_turn.ensures.turned;
     }

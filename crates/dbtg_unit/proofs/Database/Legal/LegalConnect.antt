@@ -46,7 +46,7 @@ place_owner (Some q) h = owner_eq_refl q.owner
 -- what the checks of a placing have passed: the current owner's list is there, and has no equal key where it refuses them
 pub record CanJoin (schema : Lists) (db : Database) (unit : Unit) (s : ℕ) (key : Option Value) : Type 0 where
   pub list : (o : Owner) → is_current_owner schema unit s o ≡ true → is_some (db.lists s o) ≡ true
-  pub differs : (o : Owner) → is_current_owner schema unit s o ≡ true → (refuses_equal (order_of schema s) && list_any (λ x. option_value_eq (sort_key schema db s x) key) (members_of db s o)) ≡ false
+  pub owner_differs : (o : Owner) → is_current_owner schema unit s o ≡ true → (refuses_equal (order_of schema s) && list_any (λ x. option_value_eq (sort_key schema db s x) key) (members_of db s o)) ≡ false
 
 module _ (schema : Lists) (db : Database) (unit : Unit) (s : ℕ) (key : Option Value) where
   abbrev current_place : Place
@@ -65,7 +65,7 @@ module _ (schema : Lists) (db : Database) (unit : Unit) (s : ℕ) (key : Option 
       let free = first_check_passes taken [] found.1 in
       record {
         list = λ o c. subst (λ (p : Owner). is_some (db.lists s p) ≡ true) (owner_of_place (place_in schema unit s) o c) (some_from_none (db.lists s current_place.owner) present.0);
-        differs = λ o c. subst (λ (p : Owner). (refuses_equal (order_of schema s) && list_any (λ x. option_value_eq (sort_key schema db s x) key) (members_of db s p)) ≡ false) (owner_of_place (place_in schema unit s) o c) free.0;
+        owner_differs = λ o c. subst (λ (p : Owner). (refuses_equal (order_of schema s) && list_any (λ x. option_value_eq (sort_key schema db s x) key) (members_of db s p)) ≡ false) (owner_of_place (place_in schema unit s) o c) free.0;
       }
 
 module _ (schema : Lists) (unit : Unit) (sets : List ℕ) (live : Living) (items : Items) (lists : Rows) (m : DbKey) where
@@ -82,9 +82,9 @@ module _ (schema : Lists) (unit : Unit) (sets : List ℕ) (live : Living) (items
       → ((s : ℕ) (o : Owner) → has_number s sets ≡ true → is_member m (members_in lists s o) ≡ false)
       → ((s : ℕ) (o : Owner) → joins s o ≡ true → (refuses_equal (order_of schema s) && list_any (λ x. option_value_eq (key_in schema items s x) (key_in schema items s m)) (members_in lists s o)) ≡ false)
       → Rings schema live items (with_placed schema live items lists m joins spot_in)
-  connected_rings good typed rings alive clause absent differs =
+  connected_rings good typed rings alive clause absent owner_differs =
       rings_placed schema live items lists m joins (λ s. option_and_then (λ place. place.at) (place_in schema unit s)) good typed rings alive
       (λ s o j. clause s (and_parts _ _ j).0)
       (λ s o p j. absent s p (and_parts _ _ j).0)
       (λ s o p j k. current_owner_is (place_in schema unit s) o p (and_parts _ _ j).1 (and_parts _ _ k).1)
-      differs
+      owner_differs

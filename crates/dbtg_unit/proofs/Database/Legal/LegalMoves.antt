@@ -36,7 +36,7 @@ module _ (schema : Lists) (capacity : ℕ) (db : Database) (unit : Unit) (s : �
             (λ t h. subst (λ r. is_some (member_clause schema r k.rtype) ≡ true) (alone s t h) clause)
             (λ t o h. subst (λ r. is_member k (members_of db r o) ≡ false) (alone s t h) (member_nowhere schema capacity db legal s k (none_is (owner_of schema capacity db s k) free) o))
             (λ t o j. let js = and_parts _ _ j in
-            subst (λ r. is_current_owner schema unit r o ≡ true → (refuses_equal (order_of schema r) && list_any (λ x. option_value_eq (sort_key schema db r x) (sort_key schema db r k)) (members_of db r o)) ≡ false) (alone s t js.0) (join.differs o) js.1);
+            subst (λ r. is_current_owner schema unit r o ≡ true → (refuses_equal (order_of schema r) && list_any (λ x. option_value_eq (sort_key schema db r x) (sort_key schema db r k)) (members_of db r o)) ≡ false) (alone s t js.0) (join.owner_differs o) js.1);
         fixed = λ t m alive fix. let r = sound.fixed t m alive fix in
             (r.0, member_with_placed schema (is_live db) (items_of db) db.lists k (joins schema unit (s ∷ []) (is_live db) (items_of db) db.lists k) (spot_in schema unit (s ∷ []) (is_live db) (items_of db) db.lists k) t r.0 m ∙ or_right _ _ r.1);
       })

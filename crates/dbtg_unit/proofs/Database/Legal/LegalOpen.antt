@@ -83,11 +83,11 @@ module _ (schema : Lists) (capacity : ℕ) (db : Database) (unit : Unit) (a : �
       legal_from schema capacity (opened mode) (sound_of schema capacity db legal)
       (record {
         no_area = λ b outside. cond-false (eqb b a) (db.usage b ++ (unit.number, mode) ∷ []) (db.usage b) (ne_eqb b a (λ e. omega arith)) ∙ legal.no_area b outside;
-        agrees = usage_after db.usage a unit.number mode legal.usage none free;
+        users_agree = usage_after db.usage a unit.number mode legal.usage none free;
       })
 
   pub open_agrees : (mode : Mode) → a < length unit.modes → mode_in (db.usage a) unit.number ≡ None → UsageAgrees db unit → UsageAgrees (opened mode) (record unit { modes = slice_set unit.modes a (Some mode) })
-  open_agrees mode low none agrees b =
+  open_agrees mode low none users_agree b =
       elim (cases_Bool (eqb b a)) [
         | inl h ↦
             let same = eqb-true b a h in
@@ -96,7 +96,7 @@ module _ (schema : Lists) (capacity : ℕ) (db : Database) (unit : Unit) (a : �
             ∙ sym (ap (at (slice_set unit.modes a (Some mode))) same ∙ get_or-set_same unit.modes a (Some mode) None low)
         | inr h ↦
             ap (λ c. mode_in (cond c (db.usage b ++ (unit.number, mode) ∷ []) (db.usage b)) unit.number) h
-            ∙ agrees b ∙ sym (get_or-set_other unit.modes a b (Some mode) None (eqb-false b a h))
+            ∙ users_agree b ∙ sym (get_or-set_other unit.modes a b (Some mode) None (eqb-false b a h))
       ]
 
   pub open_others : (mode : Mode) (number : ℕ) → (number ≡ unit.number → ⊥) → (b : ℕ) → mode_in ((opened mode).usage b) number ≡ mode_in (db.usage b) number
@@ -119,11 +119,11 @@ module _ (schema : Lists) (capacity : ℕ) (db : Database) (unit : Unit) (a : �
       legal_from schema capacity closed (sound_of schema capacity db legal)
       (record {
         no_area = λ b outside. cond_both (eqb b a) (left (db.usage b)) (db.usage b) (λ es. es ≡ []) (λ e. ap left (legal.no_area b outside)) (λ e. legal.no_area b outside);
-        agrees = λ b. cond_both (eqb b a) _ _ (λ es. pairwise agree es ≡ true) (λ e. pairwise_filter agree (λ e. not (eqb e.0 unit.number)) (db.usage b) (legal.usage b)) (λ e. legal.usage b);
+        users_agree = λ b. cond_both (eqb b a) _ _ (λ es. pairwise agree es ≡ true) (λ e. pairwise_filter agree (λ e. not (eqb e.0 unit.number)) (db.usage b) (legal.usage b)) (λ e. legal.usage b);
       })
 
   pub close_agrees : a < length unit.modes → UsageAgrees db unit → UsageAgrees closed (record unit { modes = slice_set unit.modes a None })
-  close_agrees low agrees b =
+  close_agrees low users_agree b =
       elim (cases_Bool (eqb b a)) [
         | inl h ↦
             ap (λ c. mode_in (cond c (left (db.usage b)) (db.usage b)) unit.number) h
@@ -131,7 +131,7 @@ module _ (schema : Lists) (capacity : ℕ) (db : Database) (unit : Unit) (a : �
             ∙ sym (ap (at (slice_set unit.modes a None)) (eqb-true b a h) ∙ get_or-set_same unit.modes a None None low)
         | inr h ↦
             ap (λ c. mode_in (cond c (left (db.usage b)) (db.usage b)) unit.number) h
-            ∙ agrees b ∙ sym (get_or-set_other unit.modes a b None None (eqb-false b a h))
+            ∙ users_agree b ∙ sym (get_or-set_other unit.modes a b None None (eqb-false b a h))
       ]
 
   pub close_others : (number : ℕ) → (number ≡ unit.number → ⊥) → (b : ℕ) → mode_in (closed.usage b) number ≡ mode_in (db.usage b) number

@@ -64,7 +64,7 @@ Fixed schema live lists = (s : ℕ) (m : DbKey) → live m ≡ true → is_fixed
 
 pub record Uses (schema : Lists) (usage : ℕ → List (ℕ × Mode)) : Type 0 where
   pub no_area : (a : ℕ) → length schema.areas ≤ a → usage a ≡ []
-  pub agrees : (a : ℕ) → pairwise agree (usage a) ≡ true
+  pub users_agree : (a : ℕ) → pairwise agree (usage a) ≡ true
 
 -- everything except that each record is in the lists that it can't leave
 pub record Sound (schema : Lists) (capacity : ℕ) (live : Living) (items : Items) (lists : Rows) (last : ℕ → ℕ → ℕ) : Type 0 where
@@ -92,7 +92,7 @@ module _ (schema : Lists) (capacity : ℕ) (db : Database) where
         sorted = sound.rings.sorted;
         calc = sound.stock.calc;
         mandatory_automatic = sound.fixed;
-        usage = uses.agrees;
+        usage = uses.users_agree;
       }
 
   pub sound_of : Legal schema capacity db → Sound schema capacity (is_live db) (items_of db) db.lists db.last
@@ -104,7 +104,7 @@ module _ (schema : Lists) (capacity : ℕ) (db : Database) where
       }
 
   pub uses_of : Legal schema capacity db → Uses schema db.usage
-  uses_of legal = record { no_area = legal.no_area; agrees = legal.usage }
+  uses_of legal = record { no_area = legal.no_area; users_agree = legal.usage }
 
 -- RAISED VERSIONS
 

@@ -206,7 +206,7 @@ module _ (schema : Lists) (capacity : ℕ) (db : Database) (t n : ℕ) (its : Li
         rings = connected_rings schema unit (automatic_sets schema t) (is_live after) (items_of after) after.lists k good stock.typed rings_after (live_new k (key_eq_refl k))
             (λ s h. some_clause (member_clause schema s t) (automatic_clause s h))
             (λ s o h. false_from_ne_true _ (λ g. false≢true (sym not_yet ∙ (legal.members s o k (was_member s o k g)).0)))
-            (λ s o j. let js = and_parts _ _ j in still_free (refuses_equal (order_of schema s)) _ _ (equal_was s o) ((join s js.0).differs o js.1));
+            (λ s o j. let js = and_parts _ _ j in still_free (refuses_equal (order_of schema s)) _ _ (equal_was s o) ((join s js.0).owner_differs o js.1));
         fixed = λ s m live fix. ⊎_elim
             (λ same. subst (λ (x : DbKey). (o : Owner) × (is_member x (members_in (connected_in schema after unit (automatic_sets schema t) k).lists s o) ≡ true)) (same_key k m same) (joined s (subst (λ (x : DbKey). is_fixed schema s x.rtype ≡ true) (sym (same_key k m same)) fix)))
             (λ old. let r = legal.mandatory_automatic s m old.1 fix in (r.0, member_in s r.0 m ∙ or_right _ _ (still_member s r.0 m r.1)))

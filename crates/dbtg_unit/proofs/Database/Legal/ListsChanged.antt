@@ -132,7 +132,7 @@ module _ (schema : Lists) (live : Living) (items : Items) (lists : Rows) (m : Db
       → ((s : ℕ) (o p : Owner) → into s o ≡ true → into s p ≡ true → o ≡ p)
       → ((s : ℕ) (o : Owner) → into s o ≡ true → (refuses_equal (order_of schema s) && has_equal (key_in schema items s) m (members_in lists s o)) ≡ false)
       → Rings schema live items (with_placed schema live items lists m into spot_at)
-  rings_placed good typed rings alive clause absent one differs =
+  rings_placed good typed rings alive clause absent one owner_differs =
       record {
         pairs = λ s o. kept s o ∙ rings.pairs s o;
         members = λ s o x h. ⊎_elim
@@ -173,4 +173,4 @@ module _ (schema : Lists) (live : Living) (items : Items) (lists : Rows) (m : Db
             (placing_keeps_order (positions s) (key_in schema items s) m (members_in lists s o) (absent s o o j) (order_of schema s)
             (all_members (λ x. compares (order_of schema s) (key_in schema items s x) (key_in schema items s m)) (members_in lists s o)
             (λ x h. let r = rings.members s o x h in keys_compare schema good s x.rtype m.rtype (items x) (items m) r.1 (clause s o j) (typed x r.0) (typed m alive)))
-            (differs s o j) (rings.sorted s o)).in_order
+            (owner_differs s o j) (rings.sorted s o)).in_order

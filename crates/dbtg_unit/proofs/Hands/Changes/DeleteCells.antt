@@ -178,8 +178,8 @@ module _ (schema : Lists) (capacity : ℕ) (db : Database) (unit : Unit) (option
       ∙ ap (edited_at c (slot_edit x RaiseVersion ∷ [])) (skips_map c _ (lost_sets schema (owner_of schema capacity db) turn x) (λ s. h) v)
       ∙ ap (λ b. cond b (edited RaiseVersion v) v) h
 
-  skips_losings : (c : CellName) → ((x : DbKey) → In x left → name_eq c (slot_name x) ≡ false) → Skips c losings
-  skips_losings c h = skips_flat c (losing_edits schema (owner_of schema capacity db) turn) left (λ x i. skips_losing c x (h x i))
+  skips_each_losing : (c : CellName) → ((x : DbKey) → In x left → name_eq c (slot_name x) ≡ false) → Skips c losings
+  skips_each_losing c h = skips_flat c (losing_edits schema (owner_of schema capacity db) turn) left (λ x i. skips_losing c x (h x i))
 
   -- THE CELLS
 
@@ -189,7 +189,7 @@ module _ (schema : Lists) (capacity : ℕ) (db : Database) (unit : Unit) (option
       let c = Usage a in
       let v = cell schema capacity db c in
       sym (in_parts c v
-      ∙ skips_losings c (λ x i. refl) _ ∙ skips_map c (λ d. slot_edit d Vacate) turn (λ d. refl) _ ∙ skips_closings c (λ s q. refl) _ ∙ skips_leavings c (λ s q. refl) _
+      ∙ skips_each_losing c (λ x i. refl) _ ∙ skips_map c (λ d. slot_edit d Vacate) turn (λ d. refl) _ ∙ skips_closings c (λ s q. refl) _ ∙ skips_leavings c (λ s q. refl) _
       ∙ skips_map c leave_number turn (λ d. refl) v)
 
   gone_record : (x : DbKey) → is_member x doom ≡ true → new.records x ≡ None
@@ -203,7 +203,7 @@ module _ (schema : Lists) (capacity : ℕ) (db : Database) (unit : Unit) (option
       let c = Extent t in
       ap ExtentValue (map_range_same (number_of schema new t) (λ n. cond (list_any (is_of_number t n) turn) (vacated (number_of schema db t n)) (number_of schema db t n)) 1 capacity (λ n low. number_is n))
       ∙ sym (in_parts c (cell schema capacity db c)
-      ∙ skips_losings c (λ x i. refl) _ ∙ skips_map c (λ d. slot_edit d Vacate) turn (λ d. refl) _ ∙ skips_closings c (λ s q. refl) _ ∙ skips_leavings c (λ s q. refl) _
+      ∙ skips_each_losing c (λ x i. refl) _ ∙ skips_map c (λ d. slot_edit d Vacate) turn (λ d. refl) _ ∙ skips_closings c (λ s q. refl) _ ∙ skips_leavings c (λ s q. refl) _
       ∙ numbers_left t capacity turn (number_of schema db t) (λ d i. let facts = legal.keys d (goes_live d i) in let positive = facts.1 in omega arith)) where
         number_is : (n : ℕ) → number_of schema new t n ≡ cond (list_any (is_of_number t n) turn) (vacated (number_of schema db t n)) (number_of schema db t n)
         number_is n =
@@ -276,7 +276,7 @@ module _ (schema : Lists) (capacity : ℕ) (db : Database) (unit : Unit) (option
     unfolding cell
     after_edits =
         in_parts here (cell schema capacity db here)
-        ∙ skips_losings here (λ x i. refl) _ ∙ skips_map here (λ d. slot_edit d Vacate) turn (λ d. refl) _
+        ∙ skips_each_losing here (λ x i. refl) _ ∙ skips_map here (λ d. slot_edit d Vacate) turn (λ d. refl) _
         ∙ ap (λ v. edited_at here closings (edited_at here leavings v)) (skips_map here leave_number turn (λ d. refl) (cell schema capacity db here))
         ∙ ap (edited_at here closings) (thins (option_map (ring_of schema db s holder) (db.lists s holder)))
         ∙ closes (option_map (with_members (filter (λ m. not (out m.0)))) (option_map (ring_of schema db s holder) (db.lists s holder)))
@@ -421,7 +421,7 @@ module _ (schema : Lists) (capacity : ℕ) (db : Database) (unit : Unit) (option
       other_slot y i other = false_from_ne_true _ (λ h. false≢true (sym other ∙ ap (key_eq x) (sym (is_at t n y (left_live y (in_member y left i)) h)) ∙ key_eq_refl x))
 
       not_left : is_member x left ≡ false → Skips slot losings
-      not_left h = skips_losings slot (λ y i. other_slot y i (false_from_ne_true _ (λ same. false≢true (sym h ∙ ap (λ (z : DbKey). is_member z left) (same_key x y same) ∙ in_member y left i))))
+      not_left h = skips_each_losing slot (λ y i. other_slot y i (false_from_ne_true _ (λ same. false≢true (sym h ∙ ap (λ (z : DbKey). is_member z left) (same_key x y same) ∙ in_member y left i))))
 
       gone_slot : is_member x doom ≡ true → cell schema capacity new slot ≡ edited_at slot (delete_edits schema capacity db option k) (cell schema capacity db slot)
       unfolding cell

@@ -192,7 +192,7 @@ module _ (schema : Lists) (capacity : ℕ) (db : Database) (legal : Legal schema
   -- the rings of a STORE
   pub store_rings_lie : (unit : Unit) (k : DbKey) → list_all (lies_in schema (area_of schema k.rtype ∷ map (home schema) (automatic_sets schema k.rtype))) (store_rings schema unit k) ≡ true
   store_rings_lie unit k =
-      all_flat (lies_in schema areas) _ (set_numbers schema) (λ s i. all_join (lies_in schema areas) (current s) (own s) (current_lie s) (own_lie s))
+      all_flat (lies_in schema areas) _ (set_numbers schema) (λ s i. all_join (lies_in schema areas) (current s) (own s) (all_currents_lie s) (own_lie s))
     where
       areas : List ℕ
       areas = area_of schema k.rtype ∷ map (home schema) (automatic_sets schema k.rtype)
@@ -203,8 +203,8 @@ module _ (schema : Lists) (capacity : ℕ) (db : Database) (legal : Legal schema
       own : ℕ → List CellName
       own s = if owns schema s k.rtype then Ring s (Some (k.rtype, k.number)) ∷ [] else []
 
-      current_lie : (s : ℕ) → list_all (lies_in schema areas) (current s) ≡ true
-      current_lie s = cond_both (list_any (λ s'. s' == s) (automatic_sets schema k.rtype)) _ _ (λ cs. list_all (lies_in schema areas) cs ≡ true)
+      all_currents_lie : (s : ℕ) → list_all (lies_in schema areas) (current s) ≡ true
+      all_currents_lie s = cond_both (list_any (λ s'. s' == s) (automatic_sets schema k.rtype)) _ _ (λ cs. list_all (lies_in schema areas) cs ≡ true)
           (λ e.
           let a = any_element (λ s'. s' == s) (automatic_sets schema k.rtype) e in
           rings_lie schema areas s _ (or_right _ _ (subst (λ s'. is_among (map (home schema) (automatic_sets schema k.rtype)) (home schema s') ≡ true) (eqb-true a.0 s a.2) (among_mapped (home schema) a.0 _ a.1))))

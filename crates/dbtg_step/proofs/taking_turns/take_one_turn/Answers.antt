@@ -8,8 +8,8 @@ use Rattle.dbtg_step.proofs.TheCore.EventsShown.{no_unit}
 use Rattle.dbtg_step.proofs.TheCore.QuitShown.{stepped_well}
 use Rattle.dbtg_step.proofs.MadeWhole.TurnsTaken.{arrives, at_its_end, goes_on, not_there, sets_out, stays}
 use Rattle.dbtg_step.proofs.TheCore.Work.{not_blocked, not_idle, parts_less}
-use Rattle.dbtg_step.proofs.taking_turns.take_turn.Goals as goal
-use Rattle.dbtg_step.proofs.taking_turns.take_turn.Goals.{then-unit-eq0-via-then-unit-eq0, then-unit-eq0-via-else-unit-eq0+then-len-unit}
+use Rattle.dbtg_step.proofs.taking_turns.take_one_turn.Goals as goal
+use Rattle.dbtg_step.proofs.taking_turns.take_one_turn.Goals.{then-unit-eq0-via-then-unit-eq0, then-unit-eq0-via-else-unit-eq0+then-len-unit}
 
 pub returns-then-unit-eq0-clause-turned : goal.returns-then-unit-eq0-clause-turned
 returns-then-unit-eq0-clause-turned c =
