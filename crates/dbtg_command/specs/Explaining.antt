@@ -1,6 +1,6 @@
 -- What `explain` says: the rows of the tables, put into forms. A table has a row on each line, a row has fields separated by bars, and the
 -- first field is the row's code.
-use Rattle.std.specs.Prelude.{ℕ, ◌≡◌, ◌==◌, ◌&&◌, nat_le, ◌%◌, ◌-◌, List, [], ◌∷◌, ◌++◌, Option, Some, None, find, length, option_and_then, option_map, slice_get, unwrap_or, codes, if◌then◌else◌}
+use Rattle.std.specs.Prelude.{ℕ, ◌≡◌, ◌==◌, ◌&&◌, nat_le, nat_lt, ◌%◌, ◌-◌, List, [], ◌∷◌, ◌++◌, Option, Some, None, find, length, option_and_then, option_map, slice_get, unwrap_or, codes, if◌then◌else◌}
 use Rattle.std.specs.List.{flat_map}
 use Rattle.std.specs.Str.{bytes_eq}
 use Rattle.dbtg_schema.specs.Texts.Spelling.{is_digit}
@@ -70,13 +70,22 @@ IsStatus code (Some Done) = code ≡ 0
 IsStatus code (Some (Status status cause)) = (status_rows code ≡ Some (status.now, cause.now)) × (code ≡ 0 → ⊥)
 IsStatus code (Some (Fault which fault)) = ⊥
 
--- the topic has the row of the fault of this kind and number
+-- the kind of text whose faults list the one with this number: programs and traces have those of scripts too, below 21
+abbrev pub kind_listing : Kind → ℕ → Kind
+kind_listing kind.Schema number = kind.Schema
+kind_listing kind.Script number = kind.Script
+kind_listing kind.Program number = if nat_lt number 21 then kind.Script else kind.Program
+kind_listing kind.Moves number = kind.Moves
+kind_listing kind.Turns number = kind.Turns
+kind_listing kind.Trace number = if nat_lt number 21 then kind.Script else kind.Trace
+
+-- the topic has the row of the fault with this number, of the kind of text that lists it
 abbrev pub IsFault : Kind → ℕ → Option Topic → Type 0
-IsFault which number None = row_of number (faults_of which) ≡ None
+IsFault which number None = row_of number (faults_of (kind_listing which number)) ≡ None
 IsFault which number (Some All) = ⊥
 IsFault which number (Some Done) = ⊥
 IsFault which number (Some (Status status cause)) = ⊥
-IsFault which number (Some (Fault kind fault)) = (kind ≡ which) × (row_of number (faults_of which) ≡ Some fault.now)
+IsFault which number (Some (Fault kind fault)) = (kind ≡ kind_listing which number) × (row_of number (faults_of (kind_listing which number)) ≡ Some fault.now)
 
 -- the kind that a word says
 abbrev pub kind_in : List ℕ → Option Kind

@@ -90,7 +90,7 @@ fn explain_command<'a>(alloc: Global, name: &'a str) -> Result<Command<'a>, Allo
         alloc,
         name,
         "Says what a status or a fault means, when it comes and what to do next",
-        "Examples: dbtg explain 0505, dbtg explain schema 7\nFaults have numbers: schema 1 to 18, script 1 to 14, program 21 to 27, moves 1 to 2, turns 1 to 2, trace 31 to 33",
+        "Examples: dbtg explain 0505, dbtg explain schema 7\nFaults have numbers: schema 1 to 18, script 1 to 14, program 1 to 14 and 21 to 27, moves 1 to 2, turns 1 to 2, trace 1 to 14 and 31 to 33",
         &[Word::Topic],
     )?
     .override_usage(

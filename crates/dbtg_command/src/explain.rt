@@ -14,6 +14,7 @@ ghost use Rattle.dbtg_command.specs.Explaining.{
   fault_text,
   faults_of,
   kind_in,
+  kind_listing,
   kind_row,
   line_text,
   number_in,
@@ -112,10 +113,21 @@ fn faults_of(kind: Kind) -> &'static str
     }
 }
 
-/// The fault with this number.
+/// The kind of text whose faults list the one with this number: programs and traces have those of scripts too, below 21.
+fn kind_listing(kind: Kind, number: u16) -> Kind
+    ensures { result ≡ kind_listing kind number }
+{
+    match kind {
+        Kind::Program | Kind::Trace => { if number < 21 { Kind::Script } else { kind } }
+        Kind::Schema | Kind::Script | Kind::Moves | Kind::Turns => kind,
+    }
+}
+
+/// The fault with this number, of the kind of text that lists it.
 pub fn fault_topic(kind: Kind, number: u16) -> Option<Topic>
     ensures { IsFault kind number result }
 {
+    let kind = kind_listing(kind, number);
     let fault = row_with(faults_of(kind), number)?;
     Some(Topic::Fault { kind, fault })
 }
