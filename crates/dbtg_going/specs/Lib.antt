@@ -1,4 +1,5 @@
 pub mod Turns
 pub mod Goings
 pub mod Texts
+pub mod Spelled
 pub mod Inside

@@ -4,9 +4,11 @@
 mod around;
 mod going;
 mod member;
+mod spelled;
 mod text;
 
 pub use around::Around;
 pub use going::{ProgramRun, programs_after, run_programs};
 pub use member::{Going, Member, Reached, Standing};
-pub use text::{push_each_program, push_end, run_text};
+pub use spelled::{lines_of, push_spelled};
+pub use text::{push_each_program, push_end, push_program, run_text};

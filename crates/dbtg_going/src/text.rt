@@ -57,8 +57,8 @@ fn behind<T>(all: &[T], count: usize) -> &[T]
     &all[count.min(all.len())..]
 }
 
-// The line of a program.
-fn push_program(
+/// Appends the line of a program.
+pub fn push_program(
     out: &mut Vec<u8>,
     unit: u64,
     program: &Program,

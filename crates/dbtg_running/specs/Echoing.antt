@@ -1,39 +1,16 @@
 -- The statements that units made, as the lines of their programs have them: a script for each unit.
 -- text and texts are bytes, u is the number of a unit; values says whether each field stands as the literal of its value.
-use Rattle.std.specs.Prelude.{ℕ, ◌+◌, ◌-◌, Bool, List, [], ◌∷◌, ◌++◌, map, Option, Some, None, if◌then◌else◌, option_map, slice_get, unwrap_or}
+use Rattle.std.specs.Prelude.{ℕ, ◌+◌, Bool, List, [], ◌∷◌, ◌++◌}
 use Rattle.dbtg_schema.specs.Lists.{Lists}
 use Rattle.dbtg_unit.specs.Database.Laws.Replay.{entries_of}
 use Rattle.dbtg_unit.specs.declared.statement.Statement.{Statement}
 use Rattle.dbtg_unit.specs.declared.unit.Entry.{Entry}
 use Rattle.dbtg_script.specs.Lines.{lines}
-use Rattle.dbtg_program.specs.declared.program.Line.{Line}
 use Rattle.dbtg_program.specs.declared.program.Program.{Program}
-use Rattle.dbtg_program.specs.declared.program.Sentence.{Sentence}
-use Rattle.dbtg_program.specs.declared.program.Sentence.TheVariants.{Filled}
-use Rattle.dbtg_program.specs.declared.program.Word.{Word}
 use Rattle.dbtg_program.specs.States.{ProgramState, beginning}
-use Rattle.dbtg_program.specs.Going.{Due, due, ended, line_at, line_number, next, said_word, told}
+use Rattle.dbtg_program.specs.Going.{Due, due, ended, next, told}
 use Rattle.dbtg_program.specs.Reading.{program}
-use Rattle.dbtg_program.specs.Spelling.{words_text}
-
--- the line with this number, from 1
-abbrev pub line_of : List (List ℕ) → ℕ → List ℕ
-line_of ls n = unwrap_or (slice_get ls (n - 1)) []
-
--- the words of a statement with fields
-abbrev pub filled_words : Sentence → Option (List Word)
-filled_words (Filled words) = Some words
-filled_words _ = None
-
--- those of the statement of a line
-abbrev pub words_with_fields : Option Line → Option (List Word)
-words_with_fields None = None
-words_with_fields (Some l) = filled_words l.sentence
-
--- a statement that is due, as it is spelled: as its line was written, or, with values, by its words if it has fields
-abbrev pub spelled : Bool → Program → List (List ℕ) → ProgramState → List ℕ
-spelled values program ls at =
-    unwrap_or (option_map (λ words. words_text (map (said_word at) words)) (if values then words_with_fields (line_at program at) else None)) (line_of ls (line_number program at))
+use Rattle.dbtg_going.specs.Spelled.{spelled}
 
 -- what is said if a statement is due; nothing at an end
 abbrev pub where_due : Due → (ProgramState → Statement → List ℕ) → List ℕ

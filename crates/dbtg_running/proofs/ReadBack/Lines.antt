@@ -41,7 +41,7 @@ use Rattle.dbtg_program.specs.States.{ProgramState, beginning_with}
 use Rattle.dbtg_program.specs.Values.{added, subtracted}
 use Rattle.dbtg_cells.specs.declared.key.Value.{Value}
 use Rattle.dbtg_trace.proofs.Public.{Clean, all_imply, none_after, none_in_front, not_so, not_where, shows}
-use Rattle.dbtg_running.specs.Echoing.{filled_words}
+use Rattle.dbtg_going.specs.Spelled.{filled_words}
 use Rattle.dbtg_running.proofs.ReadBack.Sentences.{no_signs, words_in_say}
 use Rattle.dbtg_running.proofs.ReadBack.Values.{Says, word_says, words_said}
 use Rattle.dbtg_running.proofs.ReadBack.Words.{clean_line, is_word, printed, words_of, text_shown, text_back}

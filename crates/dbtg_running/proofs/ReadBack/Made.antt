@@ -22,7 +22,8 @@ use Rattle.dbtg_program.specs.Spelling.{words_text}
 use Rattle.dbtg_program.specs.States.{ProgramState, beginning}
 use Rattle.dbtg_trace.specs.Laws.{IsSayable}
 use Rattle.dbtg_trace.proofs.Public.{Clean, none_after}
-use Rattle.dbtg_running.specs.Echoing.{filled_words, line_of, lines_made, spelled, where_due, words_with_fields}
+use Rattle.dbtg_going.specs.Spelled.{filled_words, line_of, spelled, words_with_fields}
+use Rattle.dbtg_running.specs.Echoing.{lines_made, where_due}
 use Rattle.dbtg_running.proofs.ReadBack.Lines.{IsFrom, IsSaid, from_line, sentence_line, spelled_as}
 use Rattle.dbtg_running.proofs.ReadBack.Sentences.{sentence_can}
 use Rattle.dbtg_running.proofs.ReadBack.Values.{Says, Stands, beginning_says, sentence_says, told_says, within_stands}

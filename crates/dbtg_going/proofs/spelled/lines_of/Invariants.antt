@@ -1,6 +1,6 @@
 use Rattle.std.proofs.Common.{◌≡◌, ◌++◌, length, map}
 use Rattle.dbtg_script.specs.Lines.{lines}
-use Rattle.dbtg_running.proofs.echo.lines_of.Given as goal
+use Rattle.dbtg_going.proofs.spelled.lines_of.Given as goal
 
 abbrev pub invariant-loop-line : goal.invariant-loop-line
 invariant-loop-line l = map (λ s. s.now) l.found.items ++ lines l.left.rest.now ≡ lines l.text
