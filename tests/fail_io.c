@@ -1,6 +1,6 @@
-// Loaded in front of the C library: the read with the number that FAIL_READ says, from 1, or the write to standard output that
-// FAIL_WRITE says, fails with the error that FAIL_ERROR says; with FAIL_SHORT each of them moves one byte. With FAIL_SYNC what was
-// written to a file cannot be written out.
+// Loaded before the C library. The read with the number FAIL_READ, from 1, or the write to standard output with the number FAIL_WRITE
+// fails with the error FAIL_ERROR; with FAIL_SHORT each of them moves one byte. With FAIL_SYNC what was written to a file cannot be
+// written out.
 #define _GNU_SOURCE
 #include <dlfcn.h>
 #include <errno.h>

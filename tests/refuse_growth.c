@@ -1,6 +1,6 @@
-// Loaded in front of the C library. It counts the growths of memory; the one with the number that REFUSE_AT says, from 1, finds no
-// memory, and with REFUSE_ON so do all behind it; with REFUSE_IN this is so in the program of that path alone. At the program's end the file that REFUSE_NOTE names says how many growths there
-// were, how many were refused, and how many blocks were not given back.
+// Loaded before the C library. It counts the growths of memory. The one with the number REFUSE_AT, from 1, finds no memory, and with
+// REFUSE_ON neither do all after it; with REFUSE_IN only in the program of that path. At the program's end the file REFUSE_NOTE says how
+// many growths there were, how many were refused, and how many blocks were not given back.
 #define _GNU_SOURCE
 #include <dlfcn.h>
 #include <errno.h>

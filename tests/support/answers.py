@@ -1,5 +1,5 @@
-"""How the program must answer a text of any bytes, to the byte: by the model of docs/profile (examples/model), which is written from the
-pages alone. It says which fault a text has, and what is printed of one that has none."""
+"""How the program must answer any text, to the byte, by the model of docs/profile (examples/model), which is written from the pages alone:
+which fault the text has, or what is printed if it has none."""
 
 import functools
 import os

@@ -1,10 +1,9 @@
-"""Edits of a crate: wrong bodies, each a file of lines that says what is put in the place of what.
-
-`file: PATH` names a file of src/, `in: FUNCTION` a function of it (`name` or `Type::name`), and pairs `old: TEXT` and `new: TEXT` say
-what changes: each old text stands exactly once in the file, or in the function that is named. An edit that changes more than bodies of
-functions says in `refused: PATH` which of the functions that it changes has to be refused, as a check names it below the crate. One that
-tests/edits/NAMED lists and that the prover finds no values against names in `test: NAME` a test that fails with the edit in it. One that
-no contract can refuse says why in `unseen: WHY`, and names such a test too; it is not checked."""
+"""Edits of a crate: wrong bodies, each a file of lines that says which text replaces which.
+`file: PATH` names a file of src/, `in: FUNCTION` a function of it (`name` or `Type::name`), and pairs `old: TEXT` and `new: TEXT` say what
+changes: each old text occurs exactly once in the file, or in the function that is named. An edit that changes more than bodies of functions
+says in `refused: PATH` which of the functions that it changes has to be refused, as a check names it below the crate. An edit that
+tests/edits/NAMED lists and against which the prover finds no values names in `test: NAME` a test that fails with the edit in it. An edit
+that no contract can refuse says why in `unseen: WHY`, and names such a test too; it is not checked."""
 
 import os
 import re

@@ -1,5 +1,5 @@
-"""The functions of a source file, by the layout that `rt fmt` gives it: where each begins, where its body stands, and what a check calls
-it. A function stands at the margin, or one step in where an impl block or a trait is around it."""
+"""The functions of a source file, by the layout that `rt fmt` gives it: where each begins, where its body is, and what a check calls it. A
+function is at the margin, or one step in if an impl block or a trait is around it."""
 
 import re
 from dataclasses import dataclass

@@ -1,5 +1,5 @@
-"""The greatest schemas, scripts, moves and turns that docs/profile allows, deep and wide ones, those one below each limit and those one
-above; and a schema and a script with one change that makes a fault, one for each fault: each text with how it must be answered."""
+"""The greatest schemas, scripts, moves and turns that docs/profile allows, including deep and wide ones, those one below each limit and
+those one above; and a schema and a script with one change that makes a fault, one for each fault. Each text has the required answer."""
 
 import os
 from dataclasses import dataclass, replace

@@ -1,4 +1,4 @@
-"""The sessions of the shell that pages show: blocks of what is typed behind a prompt, and of what comes back."""
+"""The sessions of the shell that pages show: blocks of what is typed after a prompt, and of what comes back."""
 
 import os
 import re

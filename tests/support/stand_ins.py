@@ -1,6 +1,6 @@
-"""Copies of a crate in which few functions have their own bodies. A function is proved against the contracts of those that it calls, so
-it matters nothing how these are done: the body of every other function gives way to a call that never returns, by the word of a foreign
-function that promises what is false. Such a body meets any contract at once."""
+"""Copies of a crate in which few functions have their own bodies. A function is proved against the contracts of those that it calls, so how
+these are done does not matter: the body of every other function is replaced by a call that never returns, since it relies on a foreign
+function with a false promise. Such a body meets any contract at once."""
 
 import shutil
 from pathlib import Path

@@ -1,6 +1,6 @@
-"""Tries edits of a crate: as many in one check as change different functions of it, since functions are proved one by one against the
-contracts of the others. An edit passes only where the search for a proof fails at a goal of the function that it changes. Where an answer
-by hand does not fit the changed body, the goal may be true all the same: the edit is tried again without that answer."""
+"""Tries edits of a crate: in one check as many as change different functions of it, since functions are proved one by one against the
+contracts of the others. An edit passes only if the search for a proof fails at a goal of the function that it changes. If an answer by hand
+does not fit the changed body, the goal may still be true: the edit is tried again without that answer."""
 
 import subprocess
 import tempfile

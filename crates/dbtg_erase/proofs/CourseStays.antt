@@ -26,7 +26,7 @@ use Rattle.dbtg_unit.specs.Hands.Hands.{Hands, cell_of}
 use Rattle.dbtg_unit.specs.Hands.InHand.{occurrence_of, owner_in, stored_of}
 use Rattle.dbtg_unit.specs.Hands.Local.{holds}
 use Rattle.dbtg_unit.specs.Hands.Needs.{ring_names}
-use Rattle.dbtg_unit.proofs.Public.{In, any_agrees, filter_agrees, flat_map_agrees, holds_there, in_flat_map, in_left, in_map, in_right, of_flat_map}
+use Rattle.dbtg_unit.proofs.Public.{In, any_agrees, filter_agrees_on_list, flat_map_agrees, holds_there, in_flat_map, in_left, in_map, in_right, of_flat_map}
 use Rattle.dbtg_erase.specs.declared.course.Course.{Course}
 use Rattle.dbtg_erase.specs.declared.names.Names.{Names}
 use Rattle.dbtg_erase.specs.Course.{AroundFits, IsCourse, IsCourseOfCurrent, IsCourseIfBegun, MembersFit}
@@ -128,7 +128,7 @@ module _ (schema : Lists) (hands hands' : Hands) (all : HasAllOf hands hands') w
       flat_map_agrees (taken_of_set schema hands' option d) (taken_of_set schema hands option d) (own_sets schema d)
       (λ s i.
       ap (filter (λ m. takes_member schema option s (elsewhere_in schema hands' s (Rec d) m) m)) (list_same d s (ring_held d s (own_of d none) i))
-      ∙ filter_agrees (λ m. takes_member schema option s (elsewhere_in schema hands' s (Rec d) m) m) (λ m. takes_member schema option s (elsewhere_in schema hands s (Rec d) m) m) (list_in hands d s)
+      ∙ filter_agrees_on_list (λ m. takes_member schema option s (elsewhere_in schema hands' s (Rec d) m) m) (λ m. takes_member schema option s (elsewhere_in schema hands s (Rec d) m) m) (list_in hands d s)
       (λ m j. ap (λ b. takes_member schema option s b m) (elsewhere_same s (Rec d) m (slot_held d s m none i j))))
 
   -- each record that goes has its cells held

@@ -16,7 +16,7 @@ use Rattle.dbtg_cells.specs.declared.name.CellName.TheVariants.{Extent, Ring}
 use Rattle.dbtg_cells.specs.Keys.{is_member, key_eq}
 use Rattle.dbtg_cells.specs.Names.{name_eq}
 use Rattle.dbtg_cells.proofs.Public.{either_way, key_eq_refl, map_twice, same_key, same_name}
-use Rattle.dbtg_unit.proofs.Public.{In, after_delete, all_at, all_from, all_in, any_element, any_in, filter_agrees, flat_map_agrees, in_filter, in_flat_map, in_left, in_map, in_range, in_right, is_taken_out, left_are_taken_out, listed_has_occurrence, map_same, member_in, member_of_owner, members_in_hand as members_are, met_are_live, names_once_complete, of_append, of_filter, of_flat_map, of_map, own_checks_agree, owner_in as among_owners, owner_in_hand, same_record, version_in_hand, version_left, with_those_pass}
+use Rattle.dbtg_unit.proofs.Public.{In, after_delete, all_at, all_from, all_in, any_element, any_in, filter_agrees_on_list, flat_map_agrees, in_filter, in_flat_map, in_left, in_map, in_range, in_right, is_taken_out, left_are_taken_out, listed_has_occurrence, map_same, member_in, member_of_owner, members_in_hand as members_are, met_are_live, names_once_complete, of_append, of_filter, of_flat_map, of_map, own_checks_agree, owner_in as among_owners, owner_in_hand, same_record, version_in_hand, version_left, with_those_pass}
 use Rattle.dbtg_unit.specs.Database.Statements.StoredFacts.{whole}
 use Rattle.dbtg_unit.specs.declared.edit.CellEdit.{CellEdit}
 use Rattle.dbtg_unit.specs.declared.edit.Edit.TheVariants.{ChangeOwner, CloseRing, RaiseVersion, TakeOut, Vacate}
@@ -128,7 +128,7 @@ module _ (schema : Lists) (owner owner' : ℕ → DbKey → Option Owner) (membe
   losing_same =
       flat_map_agrees (losing_edits schema owner gone) (losing_edits schema owner' gone) (left_behind members gone)
       (λ x i. ap (λ sets. map (λ s. slot_edit x (ChangeOwner s None)) sets ++ slot_edit x RaiseVersion ∷ [])
-      (filter_agrees (λ s. some_and (is_gone gone) (owner s x)) (λ s. some_and (is_gone gone) (owner' s x)) (set_numbers schema) (λ s j. ap (some_and (is_gone gone)) (same_left x i s j))))
+      (filter_agrees_on_list (λ s. some_and (is_gone gone) (owner s x)) (λ s. some_and (is_gone gone) (owner' s x)) (set_numbers schema) (λ s j. ap (some_and (is_gone gone)) (same_left x i s j))))
       ∙ ap (flat_map (losing_edits schema owner' gone)) same_behind
 
   pub same_edits : erasing_edits schema owner members gone ≡ erasing_edits schema owner' members' gone

@@ -27,7 +27,7 @@ use Rattle.dbtg_unit.specs.Hands.Erasing.{cells_of_doomed, doomed_in_turn, membe
 use Rattle.dbtg_unit.specs.Hands.Hands.{Hands, cell_of}
 use Rattle.dbtg_unit.specs.Hands.InHand.{occurrence_of}
 use Rattle.dbtg_unit.specs.Hands.Local.{Agrees, holds}
-use Rattle.dbtg_unit.proofs.Public.{In, any_agrees, any_element, any_in, filter_agrees, flat_map_agrees, holds_there, in_flat_map, in_left, in_map, in_right}
+use Rattle.dbtg_unit.proofs.Public.{In, any_agrees, any_element, any_in, filter_agrees_on_list, flat_map_agrees, holds_there, in_flat_map, in_left, in_map, in_right}
 use Rattle.dbtg_unit.proofs.Public.{listed_has_occurrence, member_nowhere, member_of_owner, members_in_hand as members_are, met_few, of_filter}
 use Rattle.dbtg_unit.proofs.Public.{owner_in as among_owners, owner_in_hand}
 use Rattle.dbtg_erase.specs.WorkList.{cells_of_gone, elsewhere_in, gone_in, list_in, members_in_hand, most_gone, own_sets, taken_in, taken_of_set}
@@ -130,7 +130,7 @@ module _ (schema : Lists) (capacity : ℕ) (db : Database) (hands : Hands) (unit
           owned_taken option d
           ∙ flat_map_agrees (λ s. filter (takes schema capacity db option s (Rec d)) (members_of db s (Rec d))) (taken_of_set schema hands option d) (own_sets schema d)
           (λ s i.
-          filter_agrees (takes schema capacity db option s (Rec d)) (λ m. takes_member schema option s (elsewhere_in schema hands s (Rec d) m) m) (members_of db s (Rec d))
+          filter_agrees_on_list (takes schema capacity db option s (Rec d)) (λ m. takes_member schema option s (elsewhere_in schema hands s (Rec d) m) m) (members_of db s (Rec d))
           (λ m j. ap (λ b. takes_member schema option s b m) (elsewhere_is s (Rec d) m
           (slots (slot_name m) (in_map slot_name m (members_of_all schema db d) (in_flat_map (λ s. members_of db s (Rec d)) s m (set_numbers schema) (of_filter (λ s. owns schema s d.rtype) s (set_numbers schema) i).0 j)))))
           ∙ ap (filter (λ m. takes_member schema option s (elsewhere_in schema hands s (Rec d) m) m)) (list_is s i))

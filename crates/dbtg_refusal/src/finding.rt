@@ -3,7 +3,7 @@ ghost use Rattle.std.specs.Prelude.{◌≡◌, is_none, option_map};
 ghost use Rattle.std.specs.List.{find};
 ghost use Rattle.dbtg_schema.specs.Structure.{automatic_sets};
 ghost use Rattle.dbtg_unit.specs.Database.State.Units.{place_in};
-ghost use Rattle.dbtg_unit.specs.Database.Statements.Conditions.{current_type};
+ghost use Rattle.dbtg_unit.specs.Database.Statements.Conditions.{current_type, joined_place};
 ghost use Rattle.dbtg_unit.specs.declared.statement.Statement.TheVariants.{Find};
 ghost use Rattle.dbtg_unit.specs.declared.statement.Suppress.{Suppress};
 ghost use Rattle.dbtg_refusal.specs.declared.obstacle.Obstacle.TheVariants as obstacle;

@@ -14,7 +14,7 @@ use Rattle.dbtg_unit.specs.Database.Statements.Codes.{status_code}
 use Rattle.dbtg_unit.specs.Database.Statements.Effect.{StatementEffect}
 use Rattle.dbtg_unit.specs.Database.Laws.Replay.{State, after_effect, entries_of, opening_state, effect_of_unit, state_after}
 use Rattle.dbtg_unit.specs.Database.Laws.StaysLegal.{IsLegalState}
-use Rattle.dbtg_unit.proofs.Public.{In, map_agrees}
+use Rattle.dbtg_unit.proofs.Public.{In, map_agrees_on_list}
 use Rattle.dbtg_step.specs.Machine.SequentialDatabase.{unit_at}
 use Rattle.dbtg_outcomes.specs.Alike.{unordered}
 use Rattle.dbtg_outcomes.specs.Outcomes.{HasStatus}
@@ -106,7 +106,7 @@ module _ (m : Meeting) where
   same_told_texts o p h =
       by m.tells h.told_same where
         by : (b : Bool) → (b ≡ true → (u : ℕ) → In u (units_of m) → unit_answers m o u ≡ unit_answers m p u) → (if b then map (unit_answers m o) (units_of m) else []) ≡ (if b then map (unit_answers m p) (units_of m) else [])
-        by true f = map_agrees (unit_answers m o) (unit_answers m p) (units_of m) (f refl)
+        by true f = map_agrees_on_list (unit_answers m o) (unit_answers m p) (units_of m) (f refl)
         by false f = refl
 
   pub result_same : (o p : List (ℕ × Statement)) → SameState o p → result_text m o ≡ result_text m p
@@ -117,7 +117,7 @@ module _ (m : Meeting) where
 
   key_from_state : (o p : List (ℕ × Statement)) → SameState o p → state_key m o ≡ state_key m p
   key_from_state o p h =
-      let counts : map (λ u. made u o) (units_of m) ≡ map (λ u. made u p) (units_of m) = map_agrees (λ u. made u o) (λ u. made u p) (units_of m) h.made_same in
+      let counts : map (λ u. made u o) (units_of m) ≡ map (λ u. made u p) (units_of m) = map_agrees_on_list (λ u. made u o) (λ u. made u p) (units_of m) h.made_same in
       λ i. list_numbers one_number (counts i) ++ (image_numbers (image_same o p h i) ++ (list_numbers unit_numbers (h.state_same i).units ++ list_numbers (list_numbers one_number) (same_told_texts o p h i)))
 
   next_same : (o p : List (ℕ × Statement)) → SameState o p → (u : ℕ) (next : Option Statement) → map (state_key m) (option_to_list (option_map (λ x. o ++ (u, x) ∷ []) next)) ≡ map (state_key m) (option_to_list (option_map (λ x. p ++ (u, x) ∷ []) next))

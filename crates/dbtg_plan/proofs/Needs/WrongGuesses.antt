@@ -26,7 +26,7 @@ use Rattle.dbtg_unit.specs.Hands.Hands.{Hands}
 use Rattle.dbtg_unit.specs.Hands.InHand.{owner_in}
 use Rattle.dbtg_unit.specs.Hands.Local.{Agrees, holds}
 use Rattle.dbtg_unit.specs.Hands.Needs.{areas_in_order, cells_of, first_missing, guessed_sets, is_stale, is_wrong_guess, need, need_of_cells, next_of, ring_names, slot_names, stale_owners, wrong_owner}
-use Rattle.dbtg_unit.proofs.Public.{In, all_held, any_element, any_in, has_number, has_number_filter, has_number_passes, has_number_range, in_range, in_right, map_agrees, of_filter, owner_in_hand, unlisted_has_no_owner}
+use Rattle.dbtg_unit.proofs.Public.{In, all_held, any_element, any_in, has_number, has_number_filter, has_number_passes, has_number_range, in_range, in_right, map_agrees_on_list, of_filter, owner_in_hand, unlisted_has_no_owner}
 use Rattle.dbtg_plan.specs.Inside.Stale.{has_wrong_owner_in, need_of_guesses, wrong_owner_in, wrong_owners_in}
 use Rattle.dbtg_plan.proofs.Plans.SamePlan.{current_slot}
 
@@ -129,7 +129,7 @@ module _ (schema : Lists) (capacity : ℕ) (db : Database) (hands : Hands) (unit
         ]
 
     owners_are : map (wrong_owner schema capacity db hands.guesses needed k) (set_numbers schema) ≡ wrong_owners_in schema unit hands statement k
-    owners_are = map_agrees (wrong_owner schema capacity db hands.guesses needed k) (wrong_owner_in hands needed k) (set_numbers schema) (λ s i. wrong_is s)
+    owners_are = map_agrees_on_list (wrong_owner schema capacity db hands.guesses needed k) (wrong_owner_in hands needed k) (set_numbers schema) (λ s i. wrong_is s)
 
     -- a needed owner is wrong where one of these is there
     any_wrong : list_any (λ s. is_wrong_guess (owner_of schema capacity db s k) (at hands.guesses s)) needed ≡ has_wrong_owner_in schema unit hands statement k

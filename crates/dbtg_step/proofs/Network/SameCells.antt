@@ -24,7 +24,7 @@ use Rattle.dbtg_unit.specs.Database.Statements.Effect.{free_number, new_key, cal
 use Rattle.dbtg_unit.specs.Database.Statements.StoredFacts.{whole}
 use Rattle.dbtg_unit.specs.Database.Statements.Found.{has_type, with_calc}
 use Rattle.dbtg_unit.specs.Database.State.Legal.{Legal}
-use Rattle.dbtg_unit.proofs.Public.{In, calc_reads, extent_in, filter_agrees, last_reads, list_in, live_reads, map_same, none_pass, of_live_keys, of_map}
+use Rattle.dbtg_unit.proofs.Public.{In, calc_reads, extent_in, filter_agrees_on_list, last_reads, list_in, live_reads, map_same, none_pass, of_live_keys, of_map}
 use Rattle.dbtg_unit.proofs.Public.{ring_in, ring_keys_read, ring_reads}
 
 -- a member with its sort key
@@ -68,17 +68,17 @@ module _ (schema : Lists) (capacity : ℕ) (db eb : Database) (ldb : Legal schem
 
     pub keys_same : live_keys capacity db t ≡ live_keys capacity eb t
     keys_same =
-        filter_agrees (is_live db) (is_live eb) (map (key_at db t) (range_with_len 1 capacity)) (λ k i. let m = of_map (key_at db t) k _ i in live_same k (ap (λ (x : DbKey). x.rtype) (sym m.2)))
+        filter_agrees_on_list (is_live db) (is_live eb) (map (key_at db t) (range_with_len 1 capacity)) (λ k i. let m = of_map (key_at db t) k _ i in live_same k (ap (λ (x : DbKey). x.rtype) (sym m.2)))
         ∙ ap (filter (is_live eb)) (map_same (key_at db t) (key_at eb t) (range_with_len 1 capacity) key_same)
 
     pub with_calc_same : (values : List Value) → with_calc schema capacity db t values ≡ with_calc schema capacity eb t values
     with_calc_same values =
-        filter_agrees (λ k. values_eq (calc_items schema t (items_of db k)) values) (λ k. values_eq (calc_items schema t (items_of eb k)) values) (live_keys capacity db t)
+        filter_agrees_on_list (λ k. values_eq (calc_items schema t (items_of db k)) values) (λ k. values_eq (calc_items schema t (items_of eb k)) values) (live_keys capacity db t)
         (λ k i. let m = of_live_keys schema capacity db ldb k t i in ap (λ v. values_eq v values) (items_same k m.1 m.0))
         ∙ ap (filter (λ k. values_eq (calc_items schema t (items_of eb k)) values)) keys_same
 
     pub free_same : free_number capacity db t ≡ free_number capacity eb t
-    free_same = ap first (filter_agrees _ _ (range_with_len 1 capacity) (λ n i. λ j. not (used n j) && nat_lt (last_same n j) 255))
+    free_same = ap first (filter_agrees_on_list _ _ (range_with_len 1 capacity) (λ n i. λ j. not (used n j) && nat_lt (last_same n j) 255))
       where
         used : (n : ℕ) → is_live db (key_at db t n) ≡ is_live eb (key_at eb t n)
         used n = live_same (key_at db t n) refl ∙ ap (is_live eb) (key_same n)
