@@ -12,6 +12,17 @@ def left_behind(text):
     return re.sub(r"(?m)^(AREA [^ \n]+)(.+)$", lambda it: " ".join([it[1], *sorted(it[2].split())]), behind)
 
 
+def kept_by(unit, db):
+    """What a unit keeps, in key order: each key, and whether its record still has the version that is kept."""
+    return [(key, key in db.records and db.records[key].version == version) for key, version in sorted(unit.kept.items())]
+
+
+def told_apart(runs):
+    """What tells the result of runs from others: what they leave behind, but of a kept version only whether its record still has it."""
+    unversioned = re.sub(r"(?m) KEPT .+$", lambda it: re.sub(r"/\d+", "", it[0]), left_behind(runs.text()))
+    return unversioned, repr([kept_by(it, runs.machine.db) for it in runs.machine.units])
+
+
 class Meeting:
     """Programs that meet: those before the last ones that `--first` and `--then` name, the turns that are behind when they do."""
 
@@ -39,10 +50,11 @@ class Meeting:
 
 
 def state_of(runs):
-    """All that what comes after depends on, as words that tell states apart: all but the order in which units opened an area."""
+    """All that what comes after depends on, as words that tell states apart: all but the order in which units opened an area and the
+    versions of records, of which it has only whether a record still has the version that a unit keeps of it."""
     db = runs.machine.db
-    records = [(key, it.items, it.version, sorted(it.owners.items())) for key, it in sorted(db.records.items())]
-    units = [(u.run, u.records, u.areas, u.places, sorted(u.kept.items()), sorted(u.modes.items())) for u in runs.machine.units]
+    records = [(key, it.items, sorted(it.owners.items())) for key, it in sorted(db.records.items())]
+    units = [(u.run, u.records, u.areas, u.places, kept_by(u, db), sorted(u.modes.items())) for u in runs.machine.units]
     programs = [(program.due(runs.schema), program.at, program.end, program.status, program.fields) for program in runs.programs]
     users = [sorted(it) for it in db.usage]
     return repr((records, sorted(db.lists.items()), db.generations, users, units, programs))
@@ -87,7 +99,7 @@ class Explored:
             self.orders[state], self.units[state] = order, self.meeting.next_units(run)
             self.failures |= failures_of(run)
             if not self.units[state]:
-                self.results.setdefault(left_behind(run.text()), (order, run.text()))
+                self.results.setdefault(told_apart(run), (order, run.text()))
         return state
 
     def is_endless(self):

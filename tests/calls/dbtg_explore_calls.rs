@@ -21,6 +21,10 @@ const TRIES: &[u8] =
 const COUNTS: &[u8] =
     b"01 TRIES PIC 9(4)\nAGAIN.\nADD 1 TO TRIES\nOPEN AREA MAIN USAGE-MODE IS EXCLUSIVE UPDATE\nIF STATUS = 0129 GO TO AGAIN\nCLOSE AREA MAIN\n";
 
+/// Stores a record and changes it for ever.
+const CHANGES: &[u8] =
+    b"OPEN AREA MAIN USAGE-MODE IS UPDATE\nSTORE ROOM NUMBER = 1\nAGAIN.\nMODIFY ROOM NUMBER = 1\nGO TO AGAIN\n";
+
 /// Opens the area, which it wants to be refused.
 const ASSERTS: &[u8] =
     b"OPEN AREA MAIN USAGE-MODE IS EXCLUSIVE UPDATE\nASSERT STATUS = 0129\n";
@@ -77,6 +81,21 @@ fn tries_that_are_counted_come_to_the_limit(rt: HostRuntime) {
     assert!(rt; explored(&rt, &[OPENS, COUNTS], 200).is_none());
     assert!(rt; explored(&rt, &[COUNTS], 3).is_some());
     assert!(rt; explored(&rt, &[COUNTS], 2).is_none());
+}
+
+// A change after which a record has another version, and nothing else is new, leads to no new state.
+#[test]
+fn a_version_makes_no_new_state(rt: HostRuntime) {
+    let Some(all) = explored(&rt, &[CHANGES], 100) else {
+        panic!(rt; "not explored")
+    };
+    assert!(rt; all.states == 3);
+    assert!(rt; all.results.is_empty());
+    let Some(endless) = all.endless else {
+        panic!(rt; "no way round")
+    };
+    assert!(rt; endless.turns.as_slice() == [1, 1].as_slice());
+    assert!(rt; endless.round.as_slice() == [1].as_slice());
 }
 
 // Unit 1 fails where it is first, and not where unit 2 is; where it fails unit 2 tries for ever.

@@ -19,10 +19,10 @@ use Rattle.dbtg_going.specs.Turns as turns
 use Rattle.dbtg_going.specs.Turns.{comes, made, statement_due}
 use Rattle.dbtg_going.proofs.Turning.{state_behind}
 use Rattle.dbtg_explore.specs.Orders.{CanFollow, Meeting, after_order, after_turn, can_go_on, can_turn, due_of, history_of, IsOrder}
-use Rattle.dbtg_outcomes.specs.Alike.{unordered}
-use Rattle.dbtg_outcomes.proofs.States.Alike.{steps_alike}
 use Rattle.dbtg_explore.specs.States.{Essence, MeetingState, comes_of_each, essence, essence_of, sequential_after, state_after, state_of}
+use Rattle.dbtg_explore.specs.Versions.{essential}
 use Rattle.dbtg_explore.proofs.Turning.{history_on, last_can, order_on}
+use Rattle.dbtg_explore.proofs.Versions.Same.{IsKept, both_step, history_kept}
 
 -- WHAT A STATE SAYS
 
@@ -173,25 +173,28 @@ module _ (m : Meeting) where
 
   -- STATES WITH THE SAME ESSENCE CONTINUE ALIKE
 
+  kept_after : (history : List Entry) → IsKept (sequential_after m history)
+  kept_after history = history_kept m.schema m.capacity (length m.programs) history
+
   -- the programs after an answer to a statement of unit u
   abbrev programs_by : List Due → ℕ → Option Answer → List Due
   programs_by dues u None = dues
   programs_by dues u (Some answer) = programs_then m.schema dues u answer (unit_at m.programs u) (unit_at dues u)
 
-  essence_then : (state : MeetingState) (u : ℕ) (q : Option StatementEffect) → essence (with_outcome m state u q) ≡ record { sequential = unordered (after_effect state.sequential u q); programs = programs_by state.programs u (option_map (λ (o : StatementEffect). o.answer) q) }
+  essence_then : (state : MeetingState) (u : ℕ) (q : Option StatementEffect) → essence (with_outcome m state u q) ≡ record { sequential = essential (after_effect state.sequential u q); programs = programs_by state.programs u (option_map (λ (o : StatementEffect). o.answer) q) }
   essence_then state u None = refl
   essence_then state u (Some o) = refl
 
-  made_alike : (x y : MeetingState) (u : ℕ) (o : Option Statement) → essence x ≡ essence y → essence (with_made m x u o) ≡ essence (with_made m y u o)
-  made_alike x y u None e = e
-  made_alike x y u (Some s) e =
-      let step = steps_alike m.schema m.capacity x.sequential y.sequential u s (ap (λ (z : Essence). z.sequential) e) in
+  made_alike : (x y : MeetingState) (u : ℕ) (o : Option Statement) → IsKept x.sequential → IsKept y.sequential → essence x ≡ essence y → essence (with_made m x u o) ≡ essence (with_made m y u o)
+  made_alike x y u None k l e = e
+  made_alike x y u (Some s) k l e =
+      let step = both_step m.schema m.capacity x.sequential y.sequential k l u s (ap (λ (z : Essence). z.sequential) e) in
       essence_then x u (effect_of_unit m.schema m.capacity x.sequential u s)
       ∙ (λ i. record { sequential = step.alike i; programs = programs_by (e i).programs u (step.answer i) })
       ∙ sym (essence_then y u (effect_of_unit m.schema m.capacity y.sequential u s))
 
-  then_alike : (x y : MeetingState) (u : ℕ) → essence x ≡ essence y → essence (state_then m x u) ≡ essence (state_then m y u)
-  then_alike x y u e = made_alike x y u (due_in m x.programs u) e ∙ ap (λ d. essence (with_made m y u d)) (ap (λ (s : Essence). due_in m s.programs u) e)
+  then_alike : (x y : MeetingState) (u : ℕ) → IsKept x.sequential → IsKept y.sequential → essence x ≡ essence y → essence (state_then m x u) ≡ essence (state_then m y u)
+  then_alike x y u k l e = made_alike x y u (due_in m x.programs u) k l e ∙ ap (λ d. essence (with_made m y u d)) (ap (λ (s : Essence). due_in m s.programs u) e)
 
   pub due_alike : (h g : List Entry) (u : ℕ) → essence (state_after m h) ≡ essence (state_after m g) → due_of m h u ≡ due_of m g u
   due_alike h g u e = due_is h u ∙ ap (λ (s : Essence). due_in m s.programs u) e ∙ sym (due_is g u)
@@ -200,7 +203,7 @@ module _ (m : Meeting) where
   can_turn_alike h g u e = can_turn_is h u ∙ ap (λ (s : Essence). can_turn_in m s.programs u) e ∙ sym (can_turn_is g u)
 
   pub turn_alike : (h g : List Entry) (u : ℕ) → essence (state_after m h) ≡ essence (state_after m g) → essence (state_after m (after_turn m h u)) ≡ essence (state_after m (after_turn m g u))
-  turn_alike h g u e = ap essence (state_on h u) ∙ then_alike (state_after m h) (state_after m g) u e ∙ sym (ap essence (state_on g u))
+  turn_alike h g u e = ap essence (state_on h u) ∙ then_alike (state_after m h) (state_after m g) u (kept_after h) (kept_after g) e ∙ sym (ap essence (state_on g u))
 
   pub order_alike : (h g : List Entry) (us : List ℕ) → essence (state_after m h) ≡ essence (state_after m g) → essence (state_after m (after_order m h us)) ≡ essence (state_after m (after_order m g us))
   unfolding after_order
@@ -223,7 +226,7 @@ module _ (m : Meeting) where
   order_after o p u is e on = order_on m p u is (sym (can_turn_alike (history_of m o) (history_of m p) u e) ∙ last_can m o u on)
 
   pub same_after : (o p : List ℕ) (u : ℕ) → essence_of m o ≡ essence_of m p → essence_of m (o ++ u ∷ []) ≡ essence_of m (p ++ u ∷ [])
-  same_after o p u e = ap essence (state_of_on o u) ∙ then_alike (state_of m o) (state_of m p) u e ∙ sym (ap essence (state_of_on p u))
+  same_after o p u e = ap essence (state_of_on o u) ∙ then_alike (state_of m o) (state_of m p) u (kept_after (history_of m o)) (kept_after (history_of m p)) e ∙ sym (ap essence (state_of_on p u))
 
   pub can_go_on_alike : (h g : List Entry) (u : ℕ) → essence (state_after m h) ≡ essence (state_after m g) → can_go_on m h u ≡ can_go_on m g u
   can_go_on_alike h g u e = ap is_some (due_alike h g u e)

@@ -26,11 +26,13 @@ use Rattle.dbtg_going.specs.Turns.{after_turns, comes, made, statement_due, stat
 use Rattle.dbtg_outcomes.specs.Inside.Spelling.{behind, image_apart, list_apart, unit_apart, value_apart}
 use Rattle.dbtg_outcomes.specs.Spelling.{Apart, image_numbers, list_numbers, unit_numbers, value_numbers}
 use Rattle.dbtg_outcomes.specs.Results.{in_unit_order}
-use Rattle.dbtg_outcomes.proofs.States.SameImages.{image_alike, same_unordered}
+use Rattle.dbtg_outcomes.proofs.States.SameImages.{image_alike, same_stored}
 use Rattle.dbtg_explore.specs.Orders.{IsMeeting, Meeting, after_order, after_turn, beginning, due_of, history_of}
 use Rattle.dbtg_explore.specs.Results.{reached_of, state_text}
-use Rattle.dbtg_explore.specs.States.{Essence, MeetingState, comes_of_each, essence, essence_of, state_after, state_of}
+use Rattle.dbtg_explore.specs.States.{Essence, MeetingState, comes_of_each, essence, essence_of, sequential_after, state_after, state_of, without_versions}
+use Rattle.dbtg_explore.specs.Versions.{unversioned, unversioned_database}
 use Rattle.dbtg_explore.specs.Inside.Keys.{due_numbers, how_numbers, program_numbers, state_numbers}
+use Rattle.dbtg_explore.proofs.Versions.Images.{image_first, same_essence}
 
 -- WHAT IS DUE
 
@@ -166,8 +168,12 @@ module _ (m : Meeting) where
   pub order_fits : (o : List ℕ) → AllFit (history_of m o)
   order_fits o = fit_order (beginning m) o (fit_turns [] m.begun refl)
 
+  -- a history of statements that fit leads to a legal state
+  pub legal_after : IsMeeting m → (history : List Entry) → AllFit history → IsLegalState m.schema m.capacity (sequential_after m history)
+  legal_after meets history fit = replay_keeps_legal m.schema m.capacity (opening_state m.schema (length m.programs)) history meets.sound (opening_is_legal m.schema m.capacity (length m.programs)) fit
+
   legal : IsMeeting m → (o : List ℕ) → IsLegalState m.schema m.capacity (state_of m o).sequential
-  legal meets o = replay_keeps_legal m.schema m.capacity (opening_state m.schema (length m.programs)) (history_of m o) meets.sound (opening_is_legal m.schema m.capacity (length m.programs)) (order_fits o)
+  legal meets o = legal_after meets (history_of m o) (order_fits o)
 
   units_after : (state : State) (es : List Entry) → length (replay m.schema m.capacity state es).units ≡ length state.units
   unfolding replay
@@ -179,32 +185,43 @@ module _ (m : Meeting) where
 
   -- EQUAL NUMBERS, EQUAL STATES
 
-  -- the image of a state in the order of units
+  -- the image of a state in the order of units, without versions
   abbrev image_in : MeetingState → Image
-  image_in s = in_unit_order (range_with_len 1 (length m.programs)) (image_of m.schema m.capacity s.sequential.database)
+  image_in s = in_unit_order (range_with_len 1 (length m.programs)) (record (image_of m.schema m.capacity s.sequential.database) { versions = [] })
 
   pub same_state : IsMeeting m → (o p : List ℕ) → state_numbers m (state_of m o) ≡ state_numbers m (state_of m p) → essence_of m o ≡ essence_of m p
   same_state meets o p e =
       let x = state_of m o in
       let y = state_of m p in
-      let tail : MeetingState → List ℕ = λ s. list_numbers unit_numbers s.sequential.units ++ list_numbers due_numbers s.programs in
+      let tail : MeetingState → List ℕ = λ s. list_numbers unit_numbers (unversioned s.sequential).units ++ list_numbers due_numbers s.programs in
       let whole : (image_numbers (image_in x) ++ tail x) ++ [] ≡ (image_numbers (image_in y) ++ tail y) ++ [] = ap (λ l. l ++ []) e in
       let one = behind image_numbers image_apart (image_in x) (image_in y) (tail x) (tail y) [] [] whole in
-      let two = behind (list_numbers unit_numbers) (list_apart unit_numbers unit_apart) x.sequential.units y.sequential.units (list_numbers due_numbers x.programs) (list_numbers due_numbers y.programs) [] [] one.1 in
+      let two = behind (list_numbers unit_numbers) (list_apart unit_numbers unit_apart) (unversioned x.sequential).units (unversioned y.sequential).units (list_numbers due_numbers x.programs) (list_numbers due_numbers y.programs) [] [] one.1 in
       let programs = programs_apart (history_of m o) (history_of m p) [] [] two.1 in
-      let alike = same_unordered m.schema m.capacity (length m.programs) x.sequential y.sequential (legal meets o) (legal meets p) (count o) (count p) one.0 two.0 in
+      let stored = same_stored m.schema m.capacity (length m.programs) x.sequential y.sequential (legal meets o) (legal meets p) (count o) (count p) one.0 in
+      let alike = same_essence x.sequential y.sequential stored two.0 in
       λ i. record { sequential = alike i; programs = programs i }
 
+  -- the image of a state without versions
+  abbrev image_without : MeetingState → Image
+  image_without s = in_unit_order (range_with_len 1 (length m.programs)) (image_of m.schema m.capacity (unversioned_database s.sequential.database))
+
+  without_same : (x y : MeetingState) → essence x ≡ essence y → image_without x ≡ image_without y
+  without_same x y e = image_alike m.schema m.capacity (range_with_len 1 (length m.programs)) (unversioned x.sequential) (unversioned y.sequential) (ap (λ (z : Essence). z.sequential) e)
+
   image_same : (x y : MeetingState) → essence x ≡ essence y → image_in x ≡ image_in y
-  image_same x y e = image_alike m.schema m.capacity (range_with_len 1 (length m.programs)) x.sequential y.sequential (ap (λ (z : Essence). z.sequential) e)
+  image_same x y e =
+      ap (in_unit_order (range_with_len 1 (length m.programs))) (image_first m.schema m.capacity x.sequential.database)
+      ∙ ap (λ (i : Image). record i { versions = [] }) (without_same x y e)
+      ∙ sym (ap (in_unit_order (range_with_len 1 (length m.programs))) (image_first m.schema m.capacity y.sequential.database))
 
   pub same_numbers : (o p : List ℕ) → essence_of m o ≡ essence_of m p → state_numbers m (state_of m o) ≡ state_numbers m (state_of m p)
   same_numbers o p e =
       let image = image_same (state_of m o) (state_of m p) e in
       λ i. image_numbers (image i) ++ (list_numbers unit_numbers (e i).sequential.units ++ list_numbers due_numbers (e i).programs)
 
-  -- states with the same essence have the same text
-  pub same_text : (x y : MeetingState) → essence x ≡ essence y → state_text m x ≡ state_text m y
+  -- states with the same essence have the same text without versions
+  pub same_text : (x y : MeetingState) → essence x ≡ essence y → state_text m (without_versions x) ≡ state_text m (without_versions y)
   same_text x y e =
-      let image = image_same x y e in
+      let image = without_same x y e in
       λ i. run_text m.schema [] (image i).records (image i).lists (image i).next (image i).usage (e i).sequential.units ++ programs_text 1 m.programs (map reached_of (e i).programs)

@@ -14,3 +14,4 @@ pub mod Noting
 pub mod Visiting
 pub mod Rounding
 pub mod Rows
+pub mod Versions

@@ -2,14 +2,17 @@
 -- m is a meeting, u a unit, x a statement.
 use Rattle.std.proofs.Common.{◌≡◌, ℕ, zero, suc, ◌+◌, ◌-◌, ◌<◌, ◌≤◌, Bool, true, false, ◌&&◌, List, [], ◌∷◌, ◌++◌, length, map, Option, Some, None, inr, refl, ap, subst, sym, ◌∙◌, slice_get, take, drop, take-append-drop, append_assoc, arith}
 use Rattle.std.specs.Prelude.{flat_map, is_some, not, option_and_then, option_map, nat_lt, slice_index_or, ◌||◌}
-use Rattle.std.specs.List.{list_any, range_with_len}
+use Rattle.std.specs.List.{list_all, list_any, range_with_len}
 use Rattle.std.proofs.lemmas.Bool.Decides.{nat_tests}
 use Rattle.std.proofs.lemmas.List.{length-map, take_more}
+use Rattle.dbtg_schema.specs.Lists.{Lists}
 use Rattle.dbtg_unit.specs.declared.statement.Statement.{Statement}
 use Rattle.dbtg_unit.specs.declared.unit.Entry.{Entry}
+use Rattle.dbtg_unit.specs.declared.unit.Unit.{Unit}
 use Rattle.dbtg_unit.specs.Database.Statements.Fits.{fits}
-use Rattle.dbtg_unit.specs.Database.Laws.Replay.{entries_of, opening_state, effect_of_unit, replay}
-use Rattle.dbtg_unit.specs.Database.State.Image.{image_of}
+use Rattle.dbtg_unit.specs.Database.Laws.Replay.{IsHistoryOf, entries_of, opening_state, effect_of_unit, replay}
+use Rattle.dbtg_unit.specs.Database.Laws.StaysLegal.{IsLegalState}
+use Rattle.dbtg_unit.specs.Database.State.Image.{Image, image_of}
 use Rattle.dbtg_unit.proofs.Public.{any_in, in_range, range_more}
 use Rattle.dbtg_program.specs.declared.going.Due.TheVariants as code_due
 use Rattle.dbtg_program.specs.declared.program.Program.{Program}
@@ -29,9 +32,13 @@ use Rattle.dbtg_script.specs.Printing.Texts.{run_text}
 use Rattle.dbtg_outcomes.specs.Results.{by_unit}
 use Rattle.dbtg_outcomes.specs.Spelling.{list_numbers}
 use Rattle.dbtg_explore.specs.declared.whereabouts.Whereabouts.{Whereabouts}
-use Rattle.dbtg_explore.specs.Orders.{CanFollow, IsOrder, Meeting, after_order, after_turn, beginning, can_turn, due_of, history_of, waits}
+use Rattle.dbtg_explore.specs.Orders.{CanFollow, IsMeeting, IsOrder, Meeting, after_order, after_turn, beginning, can_turn, due_of, history_of, waits}
 use Rattle.dbtg_explore.specs.Results.{reached_of, state_text}
-use Rattle.dbtg_explore.specs.States.{comes_of_each, state_after}
+use Rattle.dbtg_explore.specs.States.{comes_of_each, sequential_after, state_after, without_versions}
+use Rattle.dbtg_explore.specs.Inside.Versions.{is_in_order, unit_among}
+use Rattle.dbtg_explore.specs.Versions.{unversioned}
+use Rattle.dbtg_explore.proofs.Keyed.{legal_after}
+use Rattle.dbtg_explore.proofs.Versions.Images.{image_first, kept_in_order, units_by_list}
 use Rattle.dbtg_explore.specs.Inside.Whereabouts.{AreStanding, HasTurned, HaveTurned, AreWhereabouts, AreWhereaboutsOf, failure_by, failure_in}
 use Rattle.dbtg_explore.proofs.Alike.{due_is}
 use Rattle.dbtg_explore.proofs.Turning.{first_can, follow_both, follow_front, follow_rest, history_on, no_turn, none_follow, one_follows, one_turn, order_behind}
@@ -246,14 +253,36 @@ three_spelled start a b c x y z s e f g = g ∙ ap (λ l. l ++ z) (f ∙ ap (λ 
 -- WHAT IS PRINTED
 
 module _ (m : Meeting) (database : Making) (goings : List Going) (w : AreStanding m database goings) where
-  pub text_is : (run : Run) → IsMadeRun database run → (reached : List Reached) → reached ≡ map (λ g. reached_of (comes_of g)) goings → (text : List ℕ)
-      → text ≡ run_text m.schema [] run.image.records run.image.lists run.image.next (map (by_unit (range_with_len 1 (length m.programs))) run.image.usage) run.units ++ programs_text 1 m.programs reached
-      → text ≡ state_text m (state_after m database.history)
-  text_is run made reached are text is =
+  -- the history says that the state is legal
+  pub legal_there : IsMeeting m → IsHistoryOf database.schema database.capacity database.units database.history → IsLegalState m.schema m.capacity (sequential_after m database.history)
+  legal_there meets is =
+      legal_after m meets database.history (subst (λ (s : Lists). list_all (λ (e : Entry). fits s e.statement) database.history ≡ true) (ap (λ (d : Making). d.schema) w.database_is) is.fitting)
+
+  units_there : (state_now database).units ≡ (sequential_after m database.history).units
+  units_there = ap (λ (d : Making). (state_now d).units) w.database_is
+
+  -- so what its units keep is in key order, and its units without versions are known by its image
+  pub in_order_there : IsMeeting m → IsHistoryOf database.schema database.capacity database.units database.history → (units : List Unit) → units ≡ (state_now database).units → list_all (λ u. is_in_order u.kept) units ≡ true
+  in_order_there meets is units are = ap (list_all (λ (u : Unit). is_in_order u.kept)) (are ∙ units_there) ∙ kept_in_order m.schema m.capacity (sequential_after m database.history) (legal_there meets is)
+
+  pub unversioned_there : IsMeeting m → IsHistoryOf database.schema database.capacity database.units database.history → (image : Image) → image ≡ image_of m.schema m.capacity (sequential_after m database.history).database
+      → (units : List Unit) → units ≡ (state_now database).units → map (unit_among image.versions) units ≡ (unversioned (sequential_after m database.history)).units
+  unversioned_there meets is image image_is units are =
+      let units_are : units ≡ (sequential_after m database.history).units = are ∙ units_there in
+      (λ i. map (unit_among (image_is i).versions) (units_are i)) ∙ units_by_list m.schema m.capacity (sequential_after m database.history) (legal_there meets is)
+
+  pub text_is : IsLegalState m.schema m.capacity (sequential_after m database.history) → (run : Run) → IsMadeRun database run → (reached : List Reached) → reached ≡ map (λ g. reached_of (comes_of g)) goings → (text : List ℕ)
+      → text ≡ run_text m.schema [] run.image.records run.image.lists run.image.next (map (by_unit (range_with_len 1 (length m.programs))) run.image.usage) (map (unit_among run.image.versions) run.units) ++ programs_text 1 m.programs reached
+      → text ≡ state_text m (without_versions (state_after m database.history))
+  text_is legal run made reached are text is =
       let image = made.image_is ∙ ap (λ (d : Making). image_of d.schema d.capacity (state_now d).database) w.database_is in
       let units = made.units_are ∙ ap (λ (d : Making). (state_now d).units) w.database_is in
       let programs : reached ≡ map reached_of (state_after m database.history).programs = are ∙ twice goings ∙ ap (map reached_of) (dues_are m database.history goings w.are_going) in
-      is ∙ (λ i. run_text m.schema [] (image i).records (image i).lists (image i).next (map (by_unit (range_with_len 1 (length m.programs))) (image i).usage) (units i) ++ programs_text 1 m.programs (programs i))
+      let kept = units_by_list m.schema m.capacity (sequential_after m database.history) legal in
+      let first = image_first m.schema m.capacity (sequential_after m database.history).database in
+      is
+      ∙ (λ i. run_text m.schema [] (image i).records (image i).lists (image i).next (map (by_unit (range_with_len 1 (length m.programs))) (image i).usage) (map (unit_among (image i).versions) (units i)) ++ programs_text 1 m.programs (programs i))
+      ∙ (λ i. run_text m.schema [] (first i).records (first i).lists (first i).next (map (by_unit (range_with_len 1 (length m.programs))) (first i).usage) (kept i) ++ programs_text 1 m.programs (map reached_of (state_after m database.history).programs))
     where
       twice : (gs : List Going) → map (λ g. reached_of (comes_of g)) gs ≡ map reached_of (map comes_of gs)
       twice [] = refl

@@ -1,4 +1,5 @@
 -- The worked rows: orders, which comes first, who waits, what fails.
 -- May use: all definitions; no lemma.
 -- Promises: each row is a theorem that computes.
+pub mod Kept
 pub mod Orders

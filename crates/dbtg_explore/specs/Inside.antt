@@ -8,4 +8,5 @@ pub mod Whereabouts
 pub mod Rounds
 pub mod Search
 pub mod Steps
+pub mod Versions
 pub mod Visits

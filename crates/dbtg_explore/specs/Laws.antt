@@ -20,8 +20,8 @@ use Rattle.dbtg_going.specs.Texts.{programs_text}
 use Rattle.dbtg_going.specs.Turns.{IsRunOf, after_turns, turns_before, turns_of}
 use Rattle.dbtg_outcomes.specs.Results.{by_unit}
 use Rattle.dbtg_explore.specs.Orders.{IsEnd, Meeting, beginning, can_go_on, history_of, waits}
-use Rattle.dbtg_explore.specs.Results.{reached_of, result_text}
-use Rattle.dbtg_explore.specs.States.{state_after}
+use Rattle.dbtg_explore.specs.Results.{reached_of, state_text}
+use Rattle.dbtg_explore.specs.States.{state_after, state_of}
 
 -- the statements of a history are those of the programs, each to its end: it begins like the meeting; the entries of each unit belong to
 -- its program; the last program makes none after that as long as it has to wait; and at the end no program can go on
@@ -43,7 +43,7 @@ pub record ComesOut (m : Meeting) (run : Run) : Type 0 where
   pub order : List ℕ
   pub is_end : IsEnd m order
   pub history_is : run.history ≡ history_of m order
-  pub text_is : text_of_run m run ≡ result_text m order
+  pub text_is : text_of_run m run ≡ state_text m (state_of m order)
 
 -- whatever the moves and the scripts, a script for each program: if the run makes all statements of the programs, and no others
 abbrev pub EveryRunComesOut : Meeting → Type 0

@@ -4,4 +4,5 @@ pub mod Orders
 pub mod Pairwise
 pub mod Results
 pub mod States
+pub mod Versions
 pub mod Inside

@@ -1,4 +1,4 @@
--- What a meeting comes to: its results, told apart by what is printed of them, and how its programs fail.
+-- What a meeting comes to: its results, told apart by what is printed of them but for versions, and how its programs fail.
 -- m is a meeting, u a unit, o and r are orders.
 use Rattle.std.specs.Prelude.{ℕ, ◌≡◌, List, [], ◌∷◌, ◌++◌, Some, Bool, true, false, Contains, length, map}
 use Rattle.std.specs.List.{range_with_len}
@@ -18,7 +18,7 @@ use Rattle.dbtg_outcomes.specs.Results.{by_unit}
 use Rattle.dbtg_explore.specs.declared.explored.Failure.{Failure}
 use Rattle.dbtg_explore.specs.Orders.{IsBefore, IsEnd, IsLower, IsNoLater, IsOrder, Meeting}
 use Rattle.dbtg_explore.specs.Pairwise.{ArePairwise}
-use Rattle.dbtg_explore.specs.States.{MeetingState, state_of}
+use Rattle.dbtg_explore.specs.States.{MeetingState, state_of, without_versions}
 
 -- how a program stands for which this is due. It is never spent: how many statements its unit has made does not matter here
 abbrev pub standing_of : Due → Standing
@@ -36,9 +36,10 @@ state_text m state =
     run_text m.schema [] image.records image.lists image.next (map (by_unit (range_with_len 1 (length m.programs))) image.usage) state.sequential.units
     ++ programs_text 1 m.programs (map reached_of state.programs)
 
--- of the state after an order
+-- what tells the result of an order from others: this text, but without versions. Of a kept record it has 1 for the version if the record
+-- still has it, and 0 otherwise
 abbrev pub result_text : Meeting → List ℕ → List ℕ
-result_text m order = state_text m (state_of m order)
+result_text m order = state_text m (without_versions (state_of m order))
 
 -- all results, by the first order to each: every order that comes to an end has the text of a result that is no later; no two have the
 -- same text; and they are in order

@@ -1,5 +1,5 @@
 -- Where a meeting is. Two states count as one if they agree in everything that later statements depend on: in all but the order in which
--- units opened an area.
+-- units opened an area, and the versions of records. Of these it counts only whether a record still has the version that a unit keeps of it.
 -- m is a meeting, u a unit, o and p are orders.
 use Rattle.std.specs.Prelude.{ℕ, ◌≡◌, ◌+◌, ◌<◌, List, [], ◌∷◌, Contains, length}
 use Rattle.dbtg_unit.specs.declared.unit.Entry.{Entry}
@@ -7,9 +7,10 @@ use Rattle.dbtg_unit.specs.Database.Laws.Replay.{State, opening_state, replay}
 use Rattle.dbtg_program.specs.declared.program.Program.{Program}
 use Rattle.dbtg_program.specs.Going.{Due}
 use Rattle.dbtg_going.specs.Turns.{comes}
-use Rattle.dbtg_outcomes.specs.Alike.{Unordered, unordered}
+use Rattle.dbtg_outcomes.specs.Alike.{Unordered}
 use Rattle.dbtg_explore.specs.Orders.{IsOrder, Meeting, history_of}
 use Rattle.dbtg_explore.specs.Pairwise.{ArePairwise}
+use Rattle.dbtg_explore.specs.Versions.{essential, unversioned}
 
 -- the database with its units, and for each program the statement that is due in its state, or its end
 pub record MeetingState : Type 0 where
@@ -35,13 +36,17 @@ state_of m order = state_after m (history_of m order)
 
 -- WHAT TELLS STATES APART
 
--- a state without the order in which units opened an area
+-- the same without versions
+abbrev pub without_versions : MeetingState → MeetingState
+without_versions state = record { sequential = unversioned state.sequential; programs = state.programs }
+
+-- a state without versions, and without the order in which units opened an area
 pub record Essence : Type 0 where
   pub sequential : Unordered
   pub programs : List Due
 
 abbrev pub essence : MeetingState → Essence
-essence state = record { sequential = unordered state.sequential; programs = state.programs }
+essence state = record { sequential = essential state.sequential; programs = state.programs }
 
 -- the essence of the state after an order
 abbrev pub essence_of : Meeting → List ℕ → Essence

@@ -3,16 +3,23 @@
 ghost use Rattle.dbtg_explore.specs.Inside.Keys.{due_numbers, how_numbers, state_numbers};
 ghost use Rattle.dbtg_explore.specs.Inside.Whereabouts.{AreWhereabouts};
 ghost use Rattle.dbtg_explore.specs.Orders.{IsMeeting};
-ghost use Rattle.dbtg_explore.specs.States.{state_after};
+ghost use Rattle.dbtg_explore.specs.States.{sequential_after, state_after};
+ghost use Rattle.dbtg_explore.specs.Versions.{unversioned};
 ghost use Rattle.dbtg_going.specs.Goings.{comes_of};
-ghost use Rattle.dbtg_outcomes.specs.Spelling.{list_numbers};
-ghost use Rattle.std.specs.Prelude.{◌≡◌, ◌++◌, ◌∷◌, [], flat_map, IfOk, OnOk};
+ghost use Rattle.dbtg_outcomes.specs.Results.{in_unit_order};
+ghost use Rattle.dbtg_outcomes.specs.Spelling.{image_numbers, list_numbers, unit_numbers};
+ghost use Rattle.dbtg_unit.specs.Database.State.Image.{image_of};
+ghost use Rattle.std.specs.List.{range_with_len};
+ghost use Rattle.std.specs.Prelude.{◌≡◌, ◌++◌, ◌∷◌, [], flat_map, length, IfOk, OnOk};
 
 use crate::meeting::Meeting;
+use crate::unversioned::{unversioned_image, unversioned_units};
 use crate::whereabouts::Whereabouts;
 use dbtg_going::Going;
 use dbtg_outcomes::{Spelled, spell_each, spell_image};
 use dbtg_program::{Due, End};
+use dbtg_schema::Row;
+use dbtg_unit::{Image, Unit};
 use std::alloc::{AllocError, Global};
 
 // How many things there are, and then each.
@@ -69,8 +76,43 @@ fn spell_programs(goings: &[Going], out: &mut Vec<u64>) -> Result<(), AllocError
 }
 
 impl<'a> Meeting<'a> {
+    // The units of a place without the versions of records, of which the image has the list.
+    fn unversioned_units(
+        &self,
+        alloc: Global,
+        place: &Whereabouts,
+        image: &Image,
+    ) -> Result<Row<Unit>, AllocError>
+        requires meeting { IsMeeting self.now }
+        requires place { AreWhereabouts self.now place.now }
+        requires image { image.now ≡ image_of self.now.schema self.now.capacity (sequential_after self.now place.now.database.history).database }
+        ensures { IfOk result (λ units. units ≡ (unversioned (sequential_after self.now place.now.database.history)).units) }
+    {
+        // Only a legal database has all its live keys in its image, and its history says that it is legal.
+        let _history = place.database.history();
+        unversioned_units(alloc, image.versions.as_slice(), place.database.units())
+    }
+
+    // The numbers of a place with this image and these units.
+    fn key_of(
+        &self,
+        alloc: Global,
+        place: &Whereabouts,
+        image: &Image,
+        units: &[Unit],
+    ) -> Result<Vec<u64>, AllocError>
+        requires { IsMeeting self.now }
+        ensures { IfOk result (λ key. key.items ≡ image_numbers (in_unit_order (range_with_len 1 (length self.now.programs)) image.now) ++ (list_numbers unit_numbers units.now ++ list_numbers (λ g. due_numbers (comes_of g)) place.now.goings.items)) }
+    {
+        let mut key = Vec::new(alloc);
+        spell_image(alloc, image, self.units(), &mut key)?;
+        spell_list(units, &mut key)?;
+        spell_programs(place.goings.as_slice(), &mut key)?;
+        Ok(key)
+    }
+
     /// The state of a place as numbers. Two places have the same numbers exactly if their states differ at most in the order in which units
-    /// opened an area.
+    /// opened an area, and in versions that tell no kept record from its own.
     pub(crate) fn state_key(
         &self,
         alloc: Global,
@@ -80,11 +122,9 @@ impl<'a> Meeting<'a> {
         requires place { AreWhereabouts self.now place.now }
         ensures { IfOk result (λ key. key.items ≡ state_numbers self.now (state_after self.now place.now.database.history)) }
     {
-        let mut key = Vec::new(alloc);
         let image = place.database.image()?;
-        spell_image(alloc, &image, self.units(), &mut key)?;
-        spell_list(place.database.units(), &mut key)?;
-        spell_programs(place.goings.as_slice(), &mut key)?;
-        Ok(key)
+        let units = self.unversioned_units(alloc, place, &image)?;
+        let image = unversioned_image(alloc, image);
+        self.key_of(alloc, place, &image, units.as_slice())
     }
 }

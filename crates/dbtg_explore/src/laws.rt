@@ -1,15 +1,25 @@
 //! What orders say of runs, as the contract of a function that does nothing.
 ghost use Rattle.dbtg_explore.specs.Laws.{EveryRunByTurnsComesOut, EveryRunComesOut};
 ghost use Rattle.dbtg_explore.specs.Orders.{Meeting};
+ghost use Rattle.dbtg_explore.specs.Versions.{VersionsAreNoState};
 
 /// Whatever units do event by event: after every list of moves, if the statements that were made are those of the programs, each to its
-/// end, the run has the history of an order of whole statements that comes to an end, and so the text of one of the results.
+/// end, the run has the history of an order of whole statements that comes to an end, and is printed as this order is: but for versions so
+/// is one of the results.
 pub fn every_run_comes_out()
     ensures { (m : Meeting) → EveryRunComesOut m }
 {}
 
 /// Whatever the turns in which programs make their statements: if after them none can go on, the run has the history of an order of whole
-/// statements that comes to an end, and so the text of one of the results.
+/// statements that comes to an end, and is printed as this order is: but for versions so is one of the results.
 pub fn every_run_by_turns_comes_out()
     ensures { (m : Meeting) → EveryRunByTurnsComesOut m }
+{}
+
+/// The versions of records are no part of a state, but for whether a record still has the version that a unit keeps of it: after two
+/// histories whose states differ in these alone, and in the order in which units opened an area, whatever statements are made get the same
+/// answers, and lead to states that differ there alone. So a program that changes a record each time that it tries again does not come to
+/// a new state each time.
+pub fn versions_are_no_state()
+    ensures { VersionsAreNoState }
 {}

@@ -13,9 +13,10 @@ mod meeting;
 mod search;
 mod text;
 mod told;
+mod unversioned;
 mod whereabouts;
 
 pub use explored::{Endless, Explored, Failure, explore};
-pub use laws::{every_run_by_turns_comes_out, every_run_comes_out};
+pub use laws::{every_run_by_turns_comes_out, every_run_comes_out, versions_are_no_state};
 pub use meeting::Meeting;
 pub use told::told_text;

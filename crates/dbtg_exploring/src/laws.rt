@@ -6,8 +6,8 @@ ghost use Rattle.dbtg_schema.specs.Lists.{Lists};
 ghost use Rattle.std.specs.Prelude.{List};
 
 /// Whatever programs do on threads, the first of them before all others and the last one after them: if all come to their ends and no unit
-/// is spent, the run has the history of an order of whole statements that comes to an end, and so the text of one of the results of
-/// `explore`.
+/// is spent, the run has the history of an order of whole statements that comes to an end, and is printed as this order is: but for
+/// versions so is one of the results of `explore`.
 pub fn every_run_on_threads_comes_out()
     ensures { (schema : Lists) (programs : List Program) (asked : Exploring) → EveryRunOnThreadsComesOut schema programs asked }
 {}

@@ -10,6 +10,7 @@ use Rattle.dbtg_outcomes.specs.Results.{in_unit_order}
 use Rattle.dbtg_outcomes.specs.Spelling.{image_numbers, list_numbers, unit_numbers, value_numbers}
 use Rattle.dbtg_explore.specs.Orders.{Meeting}
 use Rattle.dbtg_explore.specs.States.{MeetingState}
+use Rattle.dbtg_explore.specs.Versions.{unversioned}
 
 -- for a program's state the sentence, the status and the values
 abbrev pub program_numbers : ProgramState → List ℕ
@@ -27,8 +28,9 @@ abbrev pub due_numbers : Due → List ℕ
 due_numbers (due state s) = 0 ∷ 0 ∷ program_numbers state
 due_numbers (ended state how) = how_numbers how ++ program_numbers state
 
--- for a state the database without the order in which units opened an area, the units, and the programs
+-- for a state the database without versions and without the order in which units opened an area, the units without versions, and the
+-- programs
 abbrev pub state_numbers : Meeting → MeetingState → List ℕ
 state_numbers m state =
-    image_numbers (in_unit_order (range_with_len 1 (length m.programs)) (image_of m.schema m.capacity state.sequential.database))
-    ++ (list_numbers unit_numbers state.sequential.units ++ list_numbers due_numbers state.programs)
+    image_numbers (in_unit_order (range_with_len 1 (length m.programs)) (record (image_of m.schema m.capacity state.sequential.database) { versions = [] }))
+    ++ (list_numbers unit_numbers (unversioned state.sequential).units ++ list_numbers due_numbers state.programs)

@@ -76,6 +76,11 @@ record_same None q h g e f = absurd (false≢true h)
 record_same (Some r) None h g e f = absurd (false≢true g)
 record_same (Some r) (Some q) h g e f = λ i. Some (record { items = e i; version = f i })
 
+contents_same : (r q : Option Record) → is_some r ≡ true → is_some q ≡ true → unwrap_or (option_map (λ r. r.items) r) [] ≡ unwrap_or (option_map (λ r. r.items) q) [] → option_map (λ r. r.items) r ≡ option_map (λ r. r.items) q
+contents_same None q h g e = absurd (false≢true h)
+contents_same (Some r) None h g e = absurd (false≢true g)
+contents_same (Some r) (Some q) h g e = ap Some e
+
 list_same : (l m : Option (List DbKey)) → is_some l ≡ true → is_some m ≡ true → unwrap_or l [] ≡ unwrap_or m [] → l ≡ m
 list_same None m h g e = absurd (false≢true h)
 list_same (Some l) None h g e = absurd (false≢true g)
@@ -146,14 +151,14 @@ uses_from n es fs all all' same u =
 
 -- THE DATABASES
 
-module _ (schema : Lists) (capacity n : ℕ) (db eb : Database) (ldb : Legal schema capacity db) (leb : Legal schema capacity eb) (same : in_unit_order (range_with_len 1 n) (image_of schema capacity db) ≡ in_unit_order (range_with_len 1 n) (image_of schema capacity eb)) where
+-- an image without the versions of records
+abbrev pub unversioned_image : Image → Image
+unversioned_image i = record i { versions = [] }
+
+module _ (schema : Lists) (capacity n : ℕ) (db eb : Database) (ldb : Legal schema capacity db) (leb : Legal schema capacity eb) (same : in_unit_order (range_with_len 1 n) (unversioned_image (image_of schema capacity db)) ≡ in_unit_order (range_with_len 1 n) (unversioned_image (image_of schema capacity eb))) where
   items_are : paired (items_of db) (all_keys schema capacity db) ≡ paired (items_of eb) (all_keys schema capacity eb)
   unfolding image_of
   items_are = ap (λ (i : Image). i.records) same
-
-  versions_are : paired (version_of db) (all_keys schema capacity db) ≡ paired (version_of eb) (all_keys schema capacity eb)
-  unfolding image_of
-  versions_are = ap (λ (i : Image). i.versions) same
 
   lists_are : map (λ s. paired (members_of db s) (owners schema capacity db s)) (set_numbers schema) ≡ map (λ s. paired (members_of eb s) (owners schema capacity eb s)) (set_numbers schema)
   unfolding image_of
@@ -182,8 +187,16 @@ module _ (schema : Lists) (capacity n : ℕ) (db eb : Database) (ldb : Legal sch
       (λ h. all_are_live schema capacity eb leb k (subst (λ (ks : List DbKey). In k ks) keys_are (live_in_all schema capacity db ldb k h)))
       (λ h. all_are_live schema capacity db ldb k (subst (λ (ks : List DbKey). In k ks) (sym keys_are) (live_in_all schema capacity eb leb k h)))
 
-  same_records : (k : DbKey) → db.records k ≡ eb.records k
-  same_records k =
+  same_contents : (k : DbKey) → option_map (λ r. r.items) (db.records k) ≡ option_map (λ r. r.items) (eb.records k)
+  same_contents k =
+      elim (cases_Bool (is_live db k)) [
+        | inl h ↦ contents_same (db.records k) (eb.records k) h (sym (live_are k) ∙ h) (said_same (items_of db) (items_of eb) _ _ k items_are (live_in_all schema capacity db ldb k h))
+        | inr h ↦ ap (option_map (λ r. r.items)) (none_is (db.records k) h ∙ sym (none_is (eb.records k) (sym (live_are k) ∙ h)))
+      ]
+
+  -- if their versions are the same too
+  same_records : paired (version_of db) (all_keys schema capacity db) ≡ paired (version_of eb) (all_keys schema capacity eb) → (k : DbKey) → db.records k ≡ eb.records k
+  same_records versions_are k =
       elim (cases_Bool (is_live db k)) [
         | inl h ↦
             let at = live_in_all schema capacity db ldb k h in
@@ -233,19 +246,46 @@ module _ (schema : Lists) (capacity n : ℕ) (db eb : Database) (ldb : Legal sch
 
 -- THE STATES
 
+-- what states have in common whose images are the same but for versions
+pub record HaveTheSame (one other : State) : Type 0 where
+  pub contents : (k : DbKey) → option_map (λ r. r.items) (one.database.records k) ≡ option_map (λ r. r.items) (other.database.records k)
+  pub lists : (s : ℕ) (o : Owner) → one.database.lists s o ≡ other.database.lists s o
+  pub last : (t k : ℕ) → one.database.last t k ≡ other.database.last t k
+  pub uses : (a u : ℕ) → uses_of u (one.database.usage a) ≡ uses_of u (other.database.usage a)
+
+pub same_stored : (schema : Lists) (capacity n : ℕ) (one other : State) → IsLegalState schema capacity one → IsLegalState schema capacity other → length one.units ≡ n → length other.units ≡ n
+    → in_unit_order (range_with_len 1 n) (unversioned_image (image_of schema capacity one.database)) ≡ in_unit_order (range_with_len 1 n) (unversioned_image (image_of schema capacity other.database))
+    → HaveTheSame one other
+same_stored schema capacity n one other lo lp count count' same =
+    let db = one.database in
+    let eb = other.database in
+    let within : (a : ℕ) → list_all (λ e. nat_lt 0 e.0 && nat_le e.0 n) (db.usage a) ≡ true = λ a. subst (λ k. list_all (λ e. nat_lt 0 e.0 && nat_le e.0 k) (db.usage a) ≡ true) count (lo.users a) in
+    let within' : (a : ℕ) → list_all (λ e. nat_lt 0 e.0 && nat_le e.0 n) (eb.usage a) ≡ true = λ a. subst (λ k. list_all (λ e. nat_lt 0 e.0 && nat_le e.0 k) (eb.usage a) ≡ true) count' (lp.users a) in
+    record {
+      contents = same_contents schema capacity n db eb lo.legal lp.legal same;
+      lists = same_lists schema capacity n db eb lo.legal lp.legal same;
+      last = same_last schema capacity n db eb lo.legal lp.legal same;
+      uses = λ a u. uses_from n (db.usage a) (eb.usage a) (within a) (within' a) (same_usage schema capacity n db eb lo.legal lp.legal same a) u;
+    }
+
+versions_in : (schema : Lists) (capacity n : ℕ) (db eb : Database) → in_unit_order (range_with_len 1 n) (image_of schema capacity db) ≡ in_unit_order (range_with_len 1 n) (image_of schema capacity eb)
+    → paired (version_of db) (all_keys schema capacity db) ≡ paired (version_of eb) (all_keys schema capacity eb)
+unfolding image_of
+versions_in schema capacity n db eb same = ap (λ (i : Image). i.versions) same
+
 pub same_unordered : (schema : Lists) (capacity n : ℕ) (one other : State) → IsLegalState schema capacity one → IsLegalState schema capacity other → length one.units ≡ n → length other.units ≡ n
     → in_unit_order (range_with_len 1 n) (image_of schema capacity one.database) ≡ in_unit_order (range_with_len 1 n) (image_of schema capacity other.database)
     → one.units ≡ other.units → unordered one ≡ unordered other
 same_unordered schema capacity n one other lo lp count count' same units =
     let db = one.database in
     let eb = other.database in
-    let within : (a : ℕ) → list_all (λ e. nat_lt 0 e.0 && nat_le e.0 n) (db.usage a) ≡ true = λ a. subst (λ k. list_all (λ e. nat_lt 0 e.0 && nat_le e.0 k) (db.usage a) ≡ true) count (lo.users a) in
-    let within' : (a : ℕ) → list_all (λ e. nat_lt 0 e.0 && nat_le e.0 n) (eb.usage a) ≡ true = λ a. subst (λ k. list_all (λ e. nat_lt 0 e.0 && nat_le e.0 k) (eb.usage a) ≡ true) count' (lp.users a) in
+    let but_versions : in_unit_order (range_with_len 1 n) (unversioned_image (image_of schema capacity db)) ≡ in_unit_order (range_with_len 1 n) (unversioned_image (image_of schema capacity eb)) = ap unversioned_image same in
+    let stored = same_stored schema capacity n one other lo lp count count' but_versions in
     λ i. record {
-      records = λ k. same_records schema capacity n db eb lo.legal lp.legal same k i;
-      lists = λ s o. same_lists schema capacity n db eb lo.legal lp.legal same s o i;
-      last = λ t k. same_last schema capacity n db eb lo.legal lp.legal same t k i;
-      uses = λ a u. uses_from n (db.usage a) (eb.usage a) (within a) (within' a) (same_usage schema capacity n db eb lo.legal lp.legal same a) u i;
+      records = λ k. same_records schema capacity n db eb lo.legal lp.legal but_versions (versions_in schema capacity n db eb same) k i;
+      lists = λ s o. stored.lists s o i;
+      last = λ t k. stored.last t k i;
+      uses = λ a u. stored.uses a u i;
       units = units i;
     }
 
