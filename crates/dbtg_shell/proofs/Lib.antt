@@ -1,4 +1,5 @@
 mod Hints
+mod ProgramSteps
 mod Rows
 mod SessionSteps
 mod SessionTurns

@@ -47,6 +47,18 @@ texts_same (z ∷ xs) (suc k) x y e q = ap (λ (ts : List (List ℕ)). z.text.it
 abbrev pub typed : Making → List Script → Typed
 typed making scripts = record { making = making; texts = texts_in scripts }
 
+-- a place in a list has something
+pub found_below : {X : Type 0} (xs : List X) (k : ℕ) → k < length xs → (x : X) × (slice_get xs k ≡ Some x)
+found_below [] k h = absurd (omega (arith, h))
+found_below (x ∷ xs) zero h = (x, refl)
+found_below (x ∷ xs) (suc k) h = found_below xs k (omega (arith, h))
+
+-- a script that is there has a place
+pub there : (xs : List Script) (k : ℕ) (x : Script) → slice_get xs k ≡ Some x → k < length xs
+there [] k x e = absurd (cc (e))
+there (z ∷ xs) zero x e = omega arith
+there (z ∷ xs) (suc k) x e = let more = there xs k x e in omega (arith, more)
+
 text_at : (making : Making) (xs : List Script) (u : ℕ) (x : Script) → slice_get xs (u - 1) ≡ Some x → text_of (typed making xs) u ≡ x.text.items
 text_at making xs u x e = ap (λ (o : Option (List ℕ)). unwrap_or o []) (slice_get-map (λ (z : Script). z.text.items) xs (u - 1) ∙ ap (option_map (λ (z : Script). z.text.items)) e)
 
@@ -190,6 +202,8 @@ module _ (schema : Lists) (capacity : ℕ) (old new : Making) (scripts : List Sc
     statement = m.statement;
     says = subst (λ (s : Lists). line_statement s (trimmed line) ≡ Some m.statement) (sym session.schema_is) m.says;
     made = m.made;
+    of_unit = subst (λ (n : ℕ). u - 1 < n) (sym (length-map scripts (λ (x : Script). x.text.items))) (there scripts (u - 1) one at);
+    room = subst (λ (t : List ℕ). length t + length line < SCRIPT_BYTES) (sym (text_at old scripts u one at)) m.room;
     texts_are = texts_set scripts (u - 1) next ∙ ap (slice_set (texts_in scripts) (u - 1)) (m.entered.text ∙ ap (λ (t : List ℕ). t ++ line ++ 10 ∷ []) (sym (text_at old scripts u one at)));
   }
   typed_then false m = (typed_same m.0 m.1, subst (λ (s : Lists). line_statement s (trimmed line) ≡ None) (sym session.schema_is) m.2)

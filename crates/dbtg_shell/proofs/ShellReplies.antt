@@ -24,7 +24,7 @@ use Rattle.dbtg_shell.specs.declared.session.Refusal.TheVariants.{Fault}
 
 -- THE LAST ENTRY
 
-last_entry : (history before : List Entry) (e : Entry) → history ≡ before ++ e ∷ [] → slice_get history (length history - 1) ≡ Some e
+pub last_entry : (history before : List Entry) (e : Entry) → history ≡ before ++ e ∷ [] → slice_get history (length history - 1) ≡ Some e
 last_entry history before e is =
     let many : length history ≡ length before + 1 = ap length is ∙ length-append before (e ∷ []) in
     let place : length history - 1 ≡ length before = omega (arith, many) in
@@ -65,6 +65,7 @@ is_text A B (reply.Text out) f told = f out.items told
 is_text A B reply.Untold f told = told
 is_text A B (reply.Save directory) f told = told
 is_text A B (reply.Load path) f told = told
+is_text A B (reply.Run path) f told = told
 is_text A B reply.Quit f told = told
 
 -- who takes a statement back keeps the turn

@@ -4,25 +4,25 @@ use Rattle.std.specs.Prelude.{option_map, unwrap_or}
 use Rattle.std.specs.List.{list_all}
 use Rattle.std.proofs.lemmas.Bool.{and_parts}
 use Rattle.std.proofs.lemmas.List.Folds.{list_all-append}
-use Rattle.std.proofs.lemmas.List.{append_assoc, length-reverse, length-set, reverse-append, reverse-reverse}
+use Rattle.std.proofs.lemmas.List.{append_assoc, length-map, length-reverse, length-set, reverse-append, reverse-reverse}
 use Rattle.std.proofs.lemmas.Option.{slice_get-map}
 use Rattle.dbtg_schema.specs.Lists.{Lists}
 use Rattle.dbtg_cells.proofs.Public.{get_behind}
-use Rattle.dbtg_unit.specs.Database.Laws.Replay.{AnswersHold, IsHistoryOf, State, after_effect, answer_to, entries_of, opening_state, effect_of_unit, replay}
+use Rattle.dbtg_unit.specs.Database.Laws.Replay.{AnswersHold, IsHistoryOf, after_effect, answer_to, entries_of, opening_state, effect_of_unit, replay}
 use Rattle.dbtg_unit.specs.Database.Statements.Effect.{StatementEffect}
 use Rattle.dbtg_unit.specs.Database.Statements.Fits.{fits}
 use Rattle.dbtg_unit.specs.declared.unit.Answer.{Answer}
 use Rattle.dbtg_unit.specs.declared.unit.Entry.{Entry}
-use Rattle.dbtg_unit.specs.declared.unit.Unit.{Unit}
 use Rattle.dbtg_unit.proofs.Public.{answers_behind, entries_mine, entries_other, opening_length, replay_keeps_count, replays_one_more, slice_get_range, unit_is_there}
 use Rattle.dbtg_step.specs.Core.Whole.{HasMade, Making, state_now}
 use Rattle.dbtg_step.proofs.Public.{found_of}
+use Rattle.dbtg_script.specs.declared.limits.TheConstants.{SCRIPT_BYTES}
 use Rattle.dbtg_script.specs.Lines.{trimmed}
 use Rattle.dbtg_script.specs.Statements.{line_statement}
 use Rattle.dbtg_shell.specs.Inside.Sessions.{BeginsHistory, HasGrown, IsOwnScript, IsScriptOf, IsSession}
 use Rattle.dbtg_shell.specs.Sessions.{HasTyped, text_of}
 use Rattle.dbtg_shell.specs.declared.session.Script.{Script}
-use Rattle.dbtg_shell.proofs.SessionSteps.{texts_in, texts_set, typed}
+use Rattle.dbtg_shell.proofs.SessionSteps.{texts_in, texts_set, there, typed}
 
 -- ONE ENTRY OF A HISTORY
 
@@ -111,7 +111,7 @@ set_as_it_was [] k x e = refl
 set_as_it_was (z ∷ zs) zero x e = let h : z ≡ x = cc (e) in ap (λ (y : _). y ∷ zs) (sym h)
 set_as_it_was (z ∷ zs) (suc k) x e = ap (λ (ys : List _). z ∷ ys) (set_as_it_was zs k x e)
 
-get_set : {X : Type 0} (xs : List X) (k : ℕ) (x y : X) → slice_get xs k ≡ Some x → slice_get (slice_set xs k y) k ≡ Some y
+pub get_set : {X : Type 0} (xs : List X) (k : ℕ) (x y : X) → slice_get xs k ≡ Some x → slice_get (slice_set xs k y) k ≡ Some y
 get_set [] k x y e = absurd (cc (e))
 get_set (z ∷ zs) zero x y e = refl
 get_set (z ∷ zs) (suc k) x y e = get_set zs k x y e
@@ -187,12 +187,14 @@ module _ (schema : Lists) (capacity : ℕ) (old : Making) (scripts : List Script
                   ∙ ap (after_effect (state_now before) u) e;
             }
 
+    text_left : text_of (typed before (slice_set scripts (u - 1) next)) u ≡ next.text.items
+    text_left =
+        let there : slice_get (slice_set scripts (u - 1) next) (u - 1) ≡ Some next = get_set scripts (u - 1) one next at in
+        ap (λ (o : Option (List ℕ)). unwrap_or o []) (slice_get-map (λ (z : Script). z.text.items) (slice_set scripts (u - 1) next) (u - 1) ∙ ap (option_map (λ (z : Script). z.text.items)) there)
+
     texts_again : texts_in scripts ≡ slice_set (texts_in (slice_set scripts (u - 1) next)) (u - 1) (text_of (typed before (slice_set scripts (u - 1) next)) u ++ taken.1 ++ 10 ∷ [])
     texts_again =
-        let there : slice_get (slice_set scripts (u - 1) next) (u - 1) ≡ Some next = get_set scripts (u - 1) one next at in
-        let own : text_of (typed before (slice_set scripts (u - 1) next)) u ≡ next.text.items =
-        ap (λ (o : Option (List ℕ)). unwrap_or o []) (slice_get-map (λ (z : Script). z.text.items) (slice_set scripts (u - 1) next) (u - 1) ∙ ap (option_map (λ (z : Script). z.text.items)) there) in
-        let whole : text_of (typed before (slice_set scripts (u - 1) next)) u ++ taken.1 ++ 10 ∷ [] ≡ one.text.items = ap (λ (x : List ℕ). x ++ taken.1 ++ 10 ∷ []) (own ∙ text_is) ∙ sym taken.3.text_is in
+        let whole : text_of (typed before (slice_set scripts (u - 1) next)) u ++ taken.1 ++ 10 ∷ [] ≡ one.text.items = ap (λ (x : List ℕ). x ++ taken.1 ++ 10 ∷ []) (text_left ∙ text_is) ∙ sym taken.3.text_is in
         let here : slice_get (texts_in scripts) (u - 1) ≡ Some one.text.items = slice_get-map (λ (z : Script). z.text.items) scripts (u - 1) ∙ ap (option_map (λ (z : Script). z.text.items)) at in
         sym (
         ap (slice_set (texts_in (slice_set scripts (u - 1) next)) (u - 1)) whole
@@ -201,11 +203,22 @@ module _ (schema : Lists) (capacity : ℕ) (old : Making) (scripts : List Script
         ∙ set_as_it_was (texts_in scripts) (u - 1) one.text.items here
         )
 
+    room_again : length (text_of (typed before (slice_set scripts (u - 1) next)) u) + length taken.1 < SCRIPT_BYTES
+    room_again =
+        let own : IsOwnScript schema one (entries_of u old.history) = subst (λ (n : ℕ). IsOwnScript schema one (entries_of n old.history)) number (session.each (u - 1) one at) in
+        let left : length (text_of (typed before (slice_set scripts (u - 1) next)) u) ≡ length taken.0 = ap length (text_left ∙ text_is) in
+        let whole : length one.text.items ≡ length (taken.0 ++ taken.1 ++ 10 ∷ []) = ap length taken.3.text_is in
+        let long = length-append (taken.0 ++ taken.1) (10 ∷ []) in
+        let front = length-append taken.0 taken.1 in
+        omega (arith, own.is_script.short, left, whole, long, front)
+
     pub typed_again : IsHistoryOf schema capacity old.units (earlier ++ last ∷ []) → HasTyped (typed before (slice_set scripts (u - 1) next)) u taken.1 (typed old scripts)
     typed_again h = record {
       statement = last.statement;
       says = taken.3.says;
       made = made_once h;
+      of_unit = subst (λ (n : ℕ). u - 1 < n) (sym (length-map (slice_set scripts (u - 1) next) (λ (x : Script). x.text.items) ∙ length-set scripts (u - 1) next)) (there scripts (u - 1) one at);
+      room = room_again;
       texts_are = texts_again;
     }
 

@@ -1,5 +1,6 @@
 pub mod Asking
 pub mod Replies
 pub mod Sessions
+pub mod Programs
 pub mod UnitWords
 pub mod Inside

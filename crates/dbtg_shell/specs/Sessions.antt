@@ -1,6 +1,6 @@
 -- A session of the shell: what was typed, and what each line does to it and prints. Each statement is made whole on one database, and its
 -- line is appended to the script of its unit.
-use Rattle.std.specs.Prelude.{ℕ, ◌≡◌, ◌+◌, ◌-◌, ◌≤◌, ◌∷◌, ◌++◌, ◌⊎◌, Bool, true, false, IfOk, OnErr, List, [], length, Option, None, Some, Result, Ok, Err, slice_get, slice_set, unwrap_or}
+use Rattle.std.specs.Prelude.{ℕ, ◌≡◌, ◌+◌, ◌-◌, ◌≤◌, ◌<◌, ◌∷◌, ◌++◌, ◌⊎◌, Bool, true, false, IfOk, OnErr, List, [], length, Option, None, Some, Result, Ok, Err, slice_get, slice_set, unwrap_or}
 use Rattle.dbtg_schema.specs.Lists.{Lists}
 use Rattle.dbtg_schema.specs.Lookups.{first}
 use Rattle.dbtg_schema.specs.Texts.SchemaFaults.{refusal as schema_refusal}
@@ -41,11 +41,13 @@ pub record Typed : Type 0 where
 abbrev pub text_of : Typed → ℕ → List ℕ
 text_of typed u = unwrap_or (slice_get typed.texts (u - 1)) []
 
--- unit u made the statement of this line, and the line was appended to its script
+-- unit u made the statement of this line, and the line was appended to its script, which has room for it
 pub record HasTyped (old : Typed) (u : ℕ) (line : List ℕ) (new : Typed) : Type 0 where
   pub statement : Statement
   pub says : line_statement old.making.schema (trimmed line) ≡ Some statement
   pub made : HasMade old.making u statement new.making
+  pub of_unit : u - 1 < length old.texts
+  pub room : length (text_of old u) + length line < SCRIPT_BYTES
   pub texts_are : new.texts ≡ slice_set old.texts (u - 1) (text_of old u ++ line ++ 10 ∷ [])
 
 -- true: the line holds a statement, which was made; false: it holds none, and nothing changed
@@ -89,6 +91,7 @@ IsText Is (reply.Text out) = Is out.items
 IsText Is reply.Untold = ⊥
 IsText Is (reply.Save directory) = ⊥
 IsText Is (reply.Load path) = ⊥
+IsText Is (reply.Run path) = ⊥
 IsText Is reply.Quit = ⊥
 
 -- the same, but the text may be missing because there was no room for it
@@ -97,6 +100,7 @@ MayBeText Is (reply.Text out) = Is out.items
 MayBeText Is reply.Untold = Unit {0}
 MayBeText Is (reply.Save directory) = ⊥
 MayBeText Is (reply.Load path) = ⊥
+MayBeText Is (reply.Run path) = ⊥
 MayBeText Is reply.Quit = ⊥
 
 -- the reply is this text, if there is one

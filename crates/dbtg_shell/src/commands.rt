@@ -15,7 +15,8 @@ use dbtg_command::explain::{Kind, Topic, explained, fault_topic, status_topic, t
 use dbtg_script::{Cause, behind, in_front, is_number, number};
 use std::alloc::{AllocError, Global};
 
-/// What is left to be done for a line: to print a text, to save the session in a directory, to take the lines of a file, or to end.
+/// What is left to be done for a line: to print a text, to save the session in a directory, to take the lines of a
+/// file, to run the program of a file, or to end.
 #[derive(Drop)]
 pub enum Reply<'a> {
     Text(Vec<u8>),
@@ -23,6 +24,7 @@ pub enum Reply<'a> {
     Untold,
     Save(&'a str),
     Load(&'a str),
+    Run(&'a str),
     Quit,
 }
 
@@ -59,6 +61,7 @@ STATEMENT         is made by the unit whose turn it is
 .explain          explains the last status or fault
 .explain 0307     explains this status; .explain script 7 this fault
 .load FILE        takes the lines of this file, as if they were typed
+.run FILE         makes the statements of the program in this file, by the unit whose turn it is
 .save DIRECTORY   writes the scripts and the turns so far, for replay --turns
 .help             shows this
 .quit             ends, as the end of the input does
@@ -181,8 +184,8 @@ impl<'a> Shell<'a> {
         Ok(Reply::Text(told))
     }
 
-    // A statement of the unit with this number, if there is one.
-    fn make_for<'b>(&mut self, unit: u64, line: &[u8]) -> Result<Reply<'b>, AllocError>
+    /// A statement of the unit with this number, if there is one.
+    pub fn make_for<'b>(&mut self, unit: u64, line: &[u8]) -> Result<Reply<'b>, AllocError>
         ensures taken { TakesLine unit self.old.session line.now result self.new.session }
         ensures turn { self.new.turn ≡ self.old.turn }
     {
@@ -281,6 +284,8 @@ impl<'a> Shell<'a> {
             b"explain" => self.explain(rest),
             b"load" if rest.is_empty() => self.text(NO_FILE),
             b"load" => Ok(Reply::Load(rest)),
+            b"run" if rest.is_empty() => self.text(NO_FILE),
+            b"run" => Ok(Reply::Run(rest)),
             b"save" if rest.is_empty() => self.text(NO_DIRECTORY),
             b"save" => Ok(Reply::Save(rest)),
             b"help" if rest.is_empty() => self.text(HELP),

@@ -1,15 +1,28 @@
 //! The dialogue of the shell: lines come from standard input, and the reply to each goes to standard output at once.
+ghost use Rattle.std.specs.Prelude.{◌≡◌, IfOk, None, OnErr, OnOk};
+ghost use Rattle.dbtg_command.specs.declared.fault.Fault.TheVariants.{Memory};
+ghost use Rattle.dbtg_program.specs.Faults.{refusal};
+ghost use Rattle.dbtg_program.specs.Reading.{program as program_said};
+ghost use Rattle.dbtg_shell.specs.Programs.{Following, HasBegun, HasGoneOn, HasRun, IsStopped, RunsText};
+ghost use Rattle.dbtg_shell.specs.Inside.Programs.{IsFollowed, MakesDue, MayHaveMade, MayHaveTyped, TypesLine, end_text, seen};
 
 use crate::commands::{Reply, Shell};
+use crate::running::{Followed, shown_line};
 use crate::saved::{first_there, save};
 use crate::session::Session;
-use dbtg_command::Call;
-use std::alloc::AllocError;
+use dbtg_command::reason::reason;
+use dbtg_command::{Call, Fault, Files, Order, Paths, program_of};
+use dbtg_going::lines_of;
+use dbtg_program::Program;
+use std::alloc::{AllocError, Global};
 use std::fs::File;
 use std::io::{self, BufRead, BufReader, Input, IsTerminal, Read, Write};
 
 // A longer line is cut here. A statement has at most 1,000 bytes.
 const LINE_BYTES: u64 = 8192;
+
+// A longer program is refused, so no more is read of it.
+const PROGRAM_BYTES: u64 = 1_048_577;
 
 const WANT_OF_MEMORY: &str = "want of memory\n";
 
@@ -109,6 +122,193 @@ fn write_saved(
     }
 }
 
+// The text of a file, as far as a program may be long.
+fn program_bytes(rt: &HostRuntime, path: &str) -> io::Result<Vec<u8>> {
+    let mut bytes = Vec::new(rt.alloc());
+    File::open(rt, path)?
+        .take(PROGRAM_BYTES)
+        .read_to_end(&mut bytes)?;
+    Ok(bytes)
+}
+
+// The paths of a schema and a program.
+fn paths_of<'a>(schema: &'a str, scripts: &'a [&'a str]) -> Paths<'a> {
+    Paths {
+        schema,
+        scripts,
+        order: Order::Serial,
+    }
+}
+
+// What `check --programs --explain` prints of a program that is refused.
+fn refusal_text(rt: &HostRuntime, paths: &Paths, fault: &Fault) -> Result<String, AllocError> {
+    let files = Files { reader: rt, paths };
+    match reason(rt.alloc(), &files, fault)? {
+        Some(line) => format!(in rt.alloc(); "{fault}\n{line}\n"),
+        None => format!(in rt.alloc(); "{fault}\n"),
+    }
+}
+
+// The same of the program in a file. Its path is copied, so that the paths of both files live as long.
+fn told_of_file(
+    rt: &HostRuntime,
+    call: &Call<'_>,
+    path: &str,
+    fault: &Fault,
+) -> Result<String, AllocError> {
+    let path = String::from_str(rt.alloc(), path)?;
+    let scripts = [path.as_str()];
+    let paths = paths_of(call.schema, &scripts);
+    refusal_text(rt, &paths, fault)
+}
+
+// Prints why a program is refused; want of memory is no refusal.
+fn write_refusal(rt: &HostRuntime, call: &Call<'_>, path: &str, fault: &Fault) -> Result<(), Broken>
+    ensures { OnOk result (fault.now ≡ Memory → ⊥) }
+{
+    match fault {
+        Fault::Memory => Err(Broken::Memory),
+        _ => {
+            let told = told_of_file(rt, call, path, fault)?;
+            write(rt, told.as_bytes())
+        }
+    }
+}
+
+// Prints the answer to a line of a program.
+fn write_answer(rt: &HostRuntime, reply: &Reply<'_>) -> Result<(), Broken> {
+    match reply {
+        Reply::Text(text) => write(rt, text.as_slice()),
+        Reply::Untold => write(rt, UNTOLD.as_bytes()),
+        _ => Ok(()),
+    }
+}
+
+// Types a line for the unit whose turn it is, shows it with its answer, and says whether it made a statement.
+fn type_line(rt: &HostRuntime, shell: &mut Shell<'_>, line: &[u8]) -> Result<bool, Broken>
+    ensures typed { IfOk result (λ made. TypesLine shell.old.turn shell.old.session line.now made shell.new.session) }
+    ensures part { OnErr result (MayHaveTyped shell.old.turn shell.old.session line.now shell.new.session) }
+    ensures turn { shell.new.turn ≡ shell.old.turn }
+{
+    let shown = shown_line(rt.alloc(), shell.turn as u64, line)?;
+    write(rt, shown.as_slice())?;
+    let before = shell.session.count();
+    let reply = shell.make_for(shell.turn as u64, line)?;
+    write_answer(rt, &reply)?;
+    Ok(shell.session.count() > before)
+}
+
+// Makes the statement that is due in the program, tells the program the answer, and says whether it was made.
+fn make_due(
+    rt: &HostRuntime,
+    shell: &mut Shell<'_>,
+    followed: &mut Followed<'_>,
+) -> Result<bool, Broken>
+    requires followed { IsFollowed followed.old }
+    ensures made { IfOk result (λ made. MakesDue shell.old.turn shell.old.session (seen followed.old) made shell.new.session (seen followed.new)) }
+    ensures part { OnErr result (MayHaveMade shell.old.turn shell.old.session (seen followed.old) shell.new.session) }
+    ensures still { OnOk result (IsFollowed followed.new) }
+    ensures turn { shell.new.turn ≡ shell.old.turn }
+{
+    let Some(line) = followed.line()? else {
+        return Ok(false);
+    };
+    if !type_line(rt, shell, line.as_slice())? {
+        return Ok(false);
+    }
+    match shell.session.last() {
+        None => Ok(false),
+        Some(entry) => {
+            followed.told(entry)?;
+            Ok(true)
+        }
+    }
+}
+
+// Makes the statements of the program, until nothing more is made.
+fn make_all(
+    rt: &HostRuntime,
+    shell: &mut Shell<'_>,
+    followed: &mut Followed<'_>,
+) -> Result<(), Broken>
+    requires followed { IsFollowed followed.old }
+    ensures made { OnOk result (HasGoneOn shell.old.turn shell.old.session (seen followed.old) shell.new.session (seen followed.new)) }
+    ensures stopped { OnOk result (IsStopped shell.old.turn shell.new.session (seen followed.new)) }
+    ensures part { OnErr result ((g : Following) × HasGoneOn shell.old.turn shell.old.session (seen followed.old) shell.new.session g) }
+    ensures turn { shell.new.turn ≡ shell.old.turn }
+{
+    let mut goes_on = true;
+    while goes_on {
+        goes_on = make_due(rt, shell, followed)?;
+    }
+    Ok(())
+}
+
+// What `run` prints of a program that the unit whose turn it is has run.
+fn end_text(shell: &Shell<'_>, followed: Followed<'_>) -> Result<Vec<u8>, AllocError>
+    ensures { IfOk result (λ out. out.items ≡ end_text shell.now.turn shell.now.session followed.entry) }
+{
+    let made = shell.session.count_of(shell.turn);
+    followed.into_text(shell.turn as u64, made)
+}
+
+// Runs a program of this text by the unit whose turn it is.
+fn run_accepted(
+    rt: &HostRuntime,
+    shell: &mut Shell<'_>,
+    program: &Program,
+    text: &[u8],
+) -> Result<(), Broken>
+    requires accepted { refusal shell.old.session.making.schema text.now ≡ None }
+    requires program { program.now ≡ program_said shell.old.session.making.schema text.now }
+    ensures run { OnOk result (HasRun shell.old.turn shell.old.session text.now shell.new.session) }
+    ensures part { OnErr result (HasBegun shell.old.turn shell.old.session text.now shell.new.session) }
+    ensures turn { shell.new.turn ≡ shell.old.turn }
+{
+    let alloc = rt.alloc();
+    let schema = shell.session.schema();
+    let lines = lines_of(alloc, text)?;
+    let mut followed = Followed::beginning(alloc, schema, program, lines.as_slice())?;
+    make_all(rt, shell, &mut followed)?;
+    let ended = end_text(shell, followed)?;
+    write(rt, ended.as_slice())
+}
+
+/// Runs the program of a text by the unit whose turn it is, each statement as if it were typed, and each shown with its answer. A text
+/// that is refused changes nothing. If memory is refused, the program stops where it is.
+pub fn run_program(
+    rt: &HostRuntime,
+    shell: &mut Shell<'_>,
+    call: &Call<'_>,
+    path: &str,
+    text: &[u8],
+) -> Result<(), Broken>
+    ensures run { OnOk result (RunsText shell.old.turn shell.old.session text.now shell.new.session) }
+    ensures part { OnErr result (HasBegun shell.old.turn shell.old.session text.now shell.new.session) }
+    ensures turn { shell.new.turn ≡ shell.old.turn }
+{
+    match program_of(rt.alloc(), shell.session.schema(), 1, text) {
+        Ok(program) => run_accepted(rt, shell, &program, text),
+        Err(fault) => write_refusal(rt, call, path, &fault),
+    }
+}
+
+// Runs the program of a file. A refusal of memory ends the program, and not the shell.
+fn run_file(
+    rt: &HostRuntime,
+    shell: &mut Shell<'_>,
+    call: &Call<'_>,
+    path: &str,
+) -> Result<(), Broken> {
+    match program_bytes(rt, path) {
+        Err(error) => write_unread(rt, path, &error),
+        Ok(text) => match run_program(rt, shell, call, path, text.as_slice()) {
+            Err(Broken::Memory) => write(rt, WANT_OF_MEMORY.as_bytes()),
+            ended => ended,
+        },
+    }
+}
+
 // Prints what a line came to; a line that asks to load is one of a file that is loaded already.
 fn write_reply(
     rt: &HostRuntime,
@@ -121,6 +321,7 @@ fn write_reply(
         Ok(Reply::Untold) => write(rt, UNTOLD.as_bytes()),
         Ok(Reply::Save(directory)) => write_saved(rt, shell, call, *directory),
         Ok(Reply::Load(_)) => write(rt, LOADING.as_bytes()),
+        Ok(Reply::Run(path)) => run_file(rt, shell, call, *path),
         Ok(Reply::Quit) => Ok(()),
         Err(_) => write(rt, WANT_OF_MEMORY.as_bytes()),
     }

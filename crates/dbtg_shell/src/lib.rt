@@ -1,17 +1,18 @@
 //! The shell: statements are read a line at a time, and each is made whole and answered at once. It uses the crate that runs scripts in a
-//! given order, since it saves the scripts and the turns by which they are made again.
+//! given order, since it saves the scripts and the turns by which they are made again. A program is run in it as if its statements were typed.
 #![tactic(auto)]
 
 mod asked;
 mod commands;
 mod dialogue;
 mod replies;
+mod running;
 mod saved;
 mod session;
 mod words;
 mod writing;
 
 pub use commands::{Reply, Shell};
-pub use dialogue::{Broken, converse};
+pub use dialogue::{Broken, converse, run_program};
 pub use session::{Refusal, Script, Session};
 pub use writing::write_file;

@@ -3,6 +3,7 @@ ghost use Rattle.std.specs.Prelude.{◌≡◌, ◌++◌, ◌∷◌, ◌+◌, ◌
 ghost use Rattle.dbtg_schema.specs.Sound.{IsSound};
 ghost use Rattle.dbtg_unit.specs.Database.Statements.Fits.{fits};
 ghost use Rattle.dbtg_unit.specs.Database.State.Image.{image_of};
+ghost use Rattle.dbtg_unit.specs.Database.Laws.Replay.{entries_of};
 ghost use Rattle.dbtg_step.specs.Core.Whole.{HasMade, state_now};
 ghost use Rattle.dbtg_command.specs.Refusals.{is_count};
 ghost use Rattle.dbtg_shell.specs.Sessions.{AreTurnsOf, IsLastSaid, RefusesBehind, RefusesLine, Takes, Undoes, last_made};
@@ -211,6 +212,13 @@ fn made_again<'a>(
     }
 }
 
+// How many of these statements the unit made.
+fn made_by(history: &[Entry], unit: u8) -> usize
+    ensures { result ≡ length (entries_of unit history.now) }
+{
+    history.iter().filter(|entry| entry.unit == unit).count()
+}
+
 /// A database in memory, its units, numbered from 1, and the script of each.
 #[derive(Drop)]
 pub struct Session<'a> {
@@ -308,6 +316,20 @@ impl<'a> Session<'a> {
         ensures { option_map (λ e. e.now) result ≡ last_made self.now }
     {
         self.database.history().last()
+    }
+
+    /// How many statements were made.
+    pub fn count(&self) -> usize
+        ensures { result ≡ length self.now.making.history }
+    {
+        self.database.history().len()
+    }
+
+    /// How many of them the unit with this number made.
+    pub fn count_of(&self, unit: u8) -> usize
+        ensures { result ≡ length (entries_of unit self.now.making.history) }
+    {
+        made_by(self.database.history(), unit)
     }
 
     /// What is in the way of the last statement; nothing if it was done.
