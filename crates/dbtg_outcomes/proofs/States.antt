@@ -3,6 +3,7 @@
 -- Promises: `SameStates`: what a search may put together; `Results`, `ComesOut`: what is returned is all that can come out; `Broken`:
 -- the turns that break a wish are found, if there are any.
 pub mod Alike
+pub mod Alone
 pub mod Broken
 pub mod ComesOut
 pub mod Entered

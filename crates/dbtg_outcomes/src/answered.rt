@@ -1,6 +1,6 @@
 //! The statuses that each statement can have, over all orders.
-ghost use Rattle.std.specs.Prelude.{◌≡◌, ◌≤◌, ◌<◌, ◌==◌, ◌&&◌, length, IfOk, OnOk};
-ghost use Rattle.dbtg_outcomes.specs.Inside.Statuses.{AreAllAnswered, AreAnswered, AreOfNotes, IsAnswered, IsEntered, TakesNote};
+ghost use Rattle.std.specs.Prelude.{◌≡◌, ℕ, ◌≤◌, [], length, map, IfOk, OnOk};
+ghost use Rattle.dbtg_outcomes.specs.Inside.Statuses.{AreAllAnswered, AreAnswered, AreRows, IsEntered, TakeNote};
 
 use crate::notes::Note;
 use dbtg_schema::Row;
@@ -28,62 +28,42 @@ fn enter_status(statuses: &mut Vec<u16>, status: u16) -> Result<(), AllocError>
     }
 }
 
-// Is the note about the statement of this unit at this place, from 0?
-fn is_of(note: Note, unit: u8, place: usize) -> bool
-    ensures { result ≡ (note.unit == unit && note.place == place) }
+// No status, for each of this many statements.
+fn no_statuses(alloc: Global, count: usize) -> Result<Vec<Vec<u16>>, AllocError>
+    ensures { IfOk result (λ rows. (u : ℕ) → AreRows [] u count (map (λ r. r.items) rows.items)) }
 {
-    note.unit == unit && note.place == place
-}
-
-// Inserts the status of a note, if the note is about this statement.
-fn enter_noted(
-    statuses: &mut Vec<u16>,
-    note: Note,
-    unit: u8,
-    place: usize,
-) -> Result<(), AllocError>
-    ensures { OnOk result (TakesNote unit place note statuses.old.items statuses.new.items) }
-{
-    if is_of(note, unit, place) {
-        enter_status(statuses, note.status)?;
+    let mut rows = Vec::new(alloc);
+    for _place in 0..count {
+        rows.push(Vec::new(alloc))?;
     }
-    Ok(())
+    Ok(rows)
 }
 
-// The statuses that are noted for the statement of this unit at this place, from 0.
+// Inserts the status of a note in the row of its statement, if the statement is this unit's.
+fn enter_noted(rows: &mut [Vec<u16>], note: Note, unit: u8) -> Result<(), AllocError>
+    ensures { OnOk result (TakeNote unit note (map (λ r. r.items) rows.old) (map (λ r. r.items) rows.new)) }
+{
+    if note.unit != unit || rows.len() <= note.place {
+        return Ok(());
+    }
+    enter_status(&mut rows[note.place], note.status)
+}
+
+// A row for each of this many statements of the unit: the statuses that are noted for it.
 fn statuses_of(
     alloc: Global,
     notes: &[Note],
     unit: u8,
-    place: usize,
-) -> Result<Vec<u16>, AllocError>
-    ensures { IfOk result (λ statuses. AreOfNotes notes.now unit place statuses.items) }
+    count: usize,
+) -> Result<Vec<Vec<u16>>, AllocError>
+    ensures { IfOk result (λ rows. AreRows notes.now unit count (map (λ r. r.items) rows.items)) }
 {
-    let mut statuses = Vec::new(alloc);
+    let mut rows = no_statuses(alloc, count)?;
+    let all = rows.as_mut_slice();
     for note in notes {
-        enter_noted(&mut statuses, *note, unit, place)?;
+        enter_noted(all, *note, unit)?;
     }
-    Ok(statuses)
-}
-
-// Appends the statement of this unit at this place, from 1.
-fn answer_one(
-    alloc: Global,
-    all: &mut Vec<Answered>,
-    notes: &[Note],
-    unit: u8,
-    place: usize,
-) -> Result<(), AllocError>
-    requires { 0 < place }
-    ensures { OnOk result (IsAnswered notes.now unit place all.old.items all.new.items) }
-{
-    let statuses = statuses_of(alloc, notes, unit, place - 1)?;
-    all.push(Answered {
-        unit,
-        place,
-        statuses,
-    })?;
-    Ok(())
+    Ok(rows)
 }
 
 // Appends this many statements of one unit's script.
@@ -96,8 +76,15 @@ fn answer_script(
 ) -> Result<(), AllocError>
     ensures { OnOk result (AreAnswered notes.now unit count all.old.items all.new.items) }
 {
+    let noted = statuses_of(alloc, notes, unit, count)?;
+    let rows = noted.as_slice();
     for before in 0..count {
-        answer_one(alloc, all, notes, unit, before + 1)?;
+        let statuses = Vec::from_slice(alloc, rows[before].as_slice())?;
+        all.push(Answered {
+            unit,
+            place: before + 1,
+            statuses,
+        })?;
     }
     Ok(())
 }

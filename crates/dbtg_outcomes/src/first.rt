@@ -1,13 +1,15 @@
 //! The script that is made first: all orders begin with it.
-ghost use Rattle.std.specs.Prelude.{◌≡◌, ◌≤◌, ◌<◌, [], length, true, IfOk, OnOk};
+ghost use Rattle.std.specs.List.{list_all};
+ghost use Rattle.std.specs.Prelude.{◌≡◌, ◌≤◌, ◌<◌, ◌∷◌, [], length, true, IfOk, OnOk};
 ghost use Rattle.dbtg_unit.specs.Database.Statements.Fits.{fits};
-ghost use Rattle.dbtg_outcomes.specs.Orders.{first_script, made_first, others};
+ghost use Rattle.dbtg_unit.specs.Database.Laws.Replaying.{statements_of};
+ghost use Rattle.dbtg_outcomes.specs.Orders.{first_script, made, made_first, others};
 ghost use Rattle.dbtg_outcomes.specs.Outcomes.{IsMeeting};
-ghost use Rattle.dbtg_outcomes.specs.Inside.Outcomes.{IsMaking, IsRunOf, MakesNoted};
-ghost use Rattle.dbtg_outcomes.specs.Inside.Search.{AreNotedOf};
+ghost use Rattle.dbtg_outcomes.specs.Inside.Outcomes.{IsMaking, IsRunOf, MakesNoted, MakesScript};
+ghost use Rattle.dbtg_outcomes.specs.Inside.Search.{AreNotedOf, order_alone};
 
-use crate::meeting::{Meeting, made_by, make_copy};
-use crate::notes::{Note, enter_note};
+use crate::meeting::{Meeting, make_copy};
+use crate::notes::Note;
 use dbtg_schema::Row;
 use dbtg_step::{Run, WholeDatabase};
 use dbtg_unit::Statement;
@@ -45,24 +47,24 @@ impl<'a> Meeting<'a> {
         others(self.first, self.scripts)
     }
 
-    // A unit makes a statement, and its status is noted.
+    // A unit makes the statement at this place of its script, and its status is noted.
     fn make_noted(
         &self,
         alloc: Global,
         database: &mut WholeDatabase,
         unit: u8,
+        place: usize,
         statement: &Statement,
         notes: &mut Vec<Note>,
     ) -> Result<(), AllocError>
         requires same { database.old ≡ record { schema = self.now.schema; capacity = self.now.capacity; units = length self.now.scripts; history = database.old.history } }
         requires numbered { 0 < unit }
         requires within { unit ≤ length self.now.scripts }
+        requires placed { place ≡ made unit (statements_of database.old.history) }
         requires fitting { fits self.now.schema statement.now ≡ true }
         ensures { OnOk result (MakesNoted self.now unit statement.now database.old database.new notes.old.items notes.new.items) }
     {
-        let history = database.history();
-        let before = history.len();
-        let place = made_by(history, unit);
+        let before = database.history().len();
         make_copy(alloc, database, unit, statement)?;
         let made = &database.history()[before];
         let status = made.answer.status.code(&made.statement);
@@ -71,11 +73,32 @@ impl<'a> Meeting<'a> {
             place,
             status,
         };
-        enter_note(notes, note)?;
+        notes.push(note)?;
         Ok(())
     }
 
-    // The script that is made first, statement by statement.
+    // A unit that has made nothing yet makes a script, statement by statement.
+    fn make_script(
+        &self,
+        alloc: Global,
+        database: &mut WholeDatabase,
+        unit: u8,
+        script: &[Statement],
+        notes: &mut Vec<Note>,
+    ) -> Result<(), AllocError>
+        requires same { database.old ≡ record { schema = self.now.schema; capacity = self.now.capacity; units = length self.now.scripts; history = database.old.history } }
+        requires within { 0 < length script.now → (0 < unit) × (unit ≤ length self.now.scripts) }
+        requires idle { made unit (statements_of database.old.history) ≡ 0 }
+        requires fitting { list_all (fits self.now.schema) script.now ≡ true }
+        ensures { OnOk result (MakesScript self.now unit script.now database.old database.new notes.old.items notes.new.items) }
+    {
+        for place in 0..script.len() {
+            self.make_noted(alloc, database, unit, place, &script[place], notes)?;
+        }
+        Ok(())
+    }
+
+    // The script that is made first.
     fn make_first(
         &self,
         alloc: Global,
@@ -88,12 +111,27 @@ impl<'a> Meeting<'a> {
         ensures made { OnOk result (IsMaking self.now (made_first self.now.first self.now.scripts) database.new) }
         ensures noted { OnOk result (AreNotedOf self.now (made_first self.now.first self.now.scripts) notes.new.items) }
     {
-        let unit = self.units();
         let script = first_script(self.first, self.scripts);
-        for statement in script {
-            self.make_noted(alloc, database, unit, statement, notes)?;
-        }
-        Ok(())
+        self.make_script(alloc, database, self.units(), script, notes)
+    }
+
+    // The script that is made first, and then that of unit 1.
+    fn make_alone(
+        &self,
+        alloc: Global,
+        database: &mut WholeDatabase,
+        script: &[Statement],
+        notes: &mut Vec<Note>,
+    ) -> Result<(), AllocError>
+        requires meeting { IsMeeting self.now }
+        requires alone { others self.now.first self.now.scripts ≡ script.now ∷ [] }
+        requires opening { IsMaking self.now [] database.old }
+        requires none { notes.old.items ≡ [] }
+        ensures made { OnOk result (IsMaking self.now (order_alone self.now script.now) database.new) }
+        ensures noted { OnOk result (AreNotedOf self.now (order_alone self.now script.now) notes.new.items) }
+    {
+        self.make_first(alloc, database, notes)?;
+        self.make_script(alloc, database, 1, script, notes)
     }
 
     /// The result of the script that is made first; the statuses of its statements are noted.
@@ -105,6 +143,30 @@ impl<'a> Meeting<'a> {
     {
         let mut database = WholeDatabase::opening(alloc, self.schema, self.capacity, self.units())?;
         match self.make_first(alloc, &mut database, notes) {
+            Ok(()) => Ok(database.into_run()?),
+            Err(refused) => {
+                database.discard();
+                Err(refused)
+            }
+        }
+    }
+
+    /// The result of the script of unit 1, if that is the only one beside the script that is made first; the statuses of all statements
+    /// are noted.
+    pub(crate) fn run_alone(
+        &self,
+        alloc: Global,
+        script: &[Statement],
+        notes: &mut Vec<Note>,
+    ) -> Result<Run, AllocError>
+        requires meeting { IsMeeting self.now }
+        requires alone { others self.now.first self.now.scripts ≡ script.now ∷ [] }
+        requires none { notes.old.items ≡ [] }
+        ensures run { IfOk result (IsRunOf self.now (order_alone self.now script.now)) }
+        ensures noted { OnOk result (AreNotedOf self.now (order_alone self.now script.now) notes.new.items) }
+    {
+        let mut database = WholeDatabase::opening(alloc, self.schema, self.capacity, self.units())?;
+        match self.make_alone(alloc, &mut database, script, notes) {
             Ok(()) => Ok(database.into_run()?),
             Err(refused) => {
                 database.discard();

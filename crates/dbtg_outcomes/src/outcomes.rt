@@ -47,6 +47,9 @@ fn search_all<W: Watch>(
     ensures at_once { limit ≡ 0 → MatchResult result (λ _. ⊥) (λ stop. stop ≡ States) }
 {
     let left = meeting.others();
+    if left.len() == 1 {
+        return Search::alone(alloc, watch, meeting, left[0].as_slice(), limit);
+    }
     let mut search = Search::begin(alloc, meeting, limit)?;
     search.pass(alloc, watch, meeting, left)?;
     Ok(search)

@@ -4,8 +4,8 @@ ghost use Rattle.std.specs.Prelude.{◌≡◌, ◌≤◌, ◌<◌, ◌∷◌, []
 ghost use Rattle.dbtg_unit.specs.Database.Laws.Replaying.{statements_of};
 ghost use Rattle.dbtg_outcomes.specs.declared.search.Stop.TheVariants.{Memory, States};
 ghost use Rattle.dbtg_outcomes.specs.Inside.Grouped.{IsAdded};
-ghost use Rattle.dbtg_outcomes.specs.Orders.{count_statements, next_of};
-ghost use Rattle.dbtg_outcomes.specs.Outcomes.{IsMeeting, states_within};
+ghost use Rattle.dbtg_outcomes.specs.Orders.{count_statements, next_of, others};
+ghost use Rattle.dbtg_outcomes.specs.Outcomes.{IsMeeting, count_states, states_within};
 ghost use Rattle.dbtg_outcomes.specs.Inside.Outcomes.{IsRunOf};
 ghost use Rattle.dbtg_outcomes.specs.Results.{state_key, units_of};
 ghost use Rattle.dbtg_outcomes.specs.Inside.Search.{IsAt};
@@ -199,6 +199,42 @@ impl Search {
         Ok(Search {
             layer,
             states: 1,
+            limit,
+            notes,
+        })
+    }
+
+    /// If there is one script beside the one that is made first, there is one order. No state has to be told from others then, so the
+    /// database is made once, and gone on with.
+    pub fn alone<W: Watch>(
+        alloc: Global,
+        watch: &W,
+        meeting: &Meeting,
+        script: &[Statement],
+        limit: usize,
+    ) -> Result<Search, Stop>
+        requires meeting { IsMeeting meeting.now }
+        requires alone { others meeting.now.first meeting.now.scripts ≡ script.now ∷ [] }
+        ensures at { IfOk result (IsAt meeting.now (count_statements (others meeting.now.first meeting.now.scripts))) }
+        ensures limit { IfOk result (λ search. search.limit ≡ limit) }
+        ensures stopped { IfErr result (λ stop. stop ≡ States → limit < count_states meeting.now) }
+        ensures at_once { limit ≡ 0 → MatchResult result (λ _. ⊥) (λ stop. stop ≡ States) }
+    {
+        if limit <= script.len() {
+            return Err(Stop::States);
+        }
+        let states = script.len() + 1;
+        let mut notes = Vec::new(alloc);
+        let history = meeting.run_alone(alloc, script, &mut notes)?.into_history();
+        let mut layer = Vec::new(alloc);
+        layer.push(Group {
+            history,
+            orders: Some(1),
+        })?;
+        watch.seen(states);
+        Ok(Search {
+            layer,
+            states,
             limit,
             notes,
         })

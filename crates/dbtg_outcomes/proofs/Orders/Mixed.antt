@@ -79,11 +79,11 @@ abbrev pub by_one : ℕ → List Statement → List (ℕ × Statement)
 by_one u xs = map {B = ℕ × Statement} (λ x. (u, x)) xs
 
 -- all statements belong to that unit
-own_all : (u : ℕ) (xs : List Statement) → own u (by_one u xs) ≡ xs
+pub own_all : (u : ℕ) (xs : List Statement) → own u (by_one u xs) ≡ xs
 own_all u [] = refl
 own_all u (x ∷ xs) = own_first (u, x) (by_one u xs) ∙ ap (λ (l : List Statement). x ∷ l) (own_all u xs)
 
-own_none : (u v : ℕ) (xs : List Statement) → (v ≡ u → ⊥) → own u (by_one v xs) ≡ []
+pub own_none : (u v : ℕ) (xs : List Statement) → (v ≡ u → ⊥) → own u (by_one v xs) ≡ []
 own_none u v [] h = refl
 own_none u v (x ∷ xs) h =
     ap (λ (b : Bool). map (λ (t : ℕ × Statement). t.1) (if b then (v, x) ∷ filter (λ (t : ℕ × Statement). t.0 == u) (by_one v xs) else filter (λ (t : ℕ × Statement). t.0 == u) (by_one v xs))) (ne_eqb v u h)

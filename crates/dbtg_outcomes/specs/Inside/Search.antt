@@ -1,6 +1,6 @@
 -- What a search among orders knows once n statements are made.
 -- m is a meeting, o an order, u a unit, w a counted order, n the number of statements that are made.
-use Rattle.std.specs.Prelude.{ℕ, ◌≡◌, ◌<◌, ◌≤◌, ◌⊎◌, List, [], ◌∷◌, ◌++◌, ⊤, Some, length, Contains}
+use Rattle.std.specs.Prelude.{ℕ, ◌≡◌, ◌<◌, ◌≤◌, ◌⊎◌, List, [], ◌∷◌, ◌++◌, ⊤, Some, length, map, Contains}
 use Rattle.std.specs.List.{range_with_len}
 use Rattle.dbtg_unit.specs.declared.statement.Statement.{Statement}
 use Rattle.dbtg_unit.specs.Database.Laws.Replay.{IsHistoryOf}
@@ -28,6 +28,10 @@ CountedOrder = MadeOrder × ℕ
 -- an order, and a unit that may have a next statement
 abbrev pub OrderAndUnit : Type 0
 OrderAndUnit = MadeOrder × ℕ
+
+-- the script that is made first, and then that of unit 1
+abbrev pub order_alone : Meeting → List Statement → MadeOrder
+order_alone m script = made_first m.first m.scripts ++ map (λ x. (1, x)) script
 
 -- GROUPS
 

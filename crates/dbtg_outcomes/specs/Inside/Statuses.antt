@@ -1,6 +1,6 @@
 -- Notes and statuses as they are entered.
 -- u is a unit, i a place in its script from 0.
-use Rattle.std.specs.Prelude.{ℕ, ◌≡◌, ◌+◌, ◌-◌, ◌⊎◌, List, [], ◌∷◌, ◌++◌, map, Contains}
+use Rattle.std.specs.Prelude.{ℕ, ◌≡◌, ◌+◌, ◌-◌, ◌⊎◌, List, [], ◌∷◌, ◌++◌, Some, length, map, slice_get, Contains}
 use Rattle.std.specs.List.{range_with_len}
 use Rattle.dbtg_unit.specs.declared.statement.Statement.{Statement}
 use Rattle.dbtg_outcomes.specs.declared.answered.Answered.{Answered}
@@ -27,6 +27,15 @@ pub record AreOfNotes (notes : List Note) (u i : ℕ) (statuses : List ℕ) : Ty
 -- with one more note, the old statuses of a statement become the new ones
 pub record TakesNote (u i : ℕ) (note : Note) (old new : List ℕ) : Type 0 where
   pub taken : (notes : List Note) → AreOfNotes notes u i old → AreOfNotes (notes ++ note ∷ []) u i new
+
+-- a row for each of unit u's first statements: the statuses that are noted of it
+pub record AreRows (notes : List Note) (u count : ℕ) (rows : List (List ℕ)) : Type 0 where
+  pub count_is : length rows ≡ count
+  pub each : (i : ℕ) (statuses : List ℕ) → slice_get rows i ≡ Some statuses → AreOfNotes notes u i statuses
+
+-- with one more note, the old rows of unit u become the new ones
+pub record TakeNote (u : ℕ) (note : Note) (old new : List (List ℕ)) : Type 0 where
+  pub taken : (notes : List Note) (count : ℕ) → AreRows notes u count old → AreRows (notes ++ note ∷ []) u count new
 
 -- STATEMENTS WITH THEIR STATUSES
 

@@ -1,9 +1,16 @@
-use Rattle.std.proofs.Common.{◌≡◌, ◌+◌, ◌∙◌, ℕ, ap, subst, arith}
+use Rattle.std.proofs.Common.{◌≡◌, ◌+◌, ◌∙◌, ℕ, List, [], ◌∷◌, ap, subst, sym, arith}
 use Rattle.std.proofs.lemmas.Result.{err_from_is_err_and}
+use Rattle.dbtg_unit.specs.declared.statement.Statement.{Statement}
 use Rattle.dbtg_outcomes.specs.Orders.{count_statements, others}
 use Rattle.dbtg_outcomes.specs.Inside.Search.{IsAt}
+use Rattle.dbtg_outcomes.proofs.States.Alone.{only_one}
 use Rattle.dbtg_outcomes.proofs.States.Searched.{over_all, over_first}
 use Rattle.dbtg_outcomes.proofs.outcomes.search_all.Goals as goal
+
+pub alone-requires-clause-alone : goal.alone-requires-clause-alone
+alone-requires-clause-alone g c =
+    let one = only_one c.others-left.result.now c.index-left-0.result (omega arith) c.index-left-0.is in
+    sym c.others-left.ensures ∙ one ∙ ap (λ (l : List Statement). l ∷ []) (sym c.as_slice.ensures)
 
 pub pass-requires-clause-at : goal.pass-requires-clause-at
 pass-requires-clause-at g c = record { made = 0; at = c.in_ok-search.ensures.at }

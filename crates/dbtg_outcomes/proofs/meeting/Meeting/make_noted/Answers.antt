@@ -1,6 +1,5 @@
-use Rattle.std.proofs.Common.{◌≡◌, ◌≤◌, ◌∙◌, ap, sym, subst, length, get_or}
+use Rattle.std.proofs.Common.{◌≡◌, ◌≤◌, ◌∙◌, ap, sym, subst, length, get_or, inr}
 use Rattle.dbtg_unit.specs.Database.Statements.Fits.{fits}
-use Rattle.dbtg_unit.specs.Database.Laws.Replay.{entries_of}
 use Rattle.dbtg_outcomes.proofs.States.First.{makes_noted}
 use Rattle.dbtg_outcomes.proofs.meeting.Meeting.make_noted.Goals as goal
 
@@ -13,7 +12,6 @@ make_copy-requires-clause-fitting c = ap (λ d. fits d.schema c.args.statement.n
 pub returns : goal.returns
 returns c =
     let entry = c.index-history-before.result in
-    let is : entry ≡ get_or c.make_copy.new.database.history (length c.args.database.now.history) entry = c.index-history-before.is ∙ (λ i. get_or (c.history.ensures.history i) (length (c.history-history.ensures.history i)) entry) in
-    let place = c.made_by-place.ensures ∙ ap (λ h. length (entries_of c.args.unit h)) c.history-history.ensures.history in
-    makes_noted c.args.self.now c.args.unit c.args.statement.now c.args.database.now c.make_copy.new.database entry c.made_by-place.result c.code-status.result c.args.notes.now.items c.enter_note.new.notes.items
-    c.in_ok-make_copy.ensures is place c.code-status.ensures c.in_ok-enter_note.ensures
+    let is : entry ≡ get_or c.make_copy.new.database.history (length c.args.database.now.history) entry = c.index-history-before.is ∙ (λ i. get_or (c.history.ensures.history i) (length (c.history-before.ensures.history i)) entry) in
+    makes_noted c.args.self.now c.args.unit c.args.statement.now c.args.database.now c.make_copy.new.database entry c.args.place c.code-status.result c.args.notes.now.items c.push.new.self.items
+    c.in_ok-make_copy.ensures is c.requires.placed c.code-status.ensures (inr c.in_ok-push.ensures.items)
