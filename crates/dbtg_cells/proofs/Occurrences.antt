@@ -1,5 +1,5 @@
 -- What a ring shows of its owner and its members.
-use Rattle.std.proofs.Common.{◌≡◌, true, List, map, Option, Some, None, refl, sym, ap, ◌∙◌, option_map, true≢false}
+use Rattle.std.proofs.Common.{◌≡◌, true, List, map, Option, Some, None, sym, ap, ◌∙◌, option_map}
 use Rattle.std.specs.List.{list_any}
 use Rattle.dbtg_cells.specs.declared.key.DbKey.{DbKey}
 use Rattle.dbtg_cells.specs.declared.key.Owner.{Owner}
@@ -21,6 +21,5 @@ members_shown owner o ms occ view is = sym (ap members_in view) ∙ ap (λ w. me
 pub keys_shown : (owner : Option Owner) (o : Owner) (ms : List Entry) (occ : Option Occurrence) → shown_as owner ms ≡ occ → owner ≡ Some o → keys_in occ ≡ map (λ e. e.0) ms
 keys_shown owner o ms occ view is = ap (map (λ e. e.0)) (members_shown owner o ms occ view is)
 
-pub member_there : (owner : Option Owner) (ms : List Entry) (occ : Option Occurrence) (k : DbKey) → shown_as owner ms ≡ occ → is_member k (keys_in occ) ≡ true → list_any (has_key k) ms ≡ true
-member_there None ms occ k view h = absurd (true≢false (sym (rw (sym view) at h)))
-member_there (Some o) ms occ k view h = sym (any_map (λ e. e.0) (key_eq k) ms) ∙ ap (is_member k) (sym (keys_shown (Some o) o ms occ view refl)) ∙ h
+pub member_there : (ms shown : List Entry) (k : DbKey) → ms ≡ shown → is_member k (map (λ e. e.0) shown) ≡ true → list_any (has_key k) ms ≡ true
+member_there ms shown k view h = ap (list_any (has_key k)) view ∙ sym (any_map (λ e. e.0) (key_eq k) shown) ∙ h

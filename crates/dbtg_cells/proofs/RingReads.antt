@@ -7,7 +7,6 @@ use Rattle.std.specs.List.{list_any, find}
 use Rattle.std.proofs.lemmas.Option.{same_Some}
 use Rattle.dbtg_schema.specs.Lookups.{first, final, behind, in_front}
 use Rattle.dbtg_cells.specs.declared.key.DbKey.{DbKey}
-use Rattle.dbtg_cells.specs.declared.key.Owner.{Owner}
 use Rattle.dbtg_cells.specs.declared.links.Direction.{Direction}
 use Rattle.dbtg_cells.specs.declared.links.Direction.TheVariants.{Next, Prior}
 use Rattle.dbtg_cells.specs.declared.links.Node.{Node}
@@ -23,7 +22,6 @@ use Rattle.dbtg_cells.proofs.Places.{place_of, OnceEach}
 use Rattle.dbtg_cells.proofs.LinksWritten.{Seg_left, Seg_right, follow_back_Seg, Apart_without, Avoids_left, Avoids_right}
 use Rattle.dbtg_cells.proofs.WholeRings.{members, place_here, whole_members, found_link, reserved_at, reserved_key}
 use Rattle.slab.proofs.SlabLemmas.{Contains-cons, Contains-cons_cases}
-use Rattle.dbtg_cells.proofs.Occurrences.{shown_as}
 
 -- one node more is read
 pub read_one : (d : Direction) (m n : ℕ) (s : Slots) (at : Option ℕ) (i : ℕ) (node : Node) → m ≡ suc n → at ≡ Some i → slot s i ≡ Some node → read d m s at ≡ node.member ∷ read d n s (neighbour d node)
@@ -81,11 +79,6 @@ keys_later keys x r = append_assoc keys (x.0 ∷ []) (map (λ e. e.0) r)
 
 pub keys_end : (keys : List DbKey) (l : List Entry) (whole : List DbKey) → keys ++ map (λ e. e.0) l ≡ whole → l ≡ [] → keys ≡ whole
 keys_end keys l whole is end = sym (append-nil keys) ∙ ap (λ m. keys ++ map (λ e. e.0) m) (sym end) ∙ is
-
--- the list that a ring shows is the one that is read
-pub ring_list : (owner : Option Owner) (len : ℕ) (s : Slots) (first : Option ℕ) (occ : Option Occurrence) → shown_as owner (follow len s first) ≡ occ → (owner ≡ None → len ≡ 0) → follow len s first ≡ members_in occ
-ring_list None len s first occ view empty = read_end Next len s first (empty refl) ∙ ap members_in view
-ring_list (Some o) len s first occ view empty = ap members_in view
 
 -- reserved keys, by the test and by place
 pub any_contains : (k : DbKey) (xs : List DbKey) → list_any (key_eq k) xs ≡ true → Contains xs k

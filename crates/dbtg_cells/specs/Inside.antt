@@ -3,6 +3,7 @@
 pub mod ByCalc
 pub mod Chain
 pub mod Links
+pub mod MemberLists
 pub mod Numbering
 pub mod Ordered
 pub mod RingOrder

@@ -8,6 +8,7 @@ mod key;
 mod laws;
 mod limits;
 mod links;
+mod members;
 mod name;
 mod numbering;
 mod order;
