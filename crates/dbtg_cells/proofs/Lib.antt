@@ -1,3 +1,4 @@
+mod CopiedParts
 mod Occurrences
 mod Rising
 mod Places

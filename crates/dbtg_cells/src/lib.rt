@@ -3,6 +3,7 @@
 
 mod by_calc;
 mod cell;
+mod copy;
 mod extent;
 mod key;
 mod laws;

@@ -24,6 +24,29 @@ pub(crate) struct Node {
     pub(crate) prior: Option<usize>,
 }
 
+fn copy_sort_key(sort: &Option<Value>) -> Result<Option<Value>, AllocError>
+    ensures { IfOk result (λ copy. copy ≡ sort.now) }
+{
+    match sort {
+        Some(value) => Ok(Some(value.clone()?)),
+        None => Ok(None),
+    }
+}
+
+impl Clone for Node {
+    ghost is_clone = { λ node copy. copy ≡ node };
+
+    fn clone(&self) -> Result<Self, AllocError> {
+        let sort = copy_sort_key(&self.member.1)?;
+        Ok(Node {
+            member: (self.member.0, sort),
+            linked: self.linked,
+            next: self.next,
+            prior: self.prior,
+        })
+    }
+}
+
 /// The two ways along the list.
 #[derive(Clone, Copy)]
 pub(crate) enum Direction {

@@ -2,12 +2,13 @@
 //!
 //! Each node has a label, and labels rise from the first node to the last. A node that is inserted gets a label between those
 //! beside it; if none is left, all nodes get new labels.
-ghost use Rattle.std.specs.Prelude.{◌≡◌, ◌-◌, ◌*◌, ◌<◌, ◌≤◌, ◌^◌, true, false, ◌==◌, Some, None, option_map, if◌then◌else◌, length, slice_get, slice_set, slice_index, [], IsOk, OnOk, OnErr, vec_capacity};
+ghost use Rattle.std.specs.Prelude.{◌≡◌, ◌-◌, ◌*◌, ◌<◌, ◌≤◌, ◌^◌, true, false, ◌==◌, Some, None, option_map, if◌then◌else◌, length, slice_get, slice_set, slice_index, [], IsOk, IfOk, OnOk, OnErr, vec_capacity};
 ghost use Rattle.std.specs.List.{list_any, insert, remove};
 ghost use Rattle.std.specs.Option.{IfSome};
 ghost use Rattle.dbtg_cells.specs.Inside.ByCalc.{is_rising};
 ghost use Rattle.dbtg_cells.specs.Inside.Ordered.{node_in_front, last_node, label_below, are_below, are_distinct, Fits};
 
+use crate::copy::copy_list;
 use std::alloc::{AllocError, Global};
 use std::marker::Model;
 
@@ -178,6 +179,15 @@ impl Order {
             nodes: Vec::new(alloc),
             labels: Vec::new(alloc),
         }
+    }
+
+    /// The same order, with as much room.
+    pub(crate) fn copy(&self, alloc: Global) -> Result<Self, AllocError>
+        ensures { IfOk result (λ order. order ≡ self.now) }
+    {
+        let nodes = copy_list(alloc, self.nodes.as_slice(), self.labels.len())?;
+        let labels = Vec::from_slice(alloc, self.labels.as_slice())?;
+        Ok(Self { nodes, labels })
     }
 
     /// The numbers of the nodes, in their order.

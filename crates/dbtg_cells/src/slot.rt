@@ -1,10 +1,12 @@
 //! The record of one number.
-ghost use Rattle.std.specs.Prelude.{◌≡◌, ℕ, ◌+◌, ◌^◌, ◌<◌, List, Option, Some, None, is_some, option_map, option_and_then, slice_set, nat_lt, ◌==◌};
+ghost use Rattle.std.specs.Prelude.{◌≡◌, ℕ, ◌+◌, ◌^◌, ◌<◌, List, Option, Some, None, IfOk, is_some, option_map, option_and_then, slice_set, nat_lt, ◌==◌};
 ghost use Rattle.std.specs.Option.{option_copied};
 ghost use Rattle.dbtg_schema.specs.Lookups.{at, some_and};
 
 use crate::key::{Owner, Value};
+use crate::value::copy_items;
 use dbtg_schema::{Row, SetNo};
+use std::alloc::{AllocError, Global};
 use std::marker::Model;
 
 /// A stored record: its generation, its version, its items, and for each set the owner to whose list it belongs.
@@ -14,6 +16,22 @@ pub struct Stored {
     pub version: u64,
     pub items: Row<Value>,
     pub owners: Row<Option<Owner>>,
+}
+
+impl Stored {
+    /// The same record.
+    pub fn copy(&self, alloc: Global) -> Result<Self, AllocError>
+        ensures { IfOk result (λ stored. stored ≡ self.now) }
+    {
+        let items = copy_items(&self.items, alloc)?;
+        let owners = self.owners.copy(alloc)?;
+        Ok(Self {
+            generation: self.generation,
+            version: self.version,
+            items,
+            owners,
+        })
+    }
 }
 
 /// The record of one number, or none.
@@ -37,6 +55,17 @@ impl Slot {
         ensures { result ≡ None }
     {
         Self { stored: None }
+    }
+
+    /// The same record, or none.
+    pub fn copy(&self, alloc: Global) -> Result<Self, AllocError>
+        ensures { IfOk result (λ slot. slot ≡ self.now) }
+    {
+        let stored = match &self.stored {
+            Some(stored) => Some(stored.copy(alloc)?),
+            None => None,
+        };
+        Ok(Self { stored })
     }
 
     /// Whether the slot has the record of this generation.

@@ -1,5 +1,5 @@
 //! Who has an area open.
-ghost use Rattle.std.specs.Prelude.{◌≡◌, ℕ, ◌<◌, ◌++◌, [], ◌∷◌, List, Option, Some, None, IsOk, OnErr, OnOk, IsTrue, ◌↔◌, nat_lt};
+ghost use Rattle.std.specs.Prelude.{◌≡◌, ℕ, ◌<◌, ◌++◌, [], ◌∷◌, List, Option, Some, None, IsOk, IfOk, OnErr, OnOk, IsTrue, ◌↔◌, nat_lt};
 ghost use Rattle.std.specs.List.{list_any};
 ghost use Rattle.dbtg_cells.specs.Users.{left_by, mode_in};
 ghost use Rattle.dbtg_cells.specs.Modes.{is_update, is_exclusive, is_protected, conflict as modes_conflict};
@@ -88,6 +88,14 @@ impl Usage {
         Self {
             users: Vec::new(alloc),
         }
+    }
+
+    /// The same run-units in the same modes; room for further ones is not copied.
+    pub fn copy(&self, alloc: Global) -> Result<Self, AllocError>
+        ensures { IfOk result (λ usage. usage.users ≡ self.now.users) }
+    {
+        let users = Vec::from_slice(alloc, self.users.as_slice())?;
+        Ok(Self { users })
     }
 
     /// The run-units and their modes, in the order of opening.
