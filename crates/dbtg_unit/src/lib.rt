@@ -10,6 +10,7 @@ mod copy;
 mod counts;
 mod currents;
 mod edit;
+mod edited_names;
 mod entries;
 mod erased;
 mod fits;

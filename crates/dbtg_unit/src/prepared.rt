@@ -1,5 +1,5 @@
 //! What a statement has prepared, and how it is done: without memory and without a refusal.
-ghost use Rattle.std.specs.Prelude.{◌≡◌, [], ◌∷◌, ◌++◌, slice_set};
+ghost use Rattle.std.specs.Prelude.{◌≡◌, [], ◌∷◌, ◌++◌, IfOk, map, slice_set};
 ghost use Rattle.dbtg_unit.specs.Hands.EditsOf.{edits_of_erased};
 ghost use Rattle.dbtg_unit.specs.Hands.Locality.{made_by, seen};
 ghost use Rattle.dbtg_unit.specs.Hands.Making.{AreMade, CanEditHeld, CanMake};
@@ -7,12 +7,13 @@ ghost use Rattle.dbtg_unit.specs.Hands.Prepared.{edited_values, guesses_edited, 
 
 use crate::apply::edit_cell;
 use crate::edit::{CellEdit, UnitEdit};
+use crate::edited_names::{add_names, erased_names};
 use crate::erased::{Erased, erase};
 use crate::held::Held;
 use crate::unit::{Answer, Cause, Status, Unit};
-use dbtg_cells::{DbKey, Mode};
+use dbtg_cells::{CellName, DbKey, Mode};
 use dbtg_schema::{AreaNo, Row, Schema};
-use std::alloc::Global;
+use std::alloc::{AllocError, Global};
 use std::marker::Model;
 
 /// What a statement has prepared: its answer, the changes of the cells that it holds, in their order, the new versions of the
@@ -78,6 +79,15 @@ impl Prepared {
         ensures { result.now ≡ self.now.answer }
     {
         &self.answer
+    }
+
+    /// The names of the cells that it changes, in the order of its edits. A name stands there as often as its cell is edited.
+    pub fn names(&self, alloc: Global) -> Result<Row<CellName>, AllocError>
+        ensures { IfOk result (λ names. names ≡ map (λ e. e.name) self.now.cells) }
+    {
+        let mut names = erased_names(alloc, &self.erased)?;
+        add_names(&mut names, self.cells.as_slice())?;
+        Ok(Row::of(names))
     }
 }
 
