@@ -60,7 +60,7 @@ fn find_at_the_end_is_0307(rt: HostRuntime) {
         areas: false,
         sets: 0,
     };
-    let find = Statement::Find(Form::CurrentOfUnit, suppress);
+    let find = Statement::Find(suppress, Form::CurrentOfUnit);
     assert_eq!(rt; Status::Refused(Cause::End).code(&find), 307);
     assert_eq!(rt; Status::Done.code(&find), 0);
 }

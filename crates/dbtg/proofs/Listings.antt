@@ -68,7 +68,7 @@ cause_short NotKept = omega arith
 statement_short : (x : Statement) → statement_code x ≤ 98
 statement_short (OpenArea a mode) = omega arith
 statement_short (CloseArea a) = omega arith
-statement_short (Find form suppress) = omega arith
+statement_short (Find suppress form) = omega arith
 statement_short (Get r) = omega arith
 statement_short (Store r items suppress) = omega arith
 statement_short (Insert s) = omega arith

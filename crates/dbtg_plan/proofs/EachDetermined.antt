@@ -94,9 +94,9 @@ module _ (schema : Lists) (capacity : ℕ) (db eb : Database) (hands : Hands) (u
   of_each : (statement : Statement) → fits schema statement ≡ true → is_delete statement ≡ false → Determined statement
   of_each (OpenArea a mode) fit other = by_plan (OpenArea a mode) fit (λ o there. refl) (λ passes may. (plan_of schema (in_hand hands) unit (OpenArea a mode), effect_in_hand schema capacity unit hands (OpenArea a mode) may passes refl (λ d there. open_is_effect schema capacity unit a mode hands passes may d there)))
   of_each (CloseArea a) fit other = by_plan (CloseArea a) fit (λ o there. refl) (λ passes may. (plan_of schema (in_hand hands) unit (CloseArea a), effect_in_hand schema capacity unit hands (CloseArea a) may passes refl (λ d there. close_is_effect schema capacity unit a hands passes may d there)))
-  of_each (Find form suppress) fit other =
+  of_each (Find suppress form) fit other =
       let named = (and_parts (form_fits schema form) (suppress_fits schema suppress) fit).0 in
-      by_plan (Find form suppress) fit
+      by_plan (Find suppress form) fit
       (λ o there. sym (next_cell_is schema capacity db hands unit agrees of_schema form named) ∙ next_cell_is schema capacity o hands unit there of_schema form named)
       (λ passes may. (plan_of_found hands suppress (found_in schema unit hands form), find_is_effect schema capacity unit hands form suppress may passes))
   of_each (Get r) fit other = by_plan (Get r) fit (λ o there. refl) (λ passes may. (plan_of schema (in_hand hands) unit (Get r), effect_in_hand schema capacity unit hands (Get r) may passes refl (λ d there. get_is_effect schema capacity unit hands r passes may d there)))

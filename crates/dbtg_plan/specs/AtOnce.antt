@@ -5,7 +5,7 @@ use Rattle.dbtg_unit.specs.declared.statement.Statement.TheVariants.{Find, Get, 
 
 -- the statement is made at once
 abbrev pub is_made_at_once : Statement → Bool
-is_made_at_once (Find form suppress) = true
+is_made_at_once (Find suppress form) = true
 is_made_at_once (Get r) = true
 is_made_at_once (Store t items suppress) = true
 is_made_at_once (Insert s) = true

@@ -49,7 +49,7 @@ fn found_in(
         Form::InSet { which, rtype, set } => {
             set::find_member(schema, unit, held, *which, *rtype, *set)
         }
-        Form::Sorted { value, set } => set::find_by_sort_key(schema, unit, held, value, *set),
+        Form::Sorted { set, value } => set::find_by_sort_key(schema, unit, held, value, *set),
         Form::InArea { which, rtype, area } => {
             area::find_in_area(schema, capacity, unit, held, *which, *rtype, *area)
         }
@@ -159,9 +159,9 @@ pub(crate) fn prepare_find(
     suppress: &Suppress,
     held: &Held,
 ) -> Prepared
-    requires may { MayPrepare schema.now capacity unit.now held.now (Find form.now suppress.now) }
-    requires passes { refused_at_once schema.now capacity unit.now (Find form.now suppress.now) ≡ None }
-    ensures { CanFinish schema.now capacity unit.now held.now (Find form.now suppress.now) result }
+    requires may { MayPrepare schema.now capacity unit.now held.now (Find suppress.now form.now) }
+    requires passes { refused_at_once schema.now capacity unit.now (Find suppress.now form.now) ≡ None }
+    ensures { CanFinish schema.now capacity unit.now held.now (Find suppress.now form.now) result }
 {
     let found = found_in(schema, capacity, unit, form, held);
     plan_of_found(alloc, held, suppress, found)
@@ -201,9 +201,9 @@ pub(crate) fn make_find(
     suppress: &Suppress,
     held: &mut Held,
 ) -> Answer
-    requires may { MayPrepare schema.now capacity unit.old held.old (Find form.now suppress.now) }
-    requires passes { refused_at_once schema.now capacity unit.old (Find form.now suppress.now) ≡ None }
-    ensures { IsMadeOnEach schema.now capacity unit.old held.old (Find form.now suppress.now) (seen result unit.new held.new) }
+    requires may { MayPrepare schema.now capacity unit.old held.old (Find suppress.now form.now) }
+    requires passes { refused_at_once schema.now capacity unit.old (Find suppress.now form.now) ≡ None }
+    ensures { IsMadeOnEach schema.now capacity unit.old held.old (Find suppress.now form.now) (seen result unit.new held.new) }
 {
     let found = found_in(schema, capacity, unit, form, held);
     see_found(schema, unit, held, suppress, found)

@@ -52,7 +52,7 @@ fn make_passed(
     ensures shows { OnErr result (ShowsTheSame held.old held.new) }
 {
     match statement {
-        Statement::Find(form, suppress) => {
+        Statement::Find(suppress, form) => {
             Ok(make_find(schema, capacity, unit, form, suppress, held))
         }
         Statement::Get(rtype) => answer_get(alloc, schema, unit, *rtype, held),

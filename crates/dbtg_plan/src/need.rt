@@ -40,7 +40,7 @@ fn next_cell(
     match statement {
         Statement::OpenArea { area, mode: _ } => missing(held, CellName::Usage(*area)),
         Statement::CloseArea(area) => missing(held, CellName::Usage(*area)),
-        Statement::Find(form, _) => next_cell_of_find(schema, capacity, unit, form, held),
+        Statement::Find(_, form) => next_cell_of_find(schema, capacity, unit, form, held),
         Statement::Get(_) => missing_slot(held, unit.currency.run_unit),
         Statement::Store {
             rtype,

@@ -45,7 +45,7 @@ fn prepare_passed(
         }
         Statement::Keep => keep(alloc, schema, unit, held),
         Statement::Free { all } => free(alloc, schema, unit, *all, held),
-        Statement::Find(form, suppress) => {
+        Statement::Find(suppress, form) => {
             Ok(prepare_find(alloc, schema, capacity, unit, form, suppress, held))
         }
         Statement::Store {

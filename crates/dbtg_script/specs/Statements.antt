@@ -144,7 +144,7 @@ form_of schema ws =
     else (if has role.FindCurrent ws then current_of schema ws
     else (if has role.FindOwner ws then form.OwnerOf (set_in schema ws)
     else (if has role.FindCalc ws then form.Calc (type_in schema ws) (calc_values schema (type_in schema ws) ws (calc_of schema (type_in schema ws)))
-    else (if has role.FindSorted ws then form.Sorted (sorted_value schema ws) (set_in schema ws)
+    else (if has role.FindSorted ws then form.Sorted (set_in schema ws) (sorted_value schema ws)
     else (if has role.FindDuplicate ws then form.NextDuplicate (type_in schema ws)
     else in_place schema ws)))))
 
@@ -152,7 +152,7 @@ form_of schema ws =
 abbrev pub statement_by : Lists → List Labelled → Role → Statement
 statement_by schema ws role.Open = statement.OpenArea (area_no schema (named role.AreaName ws)) (mode_of ws)
 statement_by schema ws role.Close = statement.CloseArea (area_no schema (named role.AreaName ws))
-statement_by schema ws role.Find = statement.Find (form_of schema ws) (suppress_of schema ws)
+statement_by schema ws role.Find = statement.Find (suppress_of schema ws) (form_of schema ws)
 statement_by schema ws role.Get = statement.Get (named_type schema ws role.TypeName)
 statement_by schema ws role.Store = statement.Store (type_in schema ws) (values_of ws (item_list schema (type_in schema ws))) (suppress_of schema ws)
 statement_by schema ws role.Insert = statement.Insert (set_no schema (named role.SetName ws))

@@ -301,12 +301,12 @@ fn by_calc(alloc: Global, words: &Words) -> Result<Form, AllocError>
 }
 
 fn by_sort_key(alloc: Global, words: &Words) -> Result<Form, AllocError>
-    ensures { IfOk result (λ f. f ≡ Form.Sorted (sorted_value words.now.schema words.now.words) (set_in words.now.schema words.now.words)) }
+    ensures { IfOk result (λ f. f ≡ Form.Sorted (set_in words.now.schema words.now.words) (sorted_value words.now.schema words.now.words)) }
 {
     let set = set_in(words);
     let picture = picture_or_none(sort_picture(words.schema(), set));
     let value = value_for(alloc, picture, first_word(words.list(), Role::SortedValue))?;
-    Ok(Form::Sorted { value, set })
+    Ok(Form::Sorted { set, value })
 }
 
 fn form_of(alloc: Global, words: &Words) -> Result<Form, AllocError>
@@ -330,10 +330,10 @@ fn form_of(alloc: Global, words: &Words) -> Result<Form, AllocError>
 }
 
 fn find_of(alloc: Global, words: &Words) -> Result<Statement, AllocError>
-    ensures { IfOk result (λ s. s ≡ Statement.Find (form_of words.now.schema words.now.words) (suppress_of words.now.schema words.now.words)) }
+    ensures { IfOk result (λ s. s ≡ Statement.Find (suppress_of words.now.schema words.now.words) (form_of words.now.schema words.now.words)) }
 {
     let form = form_of(alloc, words)?;
-    Ok(Statement::Find(form, suppress_of(words)))
+    Ok(Statement::Find(suppress_of(words), form))
 }
 
 fn store_of(alloc: Global, words: &Words) -> Result<Statement, AllocError>

@@ -54,15 +54,15 @@ fn ends(left: &mut Left) -> bool
 }
 
 fn find(form: Form) -> Statement
-    ensures { result ≡ Statement.Find form nothing }
+    ensures { result ≡ Statement.Find nothing form }
 {
     Statement::Find(
-        form,
         Suppress {
             types: false,
             areas: false,
             sets: 0,
         },
+        form,
     )
 }
 
@@ -143,7 +143,7 @@ fn by_sort_key(
     };
     match spelled(alloc, picture, token)? {
         None => Ok(None),
-        Some(value) => Ok(Some(find(Form::Sorted { value, set }))),
+        Some(value) => Ok(Some(find(Form::Sorted { set, value }))),
     }
 }
 

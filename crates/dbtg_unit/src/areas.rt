@@ -184,7 +184,7 @@ pub(crate) fn ask_of_areas(
     match statement {
         Statement::OpenArea { area, .. } => asks(unit, question, *area),
         Statement::CloseArea(area) => asks(unit, question, *area),
-        Statement::Find(form, _) => ask_of_find(schema, unit, question, form),
+        Statement::Find(_, form) => ask_of_find(schema, unit, question, form),
         Statement::Store { rtype, .. } => {
             asks(unit, question, schema.area_of(*rtype))
                 || ask_of_automatic(schema, unit, question, *rtype)

@@ -17,7 +17,7 @@ fn needs_current(statement: &Statement) -> bool
     ensures { result ≡ needs_current statement.now }
 {
     match statement {
-        Statement::Find(Form::CurrentOfUnit, _) => true,
+        Statement::Find(_, Form::CurrentOfUnit) => true,
         Statement::Get(_)
         | Statement::Insert(_)
         | Statement::Remove(_)
@@ -153,7 +153,7 @@ fn lacks_current(schema: &Schema, unit: &Unit, statement: &Statement) -> bool
     ensures { result ≡ lacks_current schema.now unit.now statement.now }
 {
     match statement {
-        Statement::Find(form, _) => find_lacks_current(schema, unit, form),
+        Statement::Find(_, form) => find_lacks_current(schema, unit, form),
         Statement::Store { rtype, .. } => store_wants_null(schema, unit, *rtype),
         Statement::Insert(set) => has_null(schema, unit, *set),
         _ => false,
@@ -183,7 +183,7 @@ fn is_beyond(capacity: u16, statement: &Statement) -> bool
     ensures { result ≡ is_beyond capacity statement.now }
 {
     match statement {
-        Statement::Find(Form::Key(key), _) => (capacity as u32) < key.number,
+        Statement::Find(_, Form::Key(key)) => (capacity as u32) < key.number,
         _ => false,
     }
 }

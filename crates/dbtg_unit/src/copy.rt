@@ -62,9 +62,9 @@ impl Form {
                 })
             }
             Form::NextDuplicate(rtype) => Ok(Form::NextDuplicate(*rtype)),
-            Form::Sorted { value, set } => {
+            Form::Sorted { set, value } => {
                 let value = value.copy(alloc)?;
-                Ok(Form::Sorted { value, set: *set })
+                Ok(Form::Sorted { set: *set, value })
             }
         }
     }
@@ -82,7 +82,7 @@ impl Statement {
                 })
             }
             Statement::CloseArea(area) => Ok(Statement::CloseArea(*area)),
-            Statement::Find(form, suppress) => Ok(Statement::Find(form.copy(alloc)?, *suppress)),
+            Statement::Find(suppress, form) => Ok(Statement::Find(*suppress, form.copy(alloc)?)),
             Statement::Get(rtype) => Ok(Statement::Get(*rtype)),
             Statement::Store {
                 rtype,

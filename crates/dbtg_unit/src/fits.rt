@@ -256,7 +256,7 @@ impl Form {
             Form::OwnerOf(set) => is_set(schema, *set) & !schema.is_system(*set),
             Form::Calc { rtype, values } => are_calc_values(schema, *rtype, values.as_slice()),
             Form::NextDuplicate(rtype) => schema.calc_of(*rtype).is_some(),
-            Form::Sorted { value, set } => key_fits(schema, *set, value),
+            Form::Sorted { set, value } => key_fits(schema, *set, value),
         }
     }
 }
@@ -269,7 +269,7 @@ impl Statement {
         match self {
             Statement::OpenArea { area, .. } => is_area(schema, *area),
             Statement::CloseArea(area) => is_area(schema, *area),
-            Statement::Find(form, suppress) => form.fits(schema) & suppress_fits(schema, suppress),
+            Statement::Find(suppress, form) => form.fits(schema) & suppress_fits(schema, suppress),
             Statement::Get(rtype) => {
                 match rtype {
                     Some(rtype) => is_type(schema, *rtype),

@@ -14,7 +14,7 @@ use Rattle.inventory_clerks.specs.declared.order.Order.{Order}
 
 -- FIND CALC WARE RECORD USING CODE = code: WARE is record type 0
 abbrev pub find_of : ℕ → Statement
-find_of code = Find (Calc 0 (Num code ∷ [])) (record { types = false; areas = false; sets = 0 })
+find_of code = Find (record { types = false; areas = false; sets = 0 }) (Calc 0 (Num code ∷ []))
 
 -- MODIFY WARE STOCK = stock: STOCK is item 1
 abbrev pub change_of : ℕ → Statement

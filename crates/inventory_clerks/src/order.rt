@@ -61,7 +61,7 @@ pub fn find(alloc: Global, code: u16) -> Result<Statement, AllocError>
         rtype: RecordNo::new(WARE),
         values: Row::of(values),
     };
-    Ok(Statement::Find(form, suppress))
+    Ok(Statement::Find(suppress, form))
 }
 
 /// MODIFY WARE STOCK = stock.

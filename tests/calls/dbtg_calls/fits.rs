@@ -89,7 +89,7 @@ fn find_fits(shop: &Schema, form: Form) -> bool {
         areas: false,
         sets: 0,
     };
-    let find = Statement::Find(form, suppress);
+    let find = Statement::Find(suppress, form);
     find.fits(shop)
 }
 

@@ -94,6 +94,6 @@ module _ (schema : Lists) (capacity : ℕ) (db : Database) (records : DbKey → 
   found_is unit kept (NextDuplicate r) = λ i. with_current (at unit.currency.types r) (λ k.
       found_unless (first_cause ((not (live k i), Deleted) ∷ []))
       (first (filter (key_below k) (filter (λ x. values_eq (calc_items schema r (items x i)) (calc_items schema r (items k i))) (keys_are r i)))) End)
-  found_is unit kept (Sorted value s) = λ i. with_current (place_in schema unit s) (λ place.
+  found_is unit kept (Sorted s value) = λ i. with_current (place_in schema unit s) (λ place.
       found_unless (first_cause ((is_none (db.lists s place.owner), Deleted) ∷ []))
       (find (λ k. some_and (value_eq value) (sort_key_is s k i)) (members_of db s place.owner)) NoneSatisfies)

@@ -159,7 +159,7 @@ module _ (db : Database) (known : AreKnown db) (unit : Unit) (kept_within : (e :
     in_view : (statement : Statement) → first_cause (checks_on_cells schema (whole schema capacity db) unit statement) ≡ first_cause (checks_on_cells schema view other statement)
     in_view (OpenArea a mode) = refl
     in_view (CloseArea a) = refl
-    in_view (Find form suppress) = refl
+    in_view (Find suppress form) = refl
     in_view (Get r) = refl
     in_view (Store t items suppress) = refl
     in_view (Insert s) = own_rest unit.currency.run_unit (λ k. (is_some (view.owner s k), AlreadyMember) ∷ place_checks schema view unit s (key_item schema s k.rtype (view.items k)))
@@ -178,8 +178,8 @@ module _ (db : Database) (known : AreKnown db) (unit : Unit) (kept_within : (e :
     at_once_alike : (statement : Statement) → refused_at_once schema capacity unit statement ≡ refused_at_once schema capacity other statement
     at_once_alike (OpenArea a mode) = refl
     at_once_alike (CloseArea a) = refl
-    at_once_alike (Find form suppress) = by form where
-      by : (f : Form) → refused_at_once schema capacity unit (Find f suppress) ≡ refused_at_once schema capacity other (Find f suppress)
+    at_once_alike (Find suppress form) = by form where
+      by : (f : Form) → refused_at_once schema capacity unit (Find suppress f) ≡ refused_at_once schema capacity other (Find suppress f)
       by (Key k) = refl
       by CurrentOfUnit = refl
       by (CurrentOfType r) = refl
@@ -190,7 +190,7 @@ module _ (db : Database) (known : AreKnown db) (unit : Unit) (kept_within : (e :
       by (OwnerOf s) = refl
       by (Calc r values) = refl
       by (NextDuplicate r) = refl
-      by (Sorted value s) = refl
+      by (Sorted s value) = refl
     at_once_alike (Get r) = refl
     at_once_alike (Store t items suppress) = refl
     at_once_alike (Insert s) = refl
@@ -371,7 +371,7 @@ module _ (db : Database) (known : AreKnown db) (unit : Unit) (kept_within : (e :
         → Alike (done_on_cells schema capacity db unit statement) (done_on_cells schema capacity eb other statement)
     done_alike (OpenArea a mode) h = plain (λ b. if b == a then db.usage b ++ (unit.number, mode) ∷ [] else db.usage b) unit.currency unit.currency (slice_set unit.modes a (Some mode)) _ _ refl refl
     done_alike (CloseArea a) h = plain (λ b. if b == a then filter (λ e. not (e.0 == unit.number)) (db.usage b) else db.usage b) unit.currency unit.currency (slice_set unit.modes a None) _ _ refl refl
-    done_alike (Find form suppress) h = on_found (found schema capacity db unit form) (found schema capacity eb other form) suppress (found_is schema capacity db eb.records (λ x. first_lives (db.records x)) (λ x. first_items (db.records x)) unit other.kept form)
+    done_alike (Find suppress form) h = on_found (found schema capacity db unit form) (found schema capacity eb other form) suppress (found_is schema capacity db eb.records (λ x. first_lives (db.records x)) (λ x. first_items (db.records x)) unit other.kept form)
     done_alike (Get r) h = on_current unit.currency.run_unit _ _ (λ k e. plain db.usage unit.currency unit.currency unit.modes _ _ refl (λ i. record { status = Done; key = Some k; items = Some (first_items (db.records k) i) }))
     done_alike (Store t items suppress) h =
         let same : new_key db t (unwrap_or (free_number capacity db t) 0) ≡ new_key eb t (unwrap_or (free_number capacity eb t) 0) = λ i. new_key db t (unwrap_or (free_is schema capacity db eb.records (λ x. first_lives (db.records x)) (λ x. first_items (db.records x)) t i) 0) in

@@ -105,8 +105,8 @@ module _ (db : Database) (unit : Unit) (usage : ℕ → List (ℕ × Mode)) (sam
     done_alike : (statement : Statement) → Alike (done_on_cells schema capacity db unit statement) (done_on_cells schema capacity eb unit statement)
     done_alike (OpenArea a mode) = record { answer = refl; unit_is = refl; records = refl; lists = refl; last = refl; uses = λ b. opened a b mode (b == a) }
     done_alike (CloseArea a) = record { answer = refl; unit_is = refl; records = refl; lists = refl; last = refl; uses = λ b. closed b (b == a) }
-    done_alike (Find form suppress) = by form where
-      by : (f : Form) → Alike (done_on_cells schema capacity db unit (Find f suppress)) (done_on_cells schema capacity eb unit (Find f suppress))
+    done_alike (Find suppress form) = by form where
+      by : (f : Form) → Alike (done_on_cells schema capacity db unit (Find suppress f)) (done_on_cells schema capacity eb unit (Find suppress f))
       by (Key k) = on_found (found schema capacity db unit (Key k)) (λ j. seen schema capacity db unit j suppress)
       by CurrentOfUnit = on_found (found schema capacity db unit CurrentOfUnit) (λ j. seen schema capacity db unit j suppress)
       by (CurrentOfType r) = on_found (found schema capacity db unit (CurrentOfType r)) (λ j. seen schema capacity db unit j suppress)
@@ -117,7 +117,7 @@ module _ (db : Database) (unit : Unit) (usage : ℕ → List (ℕ × Mode)) (sam
       by (OwnerOf s) = on_found (found schema capacity db unit (OwnerOf s)) (λ j. seen schema capacity db unit j suppress)
       by (Calc r values) = on_found (found schema capacity db unit (Calc r values)) (λ j. seen schema capacity db unit j suppress)
       by (NextDuplicate r) = on_found (found schema capacity db unit (NextDuplicate r)) (λ j. seen schema capacity db unit j suppress)
-      by (Sorted value s) = on_found (found schema capacity db unit (Sorted value s)) (λ j. seen schema capacity db unit j suppress)
+      by (Sorted s value) = on_found (found schema capacity db unit (Sorted s value)) (λ j. seen schema capacity db unit j suppress)
     done_alike (Get r) = on_current unit.currency.run_unit (λ k. done db unit (Some k) (Some (items_of db k))) (λ k. done eb unit (Some k) (Some (items_of eb k))) (λ k. record { answer = refl; unit_is = refl; records = refl; lists = refl; last = refl; uses = same })
     done_alike (Store t items suppress) = record { answer = refl; unit_is = refl; records = refl; lists = refl; last = refl; uses = same }
     done_alike (Insert s) = on_current unit.currency.run_unit (inserted schema db unit s) (inserted schema eb unit s) (λ k. record { answer = refl; unit_is = refl; records = refl; lists = refl; last = refl; uses = same })
@@ -131,7 +131,7 @@ module _ (db : Database) (unit : Unit) (usage : ℕ → List (ℕ × Mode)) (sam
     checks_alike : (statement : Statement) → first_cause (checks_on_cells schema (whole schema capacity db) unit statement) ≡ first_cause (checks_on_cells schema (whole schema capacity eb) unit statement)
     checks_alike (OpenArea a mode) = ap (λ b. first_cause ((b, UsageConflict) ∷ [])) (any_same (λ e. conflict e.1 mode) (db.usage a) (usage a) (same a))
     checks_alike (CloseArea a) = refl
-    checks_alike (Find form suppress) = refl
+    checks_alike (Find suppress form) = refl
     checks_alike (Get r) = refl
     checks_alike (Store t items suppress) = refl
     checks_alike (Insert s) = refl

@@ -78,7 +78,7 @@ module _ (schema : Lists) (capacity : ℕ) (db : Database) (unit : Unit) where
   slot_of_found (OwnerOf s) k h = of_current_slot (option_and_then (λ (place : Place). key_of_place (record place { at = None })) (place_in schema unit s)) k h
   slot_of_found (Calc r values) k h = inr (of_found_slot _ k h)
   slot_of_found (NextDuplicate r) k h = inr (of_found_slot _ k h)
-  slot_of_found (Sorted v s) k h = in_right _ (ring_names s (current_owner schema unit s)) (found_slot (found schema capacity db unit (Sorted v s))) (of_found_slot _ k h)
+  slot_of_found (Sorted s v) k h = in_right _ (ring_names s (current_owner schema unit s)) (found_slot (found schema capacity db unit (Sorted s v))) (of_found_slot _ k h)
 
 -- THE NEXT CELL
 
@@ -129,7 +129,7 @@ module _ (schema : Lists) (capacity : ℕ) (db : Database) (hands : Hands) (unit
   cells_are (OwnerOf s) = slot_here (OwnerOf s) refl
   cells_are (Calc r values) = refl
   cells_are (NextDuplicate r) = refl
-  cells_are (Sorted v s) = refl
+  cells_are (Sorted s v) = refl
 
   module _ (agrees : Agrees schema capacity db hands unit) (of_schema : IsUnitOf schema unit) where
     pub next_cell_is : (form : Form) → form_fits schema form ≡ true → next_cell_in schema unit hands form ≡ first_missing hands (find_cells schema capacity db unit form)
@@ -151,13 +151,13 @@ module _ (schema : Lists) (capacity : ℕ) (db : Database) (hands : Hands) (unit
 -- THE PLAN
 
 module _ (schema : Lists) (capacity : ℕ) (unit : Unit) (hands : Hands) (form : Form) (suppress : Suppress)
-    (may : MayPlan schema capacity unit hands (Find form suppress)) (passes : refused_at_once schema capacity unit (Find form suppress) ≡ None) where
+    (may : MayPlan schema capacity unit hands (Find suppress form)) (passes : refused_at_once schema capacity unit (Find suppress form) ≡ None) where
   fit : form_fits schema form ≡ true
   fit = (and_parts _ _ may.fits).0
 
   module _ (db : Database) (agrees : Agrees schema capacity db hands unit) where
     in_hand : (c : CellName) → In c (find_cells schema capacity db unit form) → holds hands.cells c ≡ true
-    in_hand c i = (prepared_has_all schema capacity unit hands (Find form suppress) passes may.ready db agrees).cells c i
+    in_hand c i = (prepared_has_all schema capacity unit hands (Find suppress form) passes may.ready db agrees).cells c i
 
     ready_reads : found schema capacity db unit form ≡ found_in schema unit hands form
     ready_reads =
@@ -176,29 +176,29 @@ module _ (schema : Lists) (capacity : ℕ) (unit : Unit) (hands : Hands) (form :
         let long = length-map-range_with_len (λ s. owner_of schema capacity db s k) 0 (length schema.sets) in
         ap (take 16) owners ∙ take_all 16 (owners_of schema capacity db k) (omega arith)
 
-    by_result : (r : Result DbKey Cause) → found schema capacity db unit form ≡ r → IsEffect schema capacity db unit hands.guesses (Find form suppress) (plan_of_found hands suppress r)
+    by_result : (r : Result DbKey Cause) → found schema capacity db unit form ≡ r → IsEffect schema capacity db unit hands.guesses (Find suppress form) (plan_of_found hands suppress r)
     by_result (Err cause) is =
-        refusal_is_effect schema capacity db unit hands.guesses (Find form suppress) cause
-        (effect_is_on_cells schema capacity db unit (Find form suppress) passes ∙ ap (λ (r : Result DbKey Cause). finding db unit r (λ k. seen schema capacity db unit k suppress)) is)
+        refusal_is_effect schema capacity db unit hands.guesses (Find suppress form) cause
+        (effect_is_on_cells schema capacity db unit (Find suppress form) passes ∙ ap (λ (r : Result DbKey Cause). finding db unit r (λ k. seen schema capacity db unit k suppress)) is)
     by_result (Ok k) is =
-        let e : effect schema capacity db unit (Find form suppress) ≡ done db (seen schema capacity db unit k suppress) (Some k) None
-        = effect_is_on_cells schema capacity db unit (Find form suppress) passes ∙ ap (λ (r : Result DbKey Cause). finding db unit r (λ k. seen schema capacity db unit k suppress)) is in
+        let e : effect schema capacity db unit (Find suppress form) ≡ done db (seen schema capacity db unit k suppress) (Some k) None
+        = effect_is_on_cells schema capacity db unit (Find suppress form) passes ∙ ap (λ (r : Result DbKey Cause). finding db unit r (λ k. seen schema capacity db unit k suppress)) is in
         let owners = owners_are k is in
         record {
           answer = sym (ap (λ (o : StatementEffect). o.answer) e);
           unit_is = ap (λ (os : List (Option Owner)). seen_with schema unit k os suppress) owners ∙ sym (ap (λ (o : StatementEffect). o.unit) e);
-          guesses_are = owners ∙ sym (ap (guesses_after schema capacity (Find form suppress) hands.guesses) e);
+          guesses_are = owners ∙ sym (ap (guesses_after schema capacity (Find suppress form) hands.guesses) e);
           cells = λ c. ap (λ (o : StatementEffect). cell schema capacity o.database c) e;
         }
 
-    pub find_is_effect : IsEffect schema capacity db unit hands.guesses (Find form suppress) (plan_of_found hands suppress (found_in schema unit hands form))
+    pub find_is_effect : IsEffect schema capacity db unit hands.guesses (Find suppress form) (plan_of_found hands suppress (found_in schema unit hands form))
     find_is_effect = by_result (found_in schema unit hands form) ready_reads
 
   nothing_edited : (r : Result DbKey Cause) → (plan_of_found hands suppress r).cells ≡ []
   nothing_edited (Ok k) = refl
   nothing_edited (Err cause) = refl
 
-  pub find_can_finish : CanFinish schema capacity unit hands (Find form suppress) (plan_of_found hands suppress (found_in schema unit hands form))
+  pub find_can_finish : CanFinish schema capacity unit hands (Find suppress form) (plan_of_found hands suppress (found_in schema unit hands form))
   find_can_finish =
       let none = sym (nothing_edited (found_in schema unit hands form)) in
       record {

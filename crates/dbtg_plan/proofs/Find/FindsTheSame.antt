@@ -231,4 +231,4 @@ module _ (schema : Lists) (capacity : ℕ) (db : Database) (hands : Hands) (unit
   found_reads of_schema (OwnerOf s) fit held = current_reads (option_and_then (λ (place : Place). key_of_owner place.owner) (place_in schema unit s)) held
   found_reads of_schema (Calc r values) fit held = ap (λ (o : Option DbKey). found_unless None o NoneSatisfies) (calc_reads r (held (Extent r) (inl refl)) values)
   found_reads of_schema (NextDuplicate r) fit held = duplicate_reads r (held (Extent r) (inl refl)) (at unit.currency.types r) (of_schema.of_types r)
-  found_reads of_schema (Sorted v s) fit held = sorted_reads v s (place_in schema unit s) held
+  found_reads of_schema (Sorted s v) fit held = sorted_reads v s (place_in schema unit s) held

@@ -79,7 +79,7 @@ guessed_within schema unit (Remove t) fit s i = let low = ltb-true t (length sch
 guessed_within schema unit (Modify t changes) fit s i = (of_filter (λ s. some_and (λ m. some_and (λ i. list_any (λ j. j == i) (map (λ (c : Change). c.item) changes)) m.key) (member_clause schema s t)) s (set_numbers schema) i).0
 guessed_within schema unit (OpenArea a mode) fit s i = absurd i
 guessed_within schema unit (CloseArea a) fit s i = absurd i
-guessed_within schema unit (Find form suppress) fit s i = absurd i
+guessed_within schema unit (Find suppress form) fit s i = absurd i
 guessed_within schema unit (Get r) fit s i = absurd i
 guessed_within schema unit (Store t items suppress) fit s i = absurd i
 guessed_within schema unit (Insert t) fit s i = absurd i
@@ -96,7 +96,7 @@ guessed_slot schema capacity db unit guesses (Modify t changes) s i k is =
     in_right (slot_name k) ((if names_calc schema t changes then Extent t ∷ [] else []) ++ rings) (slot_names unit.currency.run_unit) (current_slot unit.currency.run_unit k is)
 guessed_slot schema capacity db unit guesses (OpenArea a mode) s i k is = absurd i
 guessed_slot schema capacity db unit guesses (CloseArea a) s i k is = absurd i
-guessed_slot schema capacity db unit guesses (Find form suppress) s i k is = absurd i
+guessed_slot schema capacity db unit guesses (Find suppress form) s i k is = absurd i
 guessed_slot schema capacity db unit guesses (Get r) s i k is = absurd i
 guessed_slot schema capacity db unit guesses (Store t items suppress) s i k is = absurd i
 guessed_slot schema capacity db unit guesses (Insert t) s i k is = absurd i

@@ -84,9 +84,9 @@ module _ (schema : Lists) (unit : Unit) (hands : Hands) where
         → IsMadeOnEach schema capacity unit hands statement (seen (refusal cause).answer unit hands)
     refusal_is_made statement cause may e = plan_is_made statement (refusal cause) may (refused_finishes schema capacity unit hands statement cause e)
 
-    pub find_is_made : (form : Form) (suppress : Suppress) → MayPrepare schema capacity unit hands (Find form suppress) → refused_at_once schema capacity unit (Find form suppress) ≡ None
-        → IsMadeOnEach schema capacity unit hands (Find form suppress) (made_by schema unit hands (plan_of_found hands suppress (found_in schema unit hands form)))
-    find_is_made form suppress may passes = plan_is_made (Find form suppress) _ may (find_can_finish schema capacity unit hands form suppress (may_plan may) passes)
+    pub find_is_made : (form : Form) (suppress : Suppress) → MayPrepare schema capacity unit hands (Find suppress form) → refused_at_once schema capacity unit (Find suppress form) ≡ None
+        → IsMadeOnEach schema capacity unit hands (Find suppress form) (made_by schema unit hands (plan_of_found hands suppress (found_in schema unit hands form)))
+    find_is_made form suppress may passes = plan_is_made (Find suppress form) _ may (find_can_finish schema capacity unit hands form suppress (may_plan may) passes)
 
     pub get_is_made : {E : Type 0} (r : Option ℕ) → MayPrepare schema capacity unit hands (Get r) → refused_at_once schema capacity unit (Get r) ≡ None
         → (answered : Result Answer E) → IfOk answered (λ answer. answer ≡ (plan_of schema (in_hand hands) unit (Get r)).answer)

@@ -45,7 +45,7 @@ use Rattle.dbtg_plan.proofs.Plans.StoreHolds.{extent, joined_held, key_in_hand}
 
 -- the statements that are planned over a view
 abbrev pub is_planned : Statement → Bool
-is_planned (Find form suppress) = false
+is_planned (Find suppress form) = false
 is_planned (Delete option) = false
 is_planned _ = true
 
@@ -107,7 +107,7 @@ pub plan_agrees : (schema : Lists) (v w : StoredFacts) (unit : Unit) (statement 
     → plan_of schema v unit statement ≡ plan_of schema w unit statement
 plan_agrees schema v w unit (OpenArea a mode) planned same = λ i. unless_refusal (first_cause ((list_any (λ e. conflict e.1 mode) (same i), UsageConflict) ∷ [])) (mode_plan a (EnterUser unit.number mode) (Some mode))
 plan_agrees schema v w unit (CloseArea a) planned same = refl
-plan_agrees schema v w unit (Find form suppress) planned same = absurd (false≢true planned)
+plan_agrees schema v w unit (Find suppress form) planned same = absurd (false≢true planned)
 plan_agrees schema v w unit (Get r) planned same =
     current_agrees unit.currency.run_unit (live_checks v) (live_checks w) (λ k. done_plan Same (Some k) (Some (v.items k))) (λ k. done_plan Same (Some k) (Some (w.items k)))
     (λ k is. let record_is = same k is in ((λ i. first_cause ((not (record_is.is_live i), Deleted) ∷ [])), (λ i. done_plan Same (Some k) (Some (record_is.items i)))))
@@ -185,7 +185,7 @@ module _ (schema : Lists) (capacity : ℕ) (unit : Unit) (hands : Hands) (db : D
   alike_in_hand (OpenArea a mode) may passes =
       users_in_hand schema capacity db hands unit agrees a ((prepared_has_all schema capacity unit hands (OpenArea a mode) passes may.ready db agrees).cells _ (inl refl))
   alike_in_hand (CloseArea a) may passes = tt
-  alike_in_hand (Find form suppress) may passes = tt
+  alike_in_hand (Find suppress form) may passes = tt
   alike_in_hand (Get r) may passes = λ k is.
       same_record schema capacity db hands unit agrees k ((prepared_has_all schema capacity unit hands (Get r) passes may.ready db agrees).cells (slot_name k) (current_slot unit.currency.run_unit k is))
   alike_in_hand (Store t items suppress) may passes = record {

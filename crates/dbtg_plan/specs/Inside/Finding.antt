@@ -113,7 +113,7 @@ found_in schema unit hands (InArea which r a) = found_unless None (chosen_by_key
 found_in schema unit hands (OwnerOf s) = with_current (option_and_then (λ place. key_of_owner place.owner) (place_in schema unit s)) (stored_or Deleted hands)
 found_in schema unit hands (Calc r values) = calc_found r values (numbers_in hands r)
 found_in schema unit hands (NextDuplicate r) = with_current (at unit.currency.types r) (duplicate_found r (numbers_in hands r))
-found_in schema unit hands (Sorted v s) = with_current (place_in schema unit s) (λ place. sorted_found v (occurrence_in hands s place.owner))
+found_in schema unit hands (Sorted s v) = with_current (place_in schema unit s) (λ place. sorted_found v (occurrence_in hands s place.owner))
 
 -- the first cell that is not held, among those by which the record is found and then the slot of what is found
 abbrev pub next_cell_in : Lists → Unit → Hands → Form → Option CellName

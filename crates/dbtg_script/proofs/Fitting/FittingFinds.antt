@@ -51,7 +51,7 @@ abbrev otherwise_4 : Lists → List Labelled → unit_form.Form
 otherwise_4 schema ws = cond (has role.FindDuplicate ws) (form.NextDuplicate (type_in schema ws)) (otherwise_5 schema ws)
 
 abbrev otherwise_3 : Lists → List Labelled → unit_form.Form
-otherwise_3 schema ws = cond (has role.FindSorted ws) (form.Sorted (sorted_value schema ws) (set_in schema ws)) (otherwise_4 schema ws)
+otherwise_3 schema ws = cond (has role.FindSorted ws) (form.Sorted (set_in schema ws) (sorted_value schema ws)) (otherwise_4 schema ws)
 
 abbrev otherwise_2 : Lists → List Labelled → unit_form.Form
 otherwise_2 schema ws = cond (has role.FindCalc ws) (form.Calc (type_in schema ws) (calc_values schema (type_in schema ws) ws (calc_of schema (type_in schema ws)))) (otherwise_3 schema ws)
@@ -226,7 +226,7 @@ module _ (schema : Lists) (sound : IsSound schema) (ws : List Labelled) (c : Cle
       by_key None = refl
       by_key (Some i) = refl
 
-  pub sorted_form : has role.FindSorted ws ≡ true → is_set schema (set_in schema ws) ≡ true → form_fits schema (form.Sorted (sorted_value schema ws) (set_in schema ws)) ≡ true
+  pub sorted_form : has role.FindSorted ws ≡ true → is_set schema (set_in schema ws) ≡ true → form_fits schema (form.Sorted (set_in schema ws) (sorted_value schema ws)) ≡ true
   sorted_form h cache =
       let n = set_in schema ws in
       let set = at_index (IsSoundSet schema) schema.sets sound.sets n cache in
@@ -364,7 +364,7 @@ module _ (schema : Lists) (sound : IsSound schema) (ws : List Labelled) (c : Cle
       ∙ ap (λ b. form_fits schema (cond b (current_of schema ws) (otherwise_1 schema ws))) (lacking role.FindCurrent (finding by_sort_key) ws d refl)
       ∙ ap (λ b. form_fits schema (cond b (form.OwnerOf (set_in schema ws)) (otherwise_2 schema ws))) (lacking role.FindOwner (finding by_sort_key) ws d refl)
       ∙ ap (λ b. form_fits schema (cond b (form.Calc (type_in schema ws) (calc_values schema (type_in schema ws) ws (calc_of schema (type_in schema ws)))) (otherwise_3 schema ws))) (lacking role.FindCalc (finding by_sort_key) ws d refl)
-      ∙ ap (λ b. form_fits schema (cond b (form.Sorted (sorted_value schema ws) (set_in schema ws)) (otherwise_4 schema ws))) (having role.FindSorted (finding by_sort_key) ws d refl)
+      ∙ ap (λ b. form_fits schema (cond b (form.Sorted (set_in schema ws) (sorted_value schema ws)) (otherwise_4 schema ws))) (having role.FindSorted (finding by_sort_key) ws d refl)
       ∙ sorted_form (having role.FindSorted (finding by_sort_key) ws d refl)
       (set_named_by (d.0 ++ (k.0 ++ k.4.0)) k.4.1 d.4.1 (whole_find by_sort_key d ∙ ap (λ (z : List Labelled). d.0 ++ (z ++ d.4.1)) (k.2 ∙ ap (λ (z : List Labelled). k.0 ++ z) k.4.2) ∙ further_aside d.0 k.0 k.4.0 k.4.1 d.4.1) k.4.4 d.4.4)
 
@@ -375,7 +375,7 @@ module _ (schema : Lists) (sound : IsSound schema) (ws : List Labelled) (c : Cle
       ∙ ap (λ b. form_fits schema (cond b (current_of schema ws) (otherwise_1 schema ws))) (lacking role.FindCurrent f ws d refl)
       ∙ ap (λ b. form_fits schema (cond b (form.OwnerOf (set_in schema ws)) (otherwise_2 schema ws))) (lacking role.FindOwner f ws d refl)
       ∙ ap (λ b. form_fits schema (cond b (form.Calc (type_in schema ws) (calc_values schema (type_in schema ws) ws (calc_of schema (type_in schema ws)))) (otherwise_3 schema ws))) (lacking role.FindCalc f ws d refl)
-      ∙ ap (λ b. form_fits schema (cond b (form.Sorted (sorted_value schema ws) (set_in schema ws)) (otherwise_4 schema ws))) (lacking role.FindSorted f ws d refl)
+      ∙ ap (λ b. form_fits schema (cond b (form.Sorted (set_in schema ws) (sorted_value schema ws)) (otherwise_4 schema ws))) (lacking role.FindSorted f ws d refl)
       ∙ ap (λ b. form_fits schema (cond b (form.NextDuplicate (type_in schema ws)) (otherwise_5 schema ws))) (having role.FindDuplicate f ws d refl) ∙ duplicate_form (having role.FindDuplicate f ws d refl)
 
   -- a member of a set or an area, by a word that says which
@@ -422,7 +422,7 @@ module _ (schema : Lists) (sound : IsSound schema) (ws : List Labelled) (c : Cle
         ∙ ap (λ b. form_fits schema (cond b (current_of schema ws) (otherwise_1 schema ws))) (lacked role.FindCurrent no_current refl refl refl)
         ∙ ap (λ b. form_fits schema (cond b (form.OwnerOf (set_in schema ws)) (otherwise_2 schema ws))) (lacked role.FindOwner no_owner refl refl refl)
         ∙ ap (λ b. form_fits schema (cond b (form.Calc (type_in schema ws) (calc_values schema (type_in schema ws) ws (calc_of schema (type_in schema ws)))) (otherwise_3 schema ws))) (lacked role.FindCalc no_calc refl refl refl)
-        ∙ ap (λ b. form_fits schema (cond b (form.Sorted (sorted_value schema ws) (set_in schema ws)) (otherwise_4 schema ws))) (lacked role.FindSorted no_sorted refl refl refl)
+        ∙ ap (λ b. form_fits schema (cond b (form.Sorted (set_in schema ws) (sorted_value schema ws)) (otherwise_4 schema ws))) (lacked role.FindSorted no_sorted refl refl refl)
         ∙ ap (λ b. form_fits schema (cond b (form.NextDuplicate (type_in schema ws)) (otherwise_5 schema ws))) (lacked role.FindDuplicate no_duplicate refl refl refl) ∙ in_any here.4
 
   -- ANY FORM

@@ -73,7 +73,7 @@ get_said schema ts none = record { faultless = rw none refl; said = rw none refl
 -- FIND KEY k
 
 pub key_said : (schema : Lists) (t : List ℕ) → is_key t ≡ true → first (key_faults schema t) ≡ None
-    → AreSaid schema (plain (codes "FIND") ∷ plain (codes "KEY") ∷ plain t ∷ []) (statement.Find (form.Key (key_of schema t)) nothing)
+    → AreSaid schema (plain (codes "FIND") ∷ plain (codes "KEY") ∷ plain t ∷ []) (statement.Find nothing (form.Key (key_of schema t)))
 unfolding verdict
 key_said schema t key none = record {
   faultless = rw key (first_else (key_faults schema t) _ none);
@@ -112,7 +112,7 @@ in_range : (n : ℕ) → (n ≡ 0 → ⊥) → first (when (n == 0) cause.OutOfR
 in_range n some = rw (ne_eqb n 0 some) refl
 
 of_set_said : (schema : Lists) (t name : List ℕ) (set : ℕ) → is_signed t ≡ true → (up_to 999999 (number (without_minus t)) ≡ 0 → ⊥) → set_named schema name ≡ Some set
-    → AreSaid schema (plain (codes "FIND") ∷ plain t ∷ plain (codes "OF") ∷ plain name ∷ plain (codes "SET") ∷ []) (statement.Find (form.InSet (which.Nth (signed t)) None set) nothing)
+    → AreSaid schema (plain (codes "FIND") ∷ plain t ∷ plain (codes "OF") ∷ plain name ∷ plain (codes "SET") ∷ []) (statement.Find nothing (form.InSet (which.Nth (signed t)) None set))
 unfolding verdict
 of_set_said schema t name set h some cache = record {
   faultless =
@@ -123,14 +123,14 @@ of_set_said schema t name set h some cache = record {
 }
 
 pub nth_said : (schema : Lists) (t : List ℕ) (ts : List Token) (set : ℕ) → is_signed t ≡ true → (up_to 999999 (number (without_minus t)) ≡ 0 → ⊥) → IsOfSet schema ts set
-    → AreSaid schema (plain (codes "FIND") ∷ plain t ∷ ts) (statement.Find (form.InSet (which.Nth (signed t)) None set) nothing)
+    → AreSaid schema (plain (codes "FIND") ∷ plain t ∷ ts) (statement.Find nothing (form.InSet (which.Nth (signed t)) None set))
 nth_said schema t ts set h some of = rw of.words (of_set_said schema t of.name set h some of.cache)
 
 -- FIND SORTED v OF s SET
 
 by_key_of_set : (schema : Lists) (t : Token) (name : List ℕ) (set : ℕ) (p : Picture) (v : Value) → fits grammar.value t ≡ true → set_named schema name ≡ Some set → is_sorted (order_of schema set) ≡ true
     → sort_picture schema set ≡ Some p → spelled p t ≡ Some v
-    → AreSaid schema (plain (codes "FIND") ∷ plain (codes "SORTED") ∷ t ∷ plain (codes "OF") ∷ plain name ∷ plain (codes "SET") ∷ []) (statement.Find (form.Sorted v set) nothing)
+    → AreSaid schema (plain (codes "FIND") ∷ plain (codes "SORTED") ∷ t ∷ plain (codes "OF") ∷ plain name ∷ plain (codes "SET") ∷ []) (statement.Find nothing (form.Sorted set v))
 unfolding verdict
 by_key_of_set schema t name set p v h cache order picture is = record {
   faultless = rw (h, cache, order, picture) (spelled_faultless p t v is);
@@ -139,7 +139,7 @@ by_key_of_set schema t name set p v h cache order picture is = record {
 
 pub sorted_said : (schema : Lists) (t : Token) (ts : List Token) (set : ℕ) (p : Picture) (v : Value) → fits grammar.value t ≡ true → IsOfSet schema ts set → is_sorted (order_of schema set) ≡ true
     → sort_picture schema set ≡ Some p → spelled p t ≡ Some v
-    → AreSaid schema (plain (codes "FIND") ∷ plain (codes "SORTED") ∷ t ∷ ts) (statement.Find (form.Sorted v set) nothing)
+    → AreSaid schema (plain (codes "FIND") ∷ plain (codes "SORTED") ∷ t ∷ ts) (statement.Find nothing (form.Sorted set v))
 sorted_said schema t ts set p v h of order picture is = rw of.words (by_key_of_set schema t of.name set p v h of.cache order picture is)
 
 -- MODIFY r i = v
@@ -188,7 +188,7 @@ one_value schema r ws (Some calc) i e = ap (map (calc_value schema r ws)) e
 
 calc_said : (schema : Lists) (name item : List ℕ) (t : Token) (r i : ℕ) (p : Picture) (v : Value) → type_named schema name ≡ Some r → calc_items (calc_of schema r) ≡ i ∷ [] → item_named schema r item ≡ Some i
     → picture_of schema r i ≡ Some p → fits grammar.value t ≡ true → spelled p t ≡ Some v
-    → AreSaid schema (plain (codes "FIND") ∷ plain (codes "CALC") ∷ plain name ∷ plain (codes "RECORD") ∷ plain (codes "USING") ∷ plain item ∷ equals ∷ t ∷ []) (statement.Find (form.Calc r (v ∷ [])) nothing)
+    → AreSaid schema (plain (codes "FIND") ∷ plain (codes "CALC") ∷ plain name ∷ plain (codes "RECORD") ∷ plain (codes "USING") ∷ plain item ∷ equals ∷ t ∷ []) (statement.Find nothing (form.Calc r (v ∷ [])))
 unfolding verdict
 calc_said schema name item t r i p v cache calc named picture h is = record {
   faultless = rw (h, cache, named, picture, used_rightly (calc_of schema r) i calc) (first_else (value_faults (Some p) t) _ (spelled_faultless p t v is));
@@ -196,6 +196,6 @@ calc_said schema name item t r i p v cache calc named picture h is = record {
 }
 
 pub find_calc_said : (schema : Lists) (before after : List Token) (r i : ℕ) (v : Value) → IsCalcType schema r before after → calc_items (calc_of schema r) ≡ i ∷ [] → IsOnlyGiven schema r after i v
-    → AreSaid schema (plain (codes "FIND") ∷ plain (codes "CALC") ∷ before) (statement.Find (form.Calc r (v ∷ [])) nothing)
+    → AreSaid schema (plain (codes "FIND") ∷ plain (codes "CALC") ∷ before) (statement.Find nothing (form.Calc r (v ∷ [])))
 find_calc_said schema before after r i v c calc g =
     rw (c.words, g.words) (calc_said schema c.name g.name g.token r i g.picture v c.cache calc g.cache g.pictured g.value_word g.value_is)

@@ -160,7 +160,7 @@ module _ (schema : Lists) (capacity : ℕ) (sound : IsSound schema) (db : Databa
 no_guessed_sets : (schema : Lists) (unit : Unit) (x : Statement) → goes_by_guesses x ≡ false → guessed_sets schema unit x ≡ []
 no_guessed_sets schema unit (OpenArea a mode) e = refl
 no_guessed_sets schema unit (CloseArea a) e = refl
-no_guessed_sets schema unit (Find form suppress) e = refl
+no_guessed_sets schema unit (Find suppress form) e = refl
 no_guessed_sets schema unit (Get r) e = refl
 no_guessed_sets schema unit (Store t items suppress) e = refl
 no_guessed_sets schema unit (Insert s) e = refl
@@ -176,7 +176,7 @@ guesses_apart : (schema : Lists) (capacity : ℕ) (db : Database) (unit : Unit) 
 unfolding need
 guesses_apart schema capacity db unit areas cells g h (OpenArea a mode) e = refl
 guesses_apart schema capacity db unit areas cells g h (CloseArea a) e = refl
-guesses_apart schema capacity db unit areas cells g h (Find form suppress) e = refl
+guesses_apart schema capacity db unit areas cells g h (Find suppress form) e = refl
 guesses_apart schema capacity db unit areas cells g h (Get r) e = refl
 guesses_apart schema capacity db unit areas cells g h (Store t items suppress) e = refl
 guesses_apart schema capacity db unit areas cells g h (Insert s) e = refl

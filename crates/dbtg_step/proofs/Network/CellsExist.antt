@@ -200,7 +200,7 @@ module _ (schema : Lists) (capacity : ℕ) (sound : IsSound schema) (db : Databa
       let c = current_is (place_in schema unit s) _ k e in
       member_exists schema capacity db legal s c.0.owner k (chosen_in which (has_type r) c.0.at (members_of db s c.0.owner) k (found_is _ _ _ k c.2)).0
 
-  sorted_exists : (v : _) (s : ℕ) (k : DbKey) → found schema capacity db unit (Sorted v s) ≡ Ok k → has_slot schema capacity k ≡ true
+  sorted_exists : (v : _) (s : ℕ) (k : DbKey) → found schema capacity db unit (Sorted s v) ≡ Ok k → has_slot schema capacity k ≡ true
   sorted_exists v s k e =
       let c = current_is (place_in schema unit s) _ k e in
       member_exists schema capacity db legal s c.0.owner k (find_element (λ x. some_and (value_eq v) (sort_key schema db s x)) (members_of db s c.0.owner) k (found_is _ _ _ k c.2)).0
@@ -228,7 +228,7 @@ module _ (schema : Lists) (capacity : ℕ) (sound : IsSound schema) (db : Databa
       let named = and_parts _ _ (and_parts _ _ (and_parts _ _ (and_parts _ _ f).0).0).0 in
       and_from _ _ named.0 (and_from _ _ named.1 (le-leb k.number capacity (ltb-false capacity k.number b)))
 
-  find_cells_exist : (form : Form) (suppress : Suppress) → form_fits schema form ≡ true → is_beyond capacity (Find form suppress) ≡ false → all_exist schema capacity (find_cells schema capacity db unit form) ≡ true
+  find_cells_exist : (form : Form) (suppress : Suppress) → form_fits schema form ≡ true → is_beyond capacity (Find suppress form) ≡ false → all_exist schema capacity (find_cells schema capacity db unit form) ≡ true
   find_cells_exist (Key k) suppress f b = and_from _ _ (key_exists k f b) refl
   find_cells_exist CurrentOfUnit suppress f b = run_unit_exists
   find_cells_exist (CurrentOfType r) suppress f b =
@@ -259,7 +259,7 @@ module _ (schema : Lists) (capacity : ℕ) (sound : IsSound schema) (db : Databa
       (found_passes (is_cell schema capacity) _ (λ k e.
       let c = current_is (at unit.currency.types r) _ k e in
       calc_exists schema capacity db legal r _ k (first_of_filter (key_below c.0) _ k (found_is _ _ _ k c.2)).0))
-  find_cells_exist (Sorted v s) suppress f b =
+  find_cells_exist (Sorted s v) suppress f b =
       all_join (is_cell schema capacity) (ring_names s (current_owner schema unit s)) _ (current_ring_exists s) (found_passes (is_cell schema capacity) _ (sorted_exists v s))
 
   -- the rings of a STORE
@@ -302,7 +302,7 @@ module _ (schema : Lists) (capacity : ℕ) (sound : IsSound schema) (db : Databa
       all_exist schema capacity (cells_of schema capacity db unit g x) ≡ true
   cells_exist g guesses (OpenArea a mode) f b = and_from _ _ f refl
   cells_exist g guesses (CloseArea a) f b = and_from _ _ f refl
-  cells_exist g guesses (Find form suppress) f b = find_cells_exist form suppress (and_parts _ _ f).0 b
+  cells_exist g guesses (Find suppress form) f b = find_cells_exist form suppress (and_parts _ _ f).0 b
   cells_exist g guesses (Get r) f b = run_unit_exists
   cells_exist g guesses (Store t items suppress) f b =
       let h = (and_parts _ _ (and_parts _ _ f).0).0 in

@@ -86,7 +86,7 @@ module _ (schema : Lists) (capacity : ℕ) where
     owners_have_rings k = at_number RingAt (λ s. owner_of schema capacity db s k) (length schema.sets) (λ s. owner_exists schema capacity db legal s k) (λ s. refl)
 
     noted_have_rings : (x : Statement) (g : List (Option Owner)) (o : Option DbKey) → HaveRings schema capacity g → HaveRings schema capacity (noted_guesses schema capacity db x g o)
-    noted_have_rings (Find form suppress) g (Some k) h = owners_have_rings k
+    noted_have_rings (Find suppress form) g (Some k) h = owners_have_rings k
     noted_have_rings (Store t items suppress) g (Some k) h = owners_have_rings k
     noted_have_rings (Insert s) g (Some k) h = at_written RingAt g s (owner_of schema capacity db s k) (owner_exists schema capacity db legal s k) h
     noted_have_rings (Remove s) g (Some k) h = at_written RingAt g s None refl h
@@ -97,7 +97,7 @@ module _ (schema : Lists) (capacity : ℕ) where
     noted_have_rings (Delete option) g (Some k) h = h
     noted_have_rings Keep g (Some k) h = h
     noted_have_rings (Free all) g (Some k) h = h
-    noted_have_rings (Find form suppress) g None h = h
+    noted_have_rings (Find suppress form) g None h = h
     noted_have_rings (Store t items suppress) g None h = h
     noted_have_rings (Insert s) g None h = h
     noted_have_rings (Remove s) g None h = h

@@ -72,7 +72,7 @@ module _ (schema : Lists) (capacity : ℕ) (db eb : Database) (ldb : Legal schem
       found_in : Option (List DbKey) → Result DbKey Cause
       found_in l = found_unless (first_cause ((is_none l, Deleted) ∷ (needs_position which && is_lost place.at (unwrap_or l []), PositionLost) ∷ [])) (chosen which (has_type r) place.at (unwrap_or l [])) End
 
-  sorted : (v : Value) (s : ℕ) (o : Option Place) → place_in schema unit s ≡ o → find p (find_cells schema capacity db unit (Sorted v s)) ≡ find p (find_cells schema capacity eb unit (Sorted v s))
+  sorted : (v : Value) (s : ℕ) (o : Option Place) → place_in schema unit s ≡ o → find p (find_cells schema capacity db unit (Sorted s v)) ≡ find p (find_cells schema capacity eb unit (Sorted s v))
   sorted v s None e = rw e refl
   sorted v s (Some place) e =
       rw e (found_stable (Ring s (place_of place.owner) ∷ []) _ _ (λ n.
@@ -119,7 +119,7 @@ module _ (schema : Lists) (capacity : ℕ) (db eb : Database) (ldb : Legal schem
   find_stable (OwnerOf s) = refl
   find_stable (Calc r values) = found_stable (Extent r ∷ []) _ _ (λ n. ap (λ ks. found_unless None (first ks) NoneSatisfies) (with_calc_same schema capacity db eb ldb leb r (alike_one (Extent r) n) values))
   find_stable (NextDuplicate r) = next_duplicate r _ refl
-  find_stable (Sorted v s) = sorted v s _ refl
+  find_stable (Sorted s v) = sorted v s _ refl
 
   store_stable : (t : ℕ) (items : List Value) → find p (Extent t ∷ store_cells schema unit (option_map (new_key db t) (free_number capacity db t)) (calc_taken schema (whole schema capacity db) t items None))
       ≡ find p (Extent t ∷ store_cells schema unit (option_map (new_key eb t) (free_number capacity eb t)) (calc_taken schema (whole schema capacity eb) t items None))
@@ -132,7 +132,7 @@ module _ (schema : Lists) (capacity : ℕ) (db eb : Database) (ldb : Legal schem
   pub cells_stable : (g : List (Option Owner)) (x : Statement) → is_delete x ≡ false → find p (cells_of schema capacity db unit g x) ≡ find p (cells_of schema capacity eb unit g x)
   cells_stable g (OpenArea a mode) d = refl
   cells_stable g (CloseArea a) d = refl
-  cells_stable g (Find form suppress) d = find_stable form
+  cells_stable g (Find suppress form) d = find_stable form
   cells_stable g (Get r) d = refl
   cells_stable g (Store t items suppress) d = store_stable t items
   cells_stable g (Insert s) d = refl

@@ -54,7 +54,7 @@ right_owner (Some o) guess = elim (cases_Bool (is_wrong_guess (Some o) guess)) [
 guessed_within : (schema : Lists) (unit : Unit) (x : Statement) → fits schema x ≡ true → (s : ℕ) → In s (guessed_sets schema unit x) → s < length schema.sets
 guessed_within schema unit (OpenArea a mode) f s i = absurd i
 guessed_within schema unit (CloseArea a) f s i = absurd i
-guessed_within schema unit (Find form suppress) f s i = absurd i
+guessed_within schema unit (Find suppress form) f s i = absurd i
 guessed_within schema unit (Get r) f s i = absurd i
 guessed_within schema unit (Store t items suppress) f s i = absurd i
 guessed_within schema unit (Insert t) f s i = absurd i

@@ -89,7 +89,7 @@ module _ (schema : Lists) (capacity : ℕ) where
   owners_length db k = length-map (set_numbers schema) (λ s. owner_of schema capacity db s k) ∙ length-range_with_len 0 (length schema.sets)
 
   noted_length : (db : Database) (x : Statement) (guesses : List (Option Owner)) (o : Option DbKey) → length guesses ≡ length schema.sets → length (noted_guesses schema capacity db x guesses o) ≡ length schema.sets
-  noted_length db (Find form suppress) guesses (Some k) e = owners_length db k
+  noted_length db (Find suppress form) guesses (Some k) e = owners_length db k
   noted_length db (Store t items suppress) guesses (Some k) e = owners_length db k
   noted_length db (Insert s) guesses (Some k) e = length-set guesses s (owner_of schema capacity db s k) ∙ e
   noted_length db (Remove s) guesses (Some k) e = length-set guesses s None ∙ e
@@ -100,7 +100,7 @@ module _ (schema : Lists) (capacity : ℕ) where
   noted_length db (Delete option) guesses (Some k) e = e
   noted_length db Keep guesses (Some k) e = e
   noted_length db (Free all) guesses (Some k) e = e
-  noted_length db (Find form suppress) guesses None e = e
+  noted_length db (Find suppress form) guesses None e = e
   noted_length db (Store t items suppress) guesses None e = e
   noted_length db (Insert s) guesses None e = e
   noted_length db (Remove s) guesses None e = e

@@ -65,7 +65,7 @@ module _ (schema : Lists) (capacity : ℕ) (db : Database) (unit : Unit) (guesse
   delete_is_not_stale : (x : Statement) → is_delete x ≡ true → is_stale schema capacity db unit guesses x ≡ false
   delete_is_not_stale (OpenArea a mode) e = absurd (cc (e))
   delete_is_not_stale (CloseArea a) e = absurd (cc (e))
-  delete_is_not_stale (Find form suppress) e = absurd (cc (e))
+  delete_is_not_stale (Find suppress form) e = absurd (cc (e))
   delete_is_not_stale (Get r) e = absurd (cc (e))
   delete_is_not_stale (Store t items suppress) e = absurd (cc (e))
   delete_is_not_stale (Insert s) e = absurd (cc (e))

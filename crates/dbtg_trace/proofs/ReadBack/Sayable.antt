@@ -155,8 +155,8 @@ module _ (schema : Lists) (sound : IsSound schema) (named : IsNamed schema) (cap
     on_cells : (s : Statement) → Told (effect_on_cells schema capacity db unit s)
     on_cells (OpenArea a mode) = unless (check (OpenArea a mode)) (done_on_cells schema capacity db unit (OpenArea a mode)) (λ free after. refl)
     on_cells (CloseArea a) = unless (check (CloseArea a)) (done_on_cells schema capacity db unit (CloseArea a)) (λ free after. refl)
-    on_cells (Find form suppress) =
-        unless (check (Find form suppress)) (done_on_cells schema capacity db unit (Find form suppress))
+    on_cells (Find suppress form) =
+        unless (check (Find suppress form)) (done_on_cells schema capacity db unit (Find suppress form))
         (λ free. of_finding (found schema capacity db unit form) (λ k. seen schema capacity db unit k suppress) (λ k e. found_live schema capacity db unit legal form k e))
     on_cells (Get r) = of_current unit.currency.run_unit (live_checks (whole schema capacity db)) (λ k. done db unit (Some k) (Some (items_of db k))) (λ k free after.
         let live = not-false _ (first_check_passes (not (is_live db k), Deleted) [] free).0 in

@@ -47,7 +47,7 @@ use Rattle.dbtg_trace.proofs.ReadBack.Words.{all_append, all_digits, all_imply, 
 few_statements : (s : Statement) → statement_code s ≤ 11
 few_statements (statement.OpenArea a m) = omega arith
 few_statements (statement.CloseArea a) = omega arith
-few_statements (statement.Find f s) = omega arith
+few_statements (statement.Find s f) = omega arith
 few_statements (statement.Get r) = omega arith
 few_statements (statement.Store r v s) = omega arith
 few_statements (statement.Insert s) = omega arith

@@ -120,8 +120,8 @@ by_two_items =
     by 1 (
     OpenArea room Update ∷ store desks (Num 1 ∷ []) ∷ store notes (Num 1 ∷ text "A " ∷ []) ∷ Insert by_word
     ∷ store notes (Num 1 ∷ text "B " ∷ []) ∷ Insert by_word ∷ store notes (Num 1 ∷ text "AB" ∷ [])
-    ∷ Insert by_word ∷ store notes (Num 1 ∷ text "AB" ∷ []) ∷ Insert by_word ∷ find (Sorted (text "AB") by_word)
-    ∷ find (Sorted (text "C ") by_word) ∷ find (Calc notes (Num 1 ∷ text "AB" ∷ [])) ∷ find (NextDuplicate notes)
+    ∷ Insert by_word ∷ store notes (Num 1 ∷ text "AB" ∷ []) ∷ Insert by_word ∷ find (Sorted by_word (text "AB"))
+    ∷ find (Sorted by_word (text "C ")) ∷ find (Calc notes (Num 1 ∷ text "AB" ∷ [])) ∷ find (NextDuplicate notes)
     ∷ find (NextDuplicate notes) ∷ modify notes 1 (text "B ") ∷ find (NextDuplicate notes)
     ∷ find (Key (key notes 2)) ∷ find (NextDuplicate notes) ∷ find (Calc notes (Num 2 ∷ text "B " ∷ []))
     ∷ store desks (Num 1 ∷ []) ∷ store desks (Num 2 ∷ []) ∷ modify desks 0 (Num 1) ∷ modify desks 0 (Num 2)

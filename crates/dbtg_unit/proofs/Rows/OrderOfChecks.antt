@@ -23,7 +23,7 @@ nothing_is_open =
     Get None ∷ Get (Some customers) ∷ Insert has ∷ Remove has ∷ modify items 1 (Num 1) ∷ Delete Plain ∷ Keep
     ∷ Free false ∷ Free true ∷ find CurrentOfUnit ∷ find (CurrentOfType items) ∷ find (CurrentOfSet lines)
     ∷ find (CurrentOfSet watch) ∷ find (CurrentOfArea side) ∷ find_in_set First lines
-    ∷ find (Sorted (Num 1) lines) ∷ find (OwnerOf lines) ∷ find (NextDuplicate items) ∷ find_in_area Next side
+    ∷ find (Sorted lines (Num 1)) ∷ find (OwnerOf lines) ∷ find (NextDuplicate items) ∷ find_in_area Next side
     ∷ find_in_area Prior side ∷ store orders (Num 1 ∷ []) ∷ find_in_set First watch ∷ find_in_area First side
     ∷ find_in_area Last side ∷ find_in_area (Nth (pos 1)) side ∷ store customers (Num 1 ∷ text "        " ∷ [])
     ∷ find (Key (customer_key 101)) ∷ find (Calc items (text "A   " ∷ [])) ∷ CloseArea main
@@ -51,7 +51,7 @@ what_the_unit_alone_decides =
     OpenArea main Update ∷ OpenArea side Update ∷ store customers (Num 1 ∷ text "        " ∷ [])
     ∷ store orders (Num 1 ∷ []) ∷ store items (text "    " ∷ Num 1 ∷ []) ∷ [])
     ++ by 2 (
-    OpenArea main Update ∷ Find (Key (ordr_key 1)) (record { types = true; areas = true; sets = 7 }) ∷ Insert has
+    OpenArea main Update ∷ Find (record { types = true; areas = true; sets = 7 }) (Key (ordr_key 1)) ∷ Insert has
     ∷ Remove has ∷ Insert lines ∷ Remove watch ∷ Get (Some items) ∷ modify customers 0 (Num 1)
     ∷ store items (text "    " ∷ Num 2 ∷ []) ∷ find_in_set First lines ∷ Delete Plain ∷ OpenArea side Retrieval
     ∷ Delete Plain ∷ find CurrentOfUnit ∷ store items (text "    " ∷ Num 2 ∷ []) ∷ find_in_set First lines
@@ -81,7 +81,7 @@ what_is_deleted =
     ++ by 2 (
     Get None ∷ Keep ∷ Insert lines ∷ Remove lines ∷ modify items 1 (Num 2) ∷ Delete Plain ∷ find CurrentOfUnit
     ∷ find (CurrentOfType items) ∷ find (CurrentOfSet lines) ∷ find (CurrentOfSet has) ∷ find (CurrentOfArea side)
-    ∷ find (OwnerOf lines) ∷ find_in_set First lines ∷ find_in_set Next lines ∷ find (Sorted (Num 1) lines)
+    ∷ find (OwnerOf lines) ∷ find_in_set First lines ∷ find_in_set Next lines ∷ find (Sorted lines (Num 1))
     ∷ find (NextDuplicate items) ∷ store items (text "    " ∷ Num 3 ∷ []) ∷ find_in_set First watch
     ∷ find_in_set Next watch ∷ find_in_area Next side ∷ [])
     ++ by 1 (
@@ -119,7 +119,7 @@ already_member_before_deleted_owner =
     ∷ store orders (Num 1 ∷ []) ∷ store items (text "    " ∷ Num 1 ∷ []) ∷ store orders (Num 2 ∷ []) ∷ [])
     ++ by 2 (
     OpenArea main Update ∷ OpenArea side Update ∷ find (Key (ordr_key 2))
-    ∷ Find (Key (item_key 1)) (record { types = false; areas = false; sets = 2 }) ∷ [])
+    ∷ Find (record { types = false; areas = false; sets = 2 }) (Key (item_key 1)) ∷ [])
     ++ by 1 (
     Delete Plain ∷ [])
     ++ by 2 (

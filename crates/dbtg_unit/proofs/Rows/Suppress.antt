@@ -57,7 +57,7 @@ suppress_nothing_units = refl
 abbrev pub suppress_record : List (ℕ × Statement)
 suppress_record =
     two_watched_items ++ by 1 (
-    Find (Key (item_key 1)) (record { types = true; areas = false; sets = 0 }) ∷ [])
+    Find (record { types = true; areas = false; sets = 0 }) (Key (item_key 1)) ∷ [])
 
 suppress_record_answers : drop 8 (run shop 10 1 suppress_record).answers
     ≡ found (item_key 1) ∷ []
@@ -76,7 +76,7 @@ suppress_record_units = refl
 abbrev pub suppress_area : List (ℕ × Statement)
 suppress_area =
     two_watched_items ++ by 1 (
-    Find (Key (item_key 1)) (record { types = false; areas = true; sets = 0 }) ∷ [])
+    Find (record { types = false; areas = true; sets = 0 }) (Key (item_key 1)) ∷ [])
 
 suppress_area_answers : drop 8 (run shop 10 1 suppress_area).answers
     ≡ found (item_key 1) ∷ []
@@ -95,7 +95,7 @@ suppress_area_units = refl
 abbrev pub suppress_one_set : List (ℕ × Statement)
 suppress_one_set =
     two_watched_items ++ by 1 (
-    Find (Key (item_key 1)) (record { types = false; areas = false; sets = 2 }) ∷ [])
+    Find (record { types = false; areas = false; sets = 2 }) (Key (item_key 1)) ∷ [])
 
 suppress_one_set_answers : drop 8 (run shop 10 1 suppress_one_set).answers
     ≡ found (item_key 1) ∷ []
@@ -114,7 +114,7 @@ suppress_one_set_units = refl
 abbrev pub suppress_several : List (ℕ × Statement)
 suppress_several =
     two_watched_items ++ by 1 (
-    Find (Key (item_key 1)) (record { types = false; areas = true; sets = 6 }) ∷ [])
+    Find (record { types = false; areas = true; sets = 6 }) (Key (item_key 1)) ∷ [])
 
 suppress_several_answers : drop 8 (run shop 10 1 suppress_several).answers
     ≡ found (item_key 1) ∷ []
@@ -133,7 +133,7 @@ suppress_several_units = refl
 abbrev pub suppress_all : List (ℕ × Statement)
 suppress_all =
     two_watched_items ++ by 1 (
-    Find (Key (item_key 1)) (record { types = true; areas = true; sets = 7 }) ∷ [])
+    Find (record { types = true; areas = true; sets = 7 }) (Key (item_key 1)) ∷ [])
 
 suppress_all_answers : drop 8 (run shop 10 1 suppress_all).answers
     ≡ found (item_key 1) ∷ []
@@ -171,7 +171,7 @@ owner_found_units = refl
 abbrev pub owner_found_suppressed : List (ℕ × Statement)
 owner_found_suppressed =
     two_watched_items ++ by 1 (
-    Find (OwnerOf lines) (record { types = false; areas = false; sets = 2 }) ∷ [])
+    Find (record { types = false; areas = false; sets = 2 }) (OwnerOf lines) ∷ [])
 
 owner_found_suppressed_answers : drop 8 (run shop 10 1 owner_found_suppressed).answers
     ≡ found (ordr_key 1) ∷ []

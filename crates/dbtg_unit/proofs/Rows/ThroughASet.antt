@@ -78,7 +78,7 @@ pub by_value_and_by_sort_key : run shop 100 1 (by 1 (
     OpenArea main Update ∷ OpenArea side Update ∷ store customers (Num 7 ∷ text "ADA     " ∷ [])
     ∷ store orders (Num 1 ∷ []) ∷ store items (text "A   " ∷ Num 1 ∷ []) ∷ store items (text "B   " ∷ Num 2 ∷ [])
     ∷ store items (text "A   " ∷ Num 3 ∷ []) ∷ find (Calc items (text "A   " ∷ [])) ∷ find (NextDuplicate items)
-    ∷ find (NextDuplicate items) ∷ find (Sorted (Num 2) lines) ∷ find (Sorted (Num 9) lines) ∷ []))
+    ∷ find (NextDuplicate items) ∷ find (Sorted lines (Num 2)) ∷ find (Sorted lines (Num 9)) ∷ []))
     ≡ record {
       answers =
           done ∷ done ∷ found (customer_key 1) ∷ found (ordr_key 1) ∷ found (item_key 1) ∷ found (item_key 2)

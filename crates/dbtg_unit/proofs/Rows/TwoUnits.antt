@@ -105,7 +105,7 @@ pub inserted_by_the_other : run shop 100 2 (by 1 (
     ∷ find (Key (item_key 1)) ∷ [])
     ++ by 2 (
     OpenArea main Update ∷ OpenArea side Update ∷ find (Key (ordr_key 2))
-    ∷ Find (Key (item_key 1)) (record { types = false; areas = false; sets = 2 }) ∷ Remove lines ∷ Insert lines
+    ∷ Find (record { types = false; areas = false; sets = 2 }) (Key (item_key 1)) ∷ Remove lines ∷ Insert lines
     ∷ []))
     ≡ record {
       answers =
@@ -140,7 +140,7 @@ pub removed_from_another_list : run shop 100 2 (by 1 (
     ∷ find (Key (item_key 1)) ∷ [])
     ++ by 2 (
     OpenArea main Update ∷ OpenArea side Update ∷ find (Key (ordr_key 2))
-    ∷ Find (Key (item_key 1)) (record { types = false; areas = false; sets = 2 }) ∷ Remove lines ∷ Insert lines
+    ∷ Find (record { types = false; areas = false; sets = 2 }) (Key (item_key 1)) ∷ Remove lines ∷ Insert lines
     ∷ [])
     ++ by 1 (
     Remove lines ∷ []))

@@ -28,7 +28,7 @@ abbrev pub nothing : Suppress
 nothing = record { types = false; areas = false; sets = 0 }
 
 abbrev pub find : Form → Statement
-find form = Find form nothing
+find form = Find nothing form
 
 abbrev pub find_in_set : Which → ℕ → Statement
 find_in_set which s = find (InSet which None s)

@@ -14,7 +14,7 @@ use Rattle.dbtg_unit.specs.Database.Statements.Effect.{StatementEffect}
 
 -- what the current of run-unit, in the database after the statement, makes of the guesses
 abbrev pub noted_guesses : Lists → ℕ → Database → Statement → List (Option Owner) → Option DbKey → List (Option Owner)
-noted_guesses schema capacity db (Find form suppress) guesses (Some k) = owners_of schema capacity db k
+noted_guesses schema capacity db (Find suppress form) guesses (Some k) = owners_of schema capacity db k
 noted_guesses schema capacity db (Store t items suppress) guesses (Some k) = owners_of schema capacity db k
 noted_guesses schema capacity db (Insert s) guesses (Some k) = slice_set guesses s (owner_of schema capacity db s k)
 noted_guesses schema capacity db (Remove s) guesses (Some k) = slice_set guesses s None

@@ -60,7 +60,7 @@ cells_to_find schema unit (InArea which r a) = map Extent (unwrap_or (option_map
 cells_to_find schema unit (OwnerOf s) = slot_names (option_and_then (λ place. key_of_place (record place { at = None })) (place_in schema unit s))
 cells_to_find schema unit (Calc r values) = Extent r ∷ []
 cells_to_find schema unit (NextDuplicate r) = Extent r ∷ []
-cells_to_find schema unit (Sorted v s) = ring_names s (current_owner schema unit s)
+cells_to_find schema unit (Sorted s v) = ring_names s (current_owner schema unit s)
 
 -- the slot of what is found
 abbrev pub found_slot : Result DbKey Cause → List CellName
@@ -73,7 +73,7 @@ find_cells schema capacity db unit (InSet which r s) = cells_to_find schema unit
 find_cells schema capacity db unit (InArea which r a) = cells_to_find schema unit (InArea which r a) ++ found_slot (found schema capacity db unit (InArea which r a))
 find_cells schema capacity db unit (Calc r values) = cells_to_find schema unit (Calc r values) ++ found_slot (found schema capacity db unit (Calc r values))
 find_cells schema capacity db unit (NextDuplicate r) = cells_to_find schema unit (NextDuplicate r) ++ found_slot (found schema capacity db unit (NextDuplicate r))
-find_cells schema capacity db unit (Sorted v s) = cells_to_find schema unit (Sorted v s) ++ found_slot (found schema capacity db unit (Sorted v s))
+find_cells schema capacity db unit (Sorted s v) = cells_to_find schema unit (Sorted s v) ++ found_slot (found schema capacity db unit (Sorted s v))
 find_cells schema capacity db unit form = cells_to_find schema unit form
 
 -- the rings of a STORE of k in set s: the current owner's where it is connected, its own where it is the owner
@@ -96,7 +96,7 @@ store_cells schema unit (Some k) false = store_rings schema unit k ++ slot_name 
 abbrev pub cells_of : Lists → ℕ → Database → Unit → List (Option Owner) → Statement → List CellName
 cells_of schema capacity db unit guesses (OpenArea a mode) = Usage a ∷ []
 cells_of schema capacity db unit guesses (CloseArea a) = Usage a ∷ []
-cells_of schema capacity db unit guesses (Find form suppress) = find_cells schema capacity db unit form
+cells_of schema capacity db unit guesses (Find suppress form) = find_cells schema capacity db unit form
 cells_of schema capacity db unit guesses (Get r) = slot_names unit.currency.run_unit
 cells_of schema capacity db unit guesses (Store t items suppress) =
     Extent t ∷ store_cells schema unit (option_map (new_key db t) (free_number capacity db t)) (calc_taken schema (whole schema capacity db) t items None)

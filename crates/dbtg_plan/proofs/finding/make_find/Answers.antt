@@ -16,5 +16,5 @@ returns c =
     let hands = c.args.held.now in
     let suppress = c.args.suppress.now in
     let is = c.see_found.ensures ∙ ap (λ f. made_by schema unit hands (plan_of_found hands suppress f)) c.found_in-found.ensures in
-    subst (IsMadeOnEach schema c.args.capacity unit hands (Find c.args.form.now suppress)) (sym is)
+    subst (IsMadeOnEach schema c.args.capacity unit hands (Find suppress c.args.form.now)) (sym is)
     (find_is_made schema unit hands c.args.capacity c.args.form.now suppress c.requires.may c.requires.passes)

@@ -18,5 +18,5 @@ returns c =
     let hands = c.args.held.now in
     let suppress = c.args.suppress.now in
     let is = c.plan_of_found.ensures ∙ ap (plan_of_found hands suppress) c.found_in-found.ensures in
-    subst (λ (plan : Plan). CanFinish schema c.args.capacity unit hands (Find c.args.form.now suppress) plan) (sym is)
+    subst (λ (plan : Plan). CanFinish schema c.args.capacity unit hands (Find suppress c.args.form.now) plan) (sym is)
     (find_can_finish schema c.args.capacity unit hands c.args.form.now suppress (may_plan c.requires.may) c.requires.passes)

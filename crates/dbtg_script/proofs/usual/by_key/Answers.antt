@@ -13,5 +13,5 @@ returns-in-None c =
     let t = c.in_ok-text.text.now in
     let words : words_left c.args.left.now ≡ plain t ∷ [] = search rules in
     let key : is_key t ≡ true = search rules in
-    let is : c.find.result ≡ statement.Find (form.Key (key_of c.args.schema.now t)) nothing = search rules in
+    let is : c.find.result ≡ statement.Find nothing (form.Key (key_of c.args.schema.now t)) = search rules in
     rw (words, is) (key_said c.args.schema.now t key (sym c.in-None.ensures))

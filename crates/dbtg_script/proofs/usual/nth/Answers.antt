@@ -16,5 +16,5 @@ returns c =
     let number_is : is_signed t ≡ true = search rules in
     let value : c.up_to.result ≡ up_to 999999 (number (without_minus t)) =
     c.up_to.ensures.value ∙ ap (up_to 999999) c.number.ensures ∙ capped (number c.without_minus.result.now) ∙ ap (λ ds. up_to 999999 (number ds)) c.without_minus.ensures in
-    let is : c.find.result ≡ statement.Find (form.InSet (which.Nth (signed t)) None c.in_ok-set.set) nothing = search rules in
+    let is : c.find.result ≡ statement.Find nothing (form.InSet (which.Nth (signed t)) None c.in_ok-set.set) = search rules in
     rw is (nth_said c.args.schema.now t _ c.in_ok-set.set number_is (λ e. c.if-up_to-eq0.false (value ∙ e)) c.in_ok-set.ensures)

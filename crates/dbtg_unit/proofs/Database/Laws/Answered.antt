@@ -42,7 +42,7 @@ module _ (schema : Lists) (capacity : ℕ) (db : Database) (unit : Unit) where
       (done (record db { usage = λ b. if b == a then db.usage b ++ (unit.number, mode) ∷ [] else db.usage b }) (record unit { modes = slice_set unit.modes a (Some mode) }) None None)
       (λ free. record { refusal = λ c e. not_refused e; key = refl; items = refl })
   on_cells (CloseArea a) = of_done db unit (CloseArea a) _ _ None None refl refl
-  on_cells (Find form suppress) = of_finding db unit (IsAnswered db unit (Find form suppress)) (of_refused db unit (Find form suppress)) (found schema capacity db unit form) _ (λ k e. of_done db unit (Find form suppress) _ _ _ _ refl refl)
+  on_cells (Find suppress form) = of_finding db unit (IsAnswered db unit (Find suppress form)) (of_refused db unit (Find suppress form)) (found schema capacity db unit form) _ (λ k e. of_done db unit (Find suppress form) _ _ _ _ refl refl)
   on_cells (Get r) = of_statement_about db unit (Get r) unit.currency.run_unit _ _ (λ k. of_done db unit (Get r) _ _ _ _ refl refl)
   on_cells (Store t items suppress) =
       of_unless db unit (IsAnswered db unit (Store t items suppress)) (of_refused db unit (Store t items suppress)) (first_cause (store_checks schema (whole schema capacity db) unit t items))

@@ -101,7 +101,7 @@ module _ (schema : Lists) (capacity : ℕ) (db : Database) (unit : Unit) where
       (done (record db { usage = λ b. if b == a then db.usage b ++ (unit.number, mode) ∷ [] else db.usage b }) (record unit { modes = slice_set unit.modes a (Some mode) }) None None)
       (λ h. forward_from db _ (record { versions = λ k. omega arith; live = λ k h. h; last = λ t n. refl }))
   on_cells (CloseArea a) = forward_from db _ (record { versions = λ k. omega arith; live = λ k h. h; last = λ t n. refl })
-  on_cells (Find form suppress) = of_finding db unit Forward (λ cause. same_forward db) (found schema capacity db unit form) _ (λ k h. same_forward db)
+  on_cells (Find suppress form) = of_finding db unit Forward (λ cause. same_forward db) (found schema capacity db unit form) _ (λ k h. same_forward db)
   on_cells (Get r) = of_current db unit Forward (λ cause. same_forward db) unit.currency.run_unit _ _ (λ k e h. same_forward db)
   on_cells (Store t items suppress) =
       of_unless db unit Forward (λ cause. same_forward db) (first_cause (store_checks schema (whole schema capacity db) unit t items))

@@ -248,7 +248,7 @@ module _ (schema : Lists) (capacity : ℕ) (db : Database) (unit : Unit) (number
       (done (record db { usage = λ b. cond (eqb b a) (db.usage b ++ (unit.number, mode) ∷ []) (db.usage b) }) (record unit { modes = slice_set unit.modes a (Some mode) }) None None)
       (λ h. open_step a mode (ltb-true a (length schema.areas) fit) p.opens (first_check_passes (list_any (λ e. conflict e.1 mode) (db.usage a), UsageConflict) [] h).0)
   on_cells (CloseArea a) fit p = close_step a (ltb-true a (length schema.areas) fit)
-  on_cells (Find form suppress) fit p =
+  on_cells (Find suppress form) fit p =
       of_finding db unit Left (λ cause. now) (found schema capacity db unit form) (λ k. seen schema capacity db unit k suppress)
       (λ k e. quiet db (seen schema capacity db unit k suppress) legal refl refl refl (good_seen schema capacity unit good db k suppress legal (found_live schema capacity db unit legal form k e)))
   on_cells (Get r) fit p = of_current db unit Left (λ cause. now) unit.currency.run_unit (live_checks (whole schema capacity db)) (λ k. done db unit (Some k) (Some (items_of db k))) (λ k e h. now)

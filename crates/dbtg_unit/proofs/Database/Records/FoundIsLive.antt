@@ -166,6 +166,6 @@ module _ (schema : Lists) (capacity : ℕ) (db : Database) (unit : Unit) (legal 
       let equal = with_calc schema capacity db r (calc_items schema r (items_of db k)) in
       of_key (first_cause ((not (is_live db k), Deleted) ∷ [])) (first (filter (key_below k) equal)) End
       (λ x e. first_passes (is_live db) (filter (key_below k) equal) x (all_filter (is_live db) (key_below k) equal (calc_live r (calc_items schema r (items_of db k)))) e))
-  found_live (Sorted value s) = of_current (place_in schema unit s) (by_value value s) (λ place.
+  found_live (Sorted s value) = of_current (place_in schema unit s) (by_value value s) (λ place.
       of_key (first_cause ((is_none (db.lists s place.owner), Deleted) ∷ [])) (find (λ k. some_and (value_eq value) (sort_key schema db s k)) (members_of db s place.owner)) NoneSatisfies
       (λ x e. found_in (is_live db) (λ k. some_and (value_eq value) (sort_key schema db s k)) (members_of db s place.owner) x (members_live s place.owner) e))

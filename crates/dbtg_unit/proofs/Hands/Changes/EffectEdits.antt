@@ -164,7 +164,7 @@ module _ (schema : Lists) (capacity : ℕ) (db : Database) (unit : Unit) (legal 
   on_cells : (statement : Statement) → is_delete statement ≡ false → lacks_current schema unit statement ≡ false → Edited (edits_of schema capacity db unit statement) (effect_on_cells schema capacity db unit statement)
   on_cells (OpenArea a mode) other placed = of_open a mode
   on_cells (CloseArea a) other placed = of_close a
-  on_cells (Find form suppress) other placed =
+  on_cells (Find suppress form) other placed =
       of_finding db unit (Edited []) (no_refusal []) (found schema capacity db unit form) (λ k. seen schema capacity db unit k suppress) (λ k is is_done lawful c. refl)
   on_cells (Get r) other placed =
       of_current db unit (Edited (edits_of schema capacity db unit (Get r))) (no_refusal (edits_of schema capacity db unit (Get r))) unit.currency.run_unit (live_checks (whole schema capacity db)) (λ k. done db unit (Some k) (Some (items_of db k)))

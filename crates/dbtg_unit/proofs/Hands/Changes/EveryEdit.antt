@@ -32,7 +32,7 @@ every_effect_is_its_edits schema capacity db unit (Delete option) = λ legal law
     (λ passes_at_once. of_delete schema capacity db unit legal option) is_done lawful
 every_effect_is_its_edits schema capacity db unit (OpenArea a mode) = effect_is_its_edits schema capacity db unit (OpenArea a mode) refl
 every_effect_is_its_edits schema capacity db unit (CloseArea a) = effect_is_its_edits schema capacity db unit (CloseArea a) refl
-every_effect_is_its_edits schema capacity db unit (Find form suppress) = effect_is_its_edits schema capacity db unit (Find form suppress) refl
+every_effect_is_its_edits schema capacity db unit (Find suppress form) = effect_is_its_edits schema capacity db unit (Find suppress form) refl
 every_effect_is_its_edits schema capacity db unit (Get r) = effect_is_its_edits schema capacity db unit (Get r) refl
 every_effect_is_its_edits schema capacity db unit (Store t items suppress) = effect_is_its_edits schema capacity db unit (Store t items suppress) refl
 every_effect_is_its_edits schema capacity db unit (Insert s) = effect_is_its_edits schema capacity db unit (Insert s) refl

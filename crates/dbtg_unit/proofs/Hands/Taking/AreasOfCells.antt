@@ -134,7 +134,7 @@ module _ (schema : Lists) (capacity : ℕ) (db : Database) (legal : Legal schema
       typed None o i t = member_lies s o k i
       typed (Some r) o i t = typed_lies schema r k (eqb-true k.rtype r t)
 
-  sorted_lies : (unit : Unit) (v : _) (s : ℕ) (k : DbKey) → found schema capacity db unit (Sorted v s) ≡ Ok k → lies_in schema (find_areas schema unit (Sorted v s)) (slot_name k) ≡ true
+  sorted_lies : (unit : Unit) (v : _) (s : ℕ) (k : DbKey) → found schema capacity db unit (Sorted s v) ≡ Ok k → lies_in schema (find_areas schema unit (Sorted s v)) (slot_name k) ≡ true
   sorted_lies unit v s k e =
       let c = current_is (place_in schema unit s) _ k e in
       or_right _ _ (member_lies s c.0.owner k (find_element (λ x. some_and (value_eq v) (sort_key schema db s x)) (members_of db s c.0.owner) k (found_is _ _ _ k c.2)).0)
@@ -186,8 +186,8 @@ module _ (schema : Lists) (capacity : ℕ) (db : Database) (legal : Legal schema
       and_from _ _ (lies_first schema (Extent r) []) (found_passes (lies_in schema (area_of schema r ∷ [])) _ (λ k e.
       let c = current_is (at unit.currency.types r) _ k e in
       calc_lies r _ k (first_of_filter (key_below c.0) _ k (found_is _ _ _ k c.2)).0))
-  find_cells_lie unit of (Sorted v s) f =
-      all_join _ (ring_names s (current_owner schema unit s)) _ (rings_lie schema (find_areas schema unit (Sorted v s)) s _ (home_first s _)) (found_passes (lies_in schema (find_areas schema unit (Sorted v s))) _ (sorted_lies unit v s))
+  find_cells_lie unit of (Sorted s v) f =
+      all_join _ (ring_names s (current_owner schema unit s)) _ (rings_lie schema (find_areas schema unit (Sorted s v)) s _ (home_first s _)) (found_passes (lies_in schema (find_areas schema unit (Sorted s v))) _ (sorted_lies unit v s))
 
   -- the rings of a STORE
   pub store_rings_lie : (unit : Unit) (k : DbKey) → list_all (lies_in schema (area_of schema k.rtype ∷ map (home schema) (automatic_sets schema k.rtype))) (store_rings schema unit k) ≡ true
@@ -240,7 +240,7 @@ module _ (schema : Lists) (capacity : ℕ) (db : Database) (legal : Legal schema
       list_all (lies_in schema (areas_of schema unit x)) (cells_of schema capacity db unit g x) ≡ true
   cells_lie unit of g (OpenArea a mode) f d m = and_from _ _ (lies_first schema (Usage a) []) refl
   cells_lie unit of g (CloseArea a) f d m = and_from _ _ (lies_first schema (Usage a) []) refl
-  cells_lie unit of g (Find form suppress) f d m = find_cells_lie unit of form (and_parts _ _ f).0
+  cells_lie unit of g (Find suppress form) f d m = find_cells_lie unit of form (and_parts _ _ f).0
   cells_lie unit of g (Get r) f d m = current_lies schema unit.currency.run_unit
   cells_lie unit of g (Store t items suppress) f d m = and_from _ _ (lies_first schema (Extent t) _) (store_cells_lie unit t (free_number capacity db t) _)
   cells_lie unit of g (Insert s) f d m = insert_cells_lie s _ unit.currency.run_unit

@@ -178,7 +178,7 @@ module _ (schema : Lists) (sound : IsSound schema) (capacity : ℕ) (db : Databa
   find_ascends (OwnerOf s) = slots_alone (option_and_then (λ place. key_of_place (record place { at = None })) (place_in schema unit s))
   find_ascends (Calc r values) = extent_found r (found schema capacity db unit (Calc r values))
   find_ascends (NextDuplicate r) = extent_found r (found schema capacity db unit (NextDuplicate r))
-  find_ascends (Sorted v s) = ring_slots s (current_owner schema unit s) _ (found_alone _) (found_slots _)
+  find_ascends (Sorted s v) = ring_slots s (current_owner schema unit s) _ (found_alone _) (found_slots _)
 
   -- THE RINGS OF A STORE
 
@@ -258,7 +258,7 @@ module _ (schema : Lists) (sound : IsSound schema) (capacity : ℕ) (db : Databa
   pub cells_ascend : (g : List (Option Owner)) (x : Statement) → is_delete x ≡ false → pairwise name_below (cells_of schema capacity db unit g x) ≡ true
   cells_ascend g (OpenArea a mode) d = refl
   cells_ascend g (CloseArea a) d = refl
-  cells_ascend g (Find form suppress) d = find_ascends form
+  cells_ascend g (Find suppress form) d = find_ascends form
   cells_ascend g (Get r) d = slots_alone unit.currency.run_unit
   cells_ascend g (Store t items suppress) d = store_ascends t _ _
   cells_ascend g (Insert s) d = ring_slots s (current_owner schema unit s) _ (slots_alone unit.currency.run_unit) (all_slots unit.currency.run_unit)

@@ -61,12 +61,12 @@ module _ (schema : Lists) (sound : IsSound schema) where
   find_known unit (OwnerOf s) f = and_from _ _ (type_known _) refl
   find_known unit (Calc r values) f = and_from _ _ (type_known r) refl
   find_known unit (NextDuplicate r) f = and_from _ _ (type_known r) refl
-  find_known unit (Sorted v s) f = and_from _ _ (type_known _) (mapped_known (area_of schema) _ type_known)
+  find_known unit (Sorted s v) f = and_from _ _ (type_known _) (mapped_known (area_of schema) _ type_known)
 
   pub areas_known : (unit : Unit) (x : Statement) → fits schema x ≡ true → list_all is_known (areas_of schema unit x) ≡ true
   areas_known unit (OpenArea a mode) f = and_from _ _ f refl
   areas_known unit (CloseArea a) f = and_from _ _ f refl
-  areas_known unit (Find form suppress) f = find_known unit form (and_parts _ _ f).0
+  areas_known unit (Find suppress form) f = find_known unit form (and_parts _ _ f).0
   areas_known unit (Get r) f = current_known unit.currency.run_unit
   areas_known unit (Store t items suppress) f = and_from _ _ (type_known t) (mapped_known (home schema) _ (λ s. type_known _))
   areas_known unit (Insert s) f = and_from _ _ (type_known _) (current_known unit.currency.run_unit)
@@ -86,7 +86,7 @@ module _ (schema : Lists) (capacity : ℕ) where
       go (Some k) h = delete_cells_lie schema capacity db legal k.rtype (ltb-true _ _ h) unit option k refl
   all_cells_lie db unit g (OpenArea a mode) legal of f r = cells_lie schema capacity db legal unit of g (OpenArea a mode) f refl (λ t changes e. absurd (cc (e)))
   all_cells_lie db unit g (CloseArea a) legal of f r = cells_lie schema capacity db legal unit of g (CloseArea a) f refl (λ t changes e. absurd (cc (e)))
-  all_cells_lie db unit g (Find form suppress) legal of f r = cells_lie schema capacity db legal unit of g (Find form suppress) f refl (λ t changes e. absurd (cc (e)))
+  all_cells_lie db unit g (Find suppress form) legal of f r = cells_lie schema capacity db legal unit of g (Find suppress form) f refl (λ t changes e. absurd (cc (e)))
   all_cells_lie db unit g (Get o) legal of f r = cells_lie schema capacity db legal unit of g (Get o) f refl (λ t changes e. absurd (cc (e)))
   all_cells_lie db unit g (Store t items suppress) legal of f r = cells_lie schema capacity db legal unit of g (Store t items suppress) f refl (λ t changes e. absurd (cc (e)))
   all_cells_lie db unit g (Insert s) legal of f r = cells_lie schema capacity db legal unit of g (Insert s) f refl (λ t changes e. absurd (cc (e)))

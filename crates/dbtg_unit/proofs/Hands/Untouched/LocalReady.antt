@@ -92,7 +92,7 @@ module _ (schema : Lists) (capacity : ℕ) (db : Database) (unit : Unit) (hands 
         → Stays schema capacity db unit hands.guesses legal statement (effect_on_cells schema capacity db unit statement)
     stays (OpenArea a mode) passes fresh = of_open schema capacity db unit hands.guesses legal a mode
     stays (CloseArea a) passes fresh = of_close schema capacity db unit hands.guesses legal a
-    stays (Find form suppress) passes fresh = of_finding db unit (Stays schema capacity db unit hands.guesses legal (Find form suppress)) (λ cause l c h. refl) (found schema capacity db unit form) _ (λ k e l c h. refl)
+    stays (Find suppress form) passes fresh = of_finding db unit (Stays schema capacity db unit hands.guesses legal (Find suppress form)) (λ cause l c h. refl) (found schema capacity db unit form) _ (λ k e l c h. refl)
     stays (Get r) passes fresh = of_current db unit (Stays schema capacity db unit hands.guesses legal (Get r)) (λ cause l c h. refl) unit.currency.run_unit _ _ (λ k e checks l c h. refl)
     stays (Store t items suppress) passes fresh = of_store schema capacity db unit hands.guesses legal t items suppress
     stays (Insert s) passes fresh = of_insert schema capacity db unit hands.guesses legal s

@@ -112,11 +112,11 @@ find_in_system_set : takes at_order no_guess (find_in_set First watch) ≡ (side
 unfolding effect
 find_in_system_set = refl
 
-find_sorted : takes at_item no_guess (find (Sorted (Num 5) lines)) ≡ (main ∷ side ∷ [], ring lines orders 1 ∷ Slot items 1 ∷ [])
+find_sorted : takes at_item no_guess (find (Sorted lines (Num 5))) ≡ (main ∷ side ∷ [], ring lines orders 1 ∷ Slot items 1 ∷ [])
 unfolding effect
 find_sorted = refl
 
-find_sorted_in_vain : takes at_item no_guess (find (Sorted (Num 6) lines)) ≡ (main ∷ side ∷ [], ring lines orders 1 ∷ [])
+find_sorted_in_vain : takes at_item no_guess (find (Sorted lines (Num 6))) ≡ (main ∷ side ∷ [], ring lines orders 1 ∷ [])
 unfolding effect
 find_sorted_in_vain = refl
 

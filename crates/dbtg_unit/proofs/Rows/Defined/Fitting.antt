@@ -20,7 +20,7 @@ numbers_in_range = refl
 
 numbers_out_of_range : list_any (fits shop) (
     OpenArea 2 Update ∷ CloseArea 2 ∷ Get (Some 3) ∷ Insert 3 ∷ Remove 3 ∷ find (CurrentOfType 3) ∷ find (CurrentOfSet 3) ∷ find (CurrentOfArea 2)
-    ∷ find (InSet First None 3) ∷ find (InArea First None 2) ∷ find (OwnerOf 3) ∷ find (Calc 3 []) ∷ find (NextDuplicate 3) ∷ find (Sorted (Num 1) 3)
+    ∷ find (InSet First None 3) ∷ find (InArea First None 2) ∷ find (OwnerOf 3) ∷ find (Calc 3 []) ∷ find (NextDuplicate 3) ∷ find (Sorted 3 (Num 1))
     ∷ store 3 [] ∷ modify 3 0 (Num 1) ∷ [])
     ≡ false
 numbers_out_of_range = refl
@@ -54,12 +54,12 @@ no_record_names = refl
 
 -- an owner where the set has one; a value for each CALC item of a type that has some; a key of a sorted set
 values_to_find : list_all (fits shop) (
-    find (OwnerOf lines) ∷ find (Calc customers (Num 9999 ∷ [])) ∷ find (Calc items (text "A   " ∷ [])) ∷ find (NextDuplicate items) ∷ find (Sorted (Num 999) lines) ∷ []) ≡ true
+    find (OwnerOf lines) ∷ find (Calc customers (Num 9999 ∷ [])) ∷ find (Calc items (text "A   " ∷ [])) ∷ find (NextDuplicate items) ∷ find (Sorted lines (Num 999)) ∷ []) ≡ true
 values_to_find = refl
 
 no_values_to_find : list_any (fits shop) (
     find (OwnerOf watch) ∷ find (Calc customers (Num 10000 ∷ [])) ∷ find (Calc customers (text "7   " ∷ [])) ∷ find (Calc customers []) ∷ find (Calc customers (Num 7 ∷ Num 7 ∷ []))
-    ∷ find (Calc orders (Num 1 ∷ [])) ∷ find (NextDuplicate orders) ∷ find (Sorted (Num 1000) lines) ∷ find (Sorted (text "1   ") lines) ∷ find (Sorted (Num 1) has) ∷ []) ≡ false
+    ∷ find (Calc orders (Num 1 ∷ [])) ∷ find (NextDuplicate orders) ∷ find (Sorted lines (Num 1000)) ∷ find (Sorted lines (text "1   ")) ∷ find (Sorted has (Num 1)) ∷ []) ≡ false
 no_values_to_find = refl
 
 -- a value for each item; a text of its full length, of printable ASCII without the double quote
@@ -84,9 +84,9 @@ no_changes = refl
 
 -- SUPPRESS names sets of the schema alone
 suppressed : list_all (fits shop) (
-    Find CurrentOfUnit (record { types = true; areas = true; sets = 7 }) ∷ Store orders (Num 1 ∷ []) (record { types = true; areas = false; sets = 4 }) ∷ []) ≡ true
+    Find (record { types = true; areas = true; sets = 7 }) CurrentOfUnit ∷ Store orders (Num 1 ∷ []) (record { types = true; areas = false; sets = 4 }) ∷ []) ≡ true
 suppressed = refl
 
 not_suppressed : list_any (fits shop) (
-    Find CurrentOfUnit (record { types = false; areas = false; sets = 8 }) ∷ Store orders (Num 1 ∷ []) (record { types = true; areas = false; sets = 8 }) ∷ []) ≡ false
+    Find (record { types = false; areas = false; sets = 8 }) CurrentOfUnit ∷ Store orders (Num 1 ∷ []) (record { types = true; areas = false; sets = 8 }) ∷ []) ≡ false
 not_suppressed = refl

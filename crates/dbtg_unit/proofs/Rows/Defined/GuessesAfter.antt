@@ -38,7 +38,7 @@ after_find : guesses (find (Key (item_key 1))) ≡ None ∷ Some (Rec (ordr_key 
 unfolding effect
 after_find = refl
 
-after_suppressed_find : guesses (Find (Key (item_key 2)) (record { types = true; areas = true; sets = 7 })) ≡ None ∷ Some (Rec (ordr_key 1)) ∷ Some System ∷ []
+after_suppressed_find : guesses (Find (record { types = true; areas = true; sets = 7 }) (Key (item_key 2))) ≡ None ∷ Some (Rec (ordr_key 1)) ∷ Some System ∷ []
 unfolding effect
 after_suppressed_find = refl
 

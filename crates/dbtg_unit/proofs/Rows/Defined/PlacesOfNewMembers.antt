@@ -105,8 +105,8 @@ words_by_their_bytes =
     by 1 (
     OpenArea room Update ∷ store desks (Num 1 ∷ []) ∷ store notes (Num 1 ∷ text "A " ∷ []) ∷ Insert by_word
     ∷ store notes (Num 1 ∷ text "B " ∷ []) ∷ Insert by_word ∷ store notes (Num 1 ∷ text "AB" ∷ [])
-    ∷ Insert by_word ∷ store notes (Num 1 ∷ text "AB" ∷ []) ∷ Insert by_word ∷ find (Sorted (text "AB") by_word)
-    ∷ find (Sorted (text "C ") by_word) ∷ [])
+    ∷ Insert by_word ∷ store notes (Num 1 ∷ text "AB" ∷ []) ∷ Insert by_word ∷ find (Sorted by_word (text "AB"))
+    ∷ find (Sorted by_word (text "C ")) ∷ [])
 
 words_by_their_bytes_answers : (run desk 10 1 words_by_their_bytes).answers
     ≡ done ∷ found (key desks 1) ∷ found (key notes 1) ∷ done ∷ found (key notes 2) ∷ done ∷ found (key notes 3)

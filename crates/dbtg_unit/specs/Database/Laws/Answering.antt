@@ -12,7 +12,7 @@ use Rattle.dbtg_unit.specs.Database.Statements.Codes.{is_done}
 
 -- FIND, STORE and GET answer with a key
 abbrev pub gives_key : Statement → Bool
-gives_key (Find form suppress) = true
+gives_key (Find suppress form) = true
 gives_key (Store t items suppress) = true
 gives_key (Get r) = true
 gives_key _ = false

@@ -115,7 +115,7 @@ about (Some k) checks = checks k
 abbrev pub checks_on_cells : Lists → StoredFacts → Unit → Statement → List (Bool × Cause)
 checks_on_cells schema view unit (OpenArea a mode) = open_checks view a mode
 checks_on_cells schema view unit (CloseArea a) = []
-checks_on_cells schema view unit (Find form suppress) = []
+checks_on_cells schema view unit (Find suppress form) = []
 checks_on_cells schema view unit (Get r) = about unit.currency.run_unit (live_checks view)
 checks_on_cells schema view unit (Store t items suppress) = store_checks schema view unit t items
 checks_on_cells schema view unit (Insert s) = about unit.currency.run_unit (insert_checks schema view unit s)

@@ -11,7 +11,7 @@ use Rattle.dbtg_unit.specs.declared.unit.Status.TheVariants.{Done, Refused}
 abbrev pub statement_code : Statement → ℕ
 statement_code (OpenArea a mode) = 1
 statement_code (CloseArea a) = 2
-statement_code (Find form suppress) = 3
+statement_code (Find suppress form) = 3
 statement_code (Get r) = 4
 statement_code (Store r items suppress) = 5
 statement_code (Insert s) = 6

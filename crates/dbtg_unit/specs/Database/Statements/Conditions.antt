@@ -47,13 +47,13 @@ find_areas schema unit (InArea which r a) = a ∷ []
 find_areas schema unit (OwnerOf s) = home schema s ∷ []
 find_areas schema unit (Calc r values) = area_of schema r ∷ []
 find_areas schema unit (NextDuplicate r) = area_of schema r ∷ []
-find_areas schema unit (Sorted value s) = home schema s ∷ map (area_of schema) (set_member_types schema s)
+find_areas schema unit (Sorted s value) = home schema s ∷ map (area_of schema) (set_member_types schema s)
 
 -- the areas of a statement
 abbrev pub areas_of : Lists → Unit → Statement → List ℕ
 areas_of schema unit (OpenArea a mode) = a ∷ []
 areas_of schema unit (CloseArea a) = a ∷ []
-areas_of schema unit (Find form suppress) = find_areas schema unit form
+areas_of schema unit (Find suppress form) = find_areas schema unit form
 areas_of schema unit (Get r) = area_of_current schema unit.currency.run_unit
 areas_of schema unit (Store r items suppress) = area_of schema r ∷ map (home schema) (automatic_sets schema r)
 areas_of schema unit (Insert s) = home schema s ∷ area_of_current schema unit.currency.run_unit
@@ -67,8 +67,8 @@ areas_of schema unit (Free all) = []
 abbrev pub needs_current : Statement → Bool
 needs_current (OpenArea a mode) = false
 needs_current (CloseArea a) = false
-needs_current (Find CurrentOfUnit suppress) = true
-needs_current (Find form suppress) = false
+needs_current (Find suppress CurrentOfUnit) = true
+needs_current (Find suppress form) = false
 needs_current (Get r) = true
 needs_current (Store r items suppress) = false
 needs_current (Insert s) = true
@@ -117,11 +117,11 @@ find_lacks_current schema unit (InArea which r a) = needs_position which && is_n
 find_lacks_current schema unit (OwnerOf s) = is_none (place_in schema unit s)
 find_lacks_current schema unit (Calc r values) = false
 find_lacks_current schema unit (NextDuplicate r) = is_none (at unit.currency.types r)
-find_lacks_current schema unit (Sorted value s) = is_none (place_in schema unit s)
+find_lacks_current schema unit (Sorted s value) = is_none (place_in schema unit s)
 
 -- a current that the statement needs is null
 abbrev pub lacks_current : Lists → Unit → Statement → Bool
-lacks_current schema unit (Find form suppress) = find_lacks_current schema unit form
+lacks_current schema unit (Find suppress form) = find_lacks_current schema unit form
 lacks_current schema unit (Store r items suppress) = list_any (λ s. is_none (place_in schema unit s)) (automatic_sets schema r)
 lacks_current schema unit (Insert s) = is_none (place_in schema unit s)
 lacks_current schema unit _ = false
@@ -142,7 +142,7 @@ changes_records _ = false
 
 -- a FIND KEY above the capacity
 abbrev pub is_beyond : ℕ → Statement → Bool
-is_beyond capacity (Find (Key k) suppress) = nat_lt capacity k.number
+is_beyond capacity (Find suppress (Key k)) = nat_lt capacity k.number
 is_beyond capacity _ = false
 
 -- a FREE of a record that is not kept

@@ -209,7 +209,7 @@ done_on_cells schema capacity db unit (OpenArea a mode) =
     done (record db { usage = λ b. if b == a then db.usage b ++ (unit.number, mode) ∷ [] else db.usage b }) (record unit { modes = slice_set unit.modes a (Some mode) }) None None
 done_on_cells schema capacity db unit (CloseArea a) =
     done (record db { usage = λ b. if b == a then filter (λ e. not (e.0 == unit.number)) (db.usage b) else db.usage b }) (record unit { modes = slice_set unit.modes a None }) None None
-done_on_cells schema capacity db unit (Find form suppress) = finding db unit (found schema capacity db unit form) (λ k. seen schema capacity db unit k suppress)
+done_on_cells schema capacity db unit (Find suppress form) = finding db unit (found schema capacity db unit form) (λ k. seen schema capacity db unit k suppress)
 done_on_cells schema capacity db unit (Get r) = done_on_current db unit unit.currency.run_unit (λ k. done db unit (Some k) (Some (items_of db k)))
 done_on_cells schema capacity db unit (Store t items suppress) = stored schema capacity db unit (new_key db t (unwrap_or (free_number capacity db t) 0)) items suppress
 done_on_cells schema capacity db unit (Insert s) = done_on_current db unit unit.currency.run_unit (inserted schema db unit s)

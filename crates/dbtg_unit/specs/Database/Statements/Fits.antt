@@ -86,7 +86,7 @@ form_fits schema (InArea which r a) = is_area schema a && which_fits which && if
 form_fits schema (OwnerOf s) = is_set schema s && not (is_system schema s)
 form_fits schema (Calc r values) = some_and (λ calc. values_fit (pictures_at schema r calc.items) values) (calc_of schema r)
 form_fits schema (NextDuplicate r) = is_some (calc_of schema r)
-form_fits schema (Sorted v s) = key_fits schema s v
+form_fits schema (Sorted s v) = key_fits schema s v
 
 -- no item is named twice
 abbrev pub distinct_items : List Change → Bool
@@ -105,7 +105,7 @@ suppress_fits schema suppress = nat_lt suppress.sets (2 ^ length schema.sets)
 abbrev pub fits : Lists → Statement → Bool
 fits schema (OpenArea a mode) = is_area schema a
 fits schema (CloseArea a) = is_area schema a
-fits schema (Find form suppress) = form_fits schema form && suppress_fits schema suppress
+fits schema (Find suppress form) = form_fits schema form && suppress_fits schema suppress
 fits schema (Get r) = if_named (is_type schema) r
 fits schema (Store t items suppress) = is_type schema t && values_fit (pictures schema t) items && suppress_fits schema suppress
 fits schema (Insert s) = is_set schema s

@@ -94,6 +94,6 @@ found schema capacity db unit (Calc r values) = found_unless None (first (with_c
 found schema capacity db unit (NextDuplicate r) = with_current (at unit.currency.types r) (λ k.
     found_unless (first_cause ((not (is_live db k), Deleted) ∷ []))
     (first (filter (key_below k) (with_calc schema capacity db r (calc_items schema r (items_of db k))))) End)
-found schema capacity db unit (Sorted value s) = with_current (place_in schema unit s) (λ place.
+found schema capacity db unit (Sorted s value) = with_current (place_in schema unit s) (λ place.
     found_unless (first_cause ((is_none (db.lists s place.owner), Deleted) ∷ []))
     (find (λ k. some_and (value_eq value) (sort_key schema db s k)) (members_of db s place.owner)) NoneSatisfies)
