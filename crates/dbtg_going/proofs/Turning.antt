@@ -263,6 +263,31 @@ module _ {X : Type 0} (Is : Program → List Entry → X → Type 0) (programs :
   pub one_more : AreEach Is programs (history ++ entry ∷ []) (with_unit_at xs u new)
   one_more = record { count = length_with xs u new ∙ are.count; each = each_then }
 
+-- ONE ENTRY LESS
+
+-- if an entry of unit u is taken back, and the relation holds for its program before it, there is again one for each program
+module _ {X : Type 0} (Is : Program → List Entry → X → Type 0) (programs : List Program) (history : List Entry) (xs : List X) (u : ℕ) (entry : Entry) (of_u : entry.unit ≡ u) (are : AreEach Is programs (history ++ entry ∷ []) xs) (before : X)
+    (was : (p : Program) → unit_at programs u ≡ Some p → Is p (entries_of u history) before) where
+  each_before : (v : ℕ) (p : Program) → unit_at programs v ≡ Some p → (y : X) × (unit_at (with_unit_at xs u before) v ≡ Some y) × Is p (entries_of v history) y
+  each_before v p is =
+      let there = are.each v p is in
+      elim (same_or_not v u) [
+        | inl e ↦
+            let here : unit_at xs u ≡ Some there.0 = ap (unit_at xs) (sym e) ∙ there.1 in (
+              before,
+              ap (unit_at (with_unit_at xs u before)) e ∙ set_at xs u there.0 before here,
+              subst (λ n. Is p (entries_of n history) before) (sym e) (was p (ap (unit_at programs) (sym e) ∙ is)),
+            )
+        | inr d ↦ (
+          there.0,
+          set_elsewhere xs u v before d ∙ there.1,
+          subst (λ es. Is p es there.0) (entries_other v history entry (λ q. d (sym q ∙ of_u))) there.2,
+        )
+      ]
+
+  pub one_less : AreEach Is programs history (with_unit_at xs u before)
+  one_less = record { count = length_with xs u before ∙ are.count; each = each_before }
+
 -- the statement x is due in the program of unit u, which can make it
 pub record Awaits (schema : Lists) (programs : List Program) (m : Making) (members : List Member) (u : ℕ) (x : Statement) : Type 0 where
   pub program : Program

@@ -46,6 +46,15 @@ impl Going {
         Ok(Going { state, due })
     }
 
+    /// The same, at the same place.
+    pub fn copy(&self, alloc: Global) -> Result<Self, AllocError>
+        ensures { IfOk result (λ copy. copy ≡ self.now) }
+    {
+        let state = self.state.copy(alloc)?;
+        let due = self.due.copy(alloc)?;
+        Ok(Self { state, due })
+    }
+
     /// The statement that is due, if the schema has it.
     pub fn statement(&self, schema: &Schema) -> Option<&Statement>
         ensures { option_map (λ s. s.now) result ≡ statement_due schema.now (comes_of self.now) }

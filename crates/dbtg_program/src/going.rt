@@ -33,6 +33,18 @@ pub enum Due {
     End(End),
 }
 
+impl Due {
+    /// The same.
+    pub fn copy(&self, alloc: Global) -> Result<Self, AllocError>
+        ensures { IfOk result (λ copy. copy ≡ self.now) }
+    {
+        match self {
+            Due::Statement(statement) => Ok(Due::Statement(statement.copy(alloc)?)),
+            Due::End(end) => Ok(Due::End(*end)),
+        }
+    }
+}
+
 // Is a number below 10 to this power?
 fn has_digits(value: u64, digits: u8) -> bool
     ensures { result ≡ nat_lt value (10 ^ digits) }

@@ -80,6 +80,17 @@ fn take_fields(alloc: Global, values: &mut Vec<Value>, items: &[Value]) -> Resul
     Ok(())
 }
 
+// The same values.
+fn copies_of(alloc: Global, values: &[Value]) -> Result<Vec<Value>, AllocError>
+    ensures { IfOk result (λ copies. copies.items ≡ values.now) }
+{
+    let mut copies = Vec::new(alloc);
+    for value in values {
+        copies.push(value.copy(alloc)?)?;
+    }
+    Ok(copies)
+}
+
 /// The field gets a value, if there is such a field.
 fn put(fields: &mut [Value], field: usize, value: Value)
     ensures { fields.new ≡ slice_set fields.old field value }
@@ -144,6 +155,19 @@ impl State {
         ensures { IfOk result (λ state. state ≡ beginning program.now) }
     {
         Self::beginning_with(alloc, program.fields.as_slice())
+    }
+
+    /// The same state, with no room yet for the items of an answer.
+    pub fn copy(&self, alloc: Global) -> Result<Self, AllocError>
+        ensures { IfOk result (λ copy. copy ≡ self.now) }
+    {
+        let values = copies_of(alloc, self.values.as_slice())?;
+        Ok(Self {
+            at: self.at,
+            values,
+            status: self.status,
+            room: Vec::new(alloc),
+        })
     }
 
     /// The number of the program's next sentence, from 0.
