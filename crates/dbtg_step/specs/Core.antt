@@ -12,6 +12,7 @@ pub mod Newest
 pub mod Openings
 pub mod Parts
 pub mod Positions
+pub mod Reversible
 pub mod Runs
 pub mod Serial
 pub mod Turns

@@ -13,8 +13,10 @@ mod opening_parts;
 mod parts;
 mod quitting;
 mod results;
+mod reversible;
 mod runner;
 mod running;
+mod stand_in;
 mod statements;
 mod stepping;
 mod table;
@@ -34,6 +36,7 @@ pub use laws::{
 pub use machine::Core;
 pub use opening_parts::{opening_cells, opening_unit};
 pub use results::Run;
+pub use reversible::ReversibleDatabase;
 pub use running::{make_move, run, run_serial};
 pub use statements::{next_need, prepare, true_guesses};
 pub use taking_turns::{Turned, run_turns};
