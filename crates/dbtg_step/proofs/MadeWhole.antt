@@ -1,8 +1,11 @@
 -- Statements that are made whole: serial runs, turns and audits are runs of the machine.
 -- May use: `Runs` and `TheCore`.
--- Promises: `Wholes`: a statement on all cells is its effect; `SerialLaw`, `TurnsTaken`, `Audits`.
+-- Promises: `Wholes`: a statement on all cells is its effect; `WaysBack`, `Reversals`: the last statement can be taken back; `SerialLaw`,
+-- `TurnsTaken`, `Audits`.
 pub mod Audits
+pub mod Reversals
 pub mod SerialLaw
 pub mod SerialShown
 pub mod TurnsTaken
+pub mod WaysBack
 pub mod Wholes

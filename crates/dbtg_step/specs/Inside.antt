@@ -8,6 +8,7 @@ pub mod Leaves
 pub mod NeverStuck
 pub mod Openings
 pub mod Parts
+pub mod Reversible
 pub mod Runs
 pub mod SequentialDatabase
 pub mod Stands

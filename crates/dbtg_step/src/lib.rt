@@ -23,6 +23,7 @@ mod table;
 mod taking_turns;
 mod waiting;
 mod watching;
+mod way_back;
 mod whole;
 
 pub use auditing::audit;

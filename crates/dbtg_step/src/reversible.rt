@@ -1,22 +1,31 @@
 //! A database in memory on which each statement is made whole, and of which the last statements can be taken back.
-ghost use Rattle.std.specs.Prelude.{◌≡◌, ◌≤◌, ◌<◌, true, length, OnOk, OnErr};
+ghost use Rattle.std.specs.Prelude.{◌≡◌, ◌-◌, ◌≤◌, ◌<◌, true, length, OnOk, OnErr};
 ghost use Rattle.dbtg_unit.specs.Database.Statements.Fits.{fits};
 ghost use Rattle.dbtg_step.specs.Core.Reversible.{made_first};
 ghost use Rattle.dbtg_step.specs.Core.Whole.{HasMade};
+ghost use Rattle.dbtg_step.specs.Inside.Reversible.{HasWaysBack};
 
-use crate::stand_in::never_returns;
+use crate::way_back::WayBack;
 use crate::whole::WholeDatabase;
-use dbtg_cells::{Cell, CellName};
-use dbtg_schema::Row;
-use dbtg_unit::{Statement, Unit};
+use dbtg_unit::Statement;
 use std::alloc::{AllocError, Global};
 use std::marker::Model;
 
-/// The way back from a statement: the cells that it changed and its unit, as they were before.
-#[derive(Drop)]
-pub struct WayBack {
-    pub cells: Row<(CellName, Cell)>,
-    pub unit: Unit,
+// Takes back the last statements, as many as are above this count, each by its way.
+fn take_back_each(database: &mut WholeDatabase<'_>, ways: &mut Vec<WayBack>, count: usize)
+    requires back { HasWaysBack database.old ways.old.items }
+    requires above { length database.old.history - length ways.old.items ≤ count }
+    ensures database { database.new ≡ made_first count database.old }
+    ensures back { HasWaysBack database.new ways.new.items }
+    ensures stays { length database.new.history - length ways.new.items ≡ length database.old.history - length ways.old.items }
+{
+    while database.history().len() > count {
+        match ways.pop() {
+            Some(way) => database.take_back(way),
+            // Not met: each statement above the count has its way.
+            None => return,
+        }
+    }
 }
 
 /// A database in memory on which each statement is made whole, and of which the last statements can be taken back.
@@ -29,18 +38,24 @@ pub struct ReversibleDatabase<'a> {
 impl<'a> Model for ReversibleDatabase<'a> {
     ghost use Rattle.std.specs.Prelude.{◌-◌, length};
     ghost use Rattle.dbtg_step.specs.Core.Reversible.{Reversible};
+    ghost use Rattle.dbtg_step.specs.Inside.Reversible.{HasWaysBack};
 
     ghost Value = { Reversible };
 
     ghost view = { λ d. record { making = d.database; stays = length d.database.history - length d.ways.items } };
+
+    ghost invariant = { λ d. HasWaysBack d.database d.ways.items };
 }
 
 impl<'a> ReversibleDatabase<'a> {
     /// This database, of which the statements that were made stay.
     pub fn of(alloc: Global, database: WholeDatabase<'a>) -> Self
-        ensures { result ≡ record { making = database; stays = length database.history } }
+        ensures { result ≡ record { making = database.entry; stays = length database.entry.history } }
     {
-        never_returns()
+        Self {
+            database,
+            ways: Vec::new(alloc),
+        }
     }
 
     /// One statement of the unit with this number, made whole. If memory is refused nothing is changed.
@@ -52,7 +67,10 @@ impl<'a> ReversibleDatabase<'a> {
         ensures stays { self.new.stays ≡ self.old.stays }
         ensures unchanged { OnErr result (self.new ≡ self.old) }
     {
-        never_returns()
+        self.ways.reserve(1)?;
+        let way = self.database.make_with_way(unit, statement)?;
+        self.ways.push_reserved(way);
+        Ok(())
     }
 
     /// Takes back the last statements, until as many as this are left. It takes no memory.
@@ -60,7 +78,7 @@ impl<'a> ReversibleDatabase<'a> {
         requires above { self.old.stays ≤ count }
         ensures { self.new ≡ record self.old { making = made_first count self.old.making } }
     {
-        never_returns()
+        take_back_each(&mut self.database, &mut self.ways, count);
     }
 
     /// The database as it is now.
@@ -72,9 +90,10 @@ impl<'a> ReversibleDatabase<'a> {
 
     /// The database as it is now; no more of its statements can be taken back.
     pub fn into_database(self) -> WholeDatabase<'a>
-        ensures { result ≡ self.making }
+        ensures { result ≡ self.entry.making }
     {
-        never_returns()
+        drop(self.ways);
+        self.database
     }
 
     /// Drops the database and its units. Other crates call this, so that they need not prove that their parts can

@@ -1,5 +1,5 @@
 //! A database in memory on which each statement is made whole, one after another: no unit waits, and nothing happens in between.
-ghost use Rattle.std.specs.Prelude.{◌≡◌, ℕ, ◌≤◌, ◌<◌, ◌++◌, [], true, length, map, IfOk, OnOk, OnErr};
+ghost use Rattle.std.specs.Prelude.{◌≡◌, ℕ, ◌-◌, ◌≤◌, ◌<◌, ◌++◌, [], true, length, map, IfOk, OnOk, OnErr};
 ghost use Rattle.std.specs.List.{range_with_len};
 ghost use Rattle.dbtg_schema.specs.Sound.{IsSound};
 ghost use Rattle.dbtg_unit.specs.Database.State.Base.{Database, opening};
@@ -12,7 +12,9 @@ ghost use Rattle.dbtg_unit.specs.Hands.Making.{HaveNextVersions};
 ghost use Rattle.dbtg_unit.specs.Hands.Prepared.{values_of};
 ghost use Rattle.dbtg_unit.specs.Database.Laws.Replay.{IsHistoryOf};
 ghost use Rattle.dbtg_unit.specs.Database.State.Units.{opening_unit};
+ghost use Rattle.dbtg_step.specs.Core.Reversible.{made_first};
 ghost use Rattle.dbtg_step.specs.Core.Whole.{HasMade, IsMadeRun, state_now};
+ghost use Rattle.dbtg_step.specs.Inside.Reversible.{IsWayBack, LeadsOver};
 ghost use Rattle.dbtg_step.specs.Inside.Whole.{HoldsAll, IsEffect, IsGuessed, IsWhole, goes_by_guesses};
 
 use crate::drawing::{enter, make, make_room};
@@ -20,6 +22,7 @@ use crate::imaging::{CellSource, read_image};
 use crate::opening_parts::{hold_opening_cells, opening_unit};
 use crate::results::Run;
 use crate::statements::{next_need, true_guesses};
+use crate::way_back::{WayBack, make_with_way, put_each_back};
 use dbtg_schema::{AreaNo, Row, Schema};
 use dbtg_unit::{Answer, Entry, Held, Image, Need, Owners, Statement, Unit};
 use std::alloc::{AllocError, Global};
@@ -135,6 +138,32 @@ fn make_effect(
 {
     guess_owners(alloc, schema, capacity, unit, statement, held)?;
     make(alloc, schema, capacity, unit, held, statement)
+}
+
+// As `make_effect`, with the way back.
+fn make_effect_with_way(
+    alloc: Global,
+    schema: &Schema,
+    capacity: u16,
+    unit: &mut Unit,
+    held: &mut Held,
+    statement: &Statement,
+) -> Result<(Answer, WayBack), AllocError>
+    requires sound { IsSound schema.now }
+    requires fitting { fits schema.now statement.now ≡ true }
+    requires of_schema { IsUnitOf schema.now unit.old }
+    requires within { IsWithin capacity unit.old }
+    requires all { HoldsAll schema.now capacity held.old }
+    requires versions { HaveNextVersions held.old.cells }
+    requires agrees { (db : Database) × Agrees schema.now capacity db held.old unit.old }
+    ensures effect { IfOk result (λ made. (db : Database) → Agrees schema.now capacity db held.old unit.old → IsEffect schema.now capacity db statement.now unit.old unit.new held.new made.0) }
+    ensures back { IfOk result (λ made. IsWayBack schema.now capacity unit.old held.old statement.now made.1) }
+    ensures all { HoldsAll schema.now capacity held.new }
+    ensures unit { OnErr result (unit.new ≡ unit.old) }
+    ensures shows { OnErr result (values_of held.new.cells ≡ values_of held.old.cells) }
+{
+    guess_owners(alloc, schema, capacity, unit, statement, held)?;
+    make_with_way(alloc, schema, capacity, unit, held, statement)
 }
 
 /// A database in memory, which holds all of its cells, with its units and the statements that they made.
@@ -258,6 +287,46 @@ impl<'a> WholeDatabase<'a> {
             image,
             history: Row::of(self.history),
             units: Row::of(self.units),
+        }
+    }
+
+    /// As `make`, with the way back over the statement.
+    pub(crate) fn make_with_way(
+        &mut self,
+        unit: u8,
+        statement: Statement,
+    ) -> Result<WayBack, AllocError>
+        requires numbered { 0 < unit }
+        requires within { unit ≤ self.old.units }
+        requires fitting { fits self.old.schema statement ≡ true }
+        ensures made { OnOk result (HasMade self.old unit statement self.new) }
+        ensures back { IfOk result (LeadsOver self.new (length self.old.history)) }
+        ensures unchanged { OnErr result (self.new ≡ self.old) }
+    {
+        make_room(&mut self.history)?;
+        let maker = &mut self.units[unit as usize - 1];
+        let made = make_effect_with_way(
+            self.alloc,
+            self.schema,
+            self.capacity,
+            maker,
+            &mut self.held,
+            &statement,
+        )?;
+        enter(&mut self.history, unit, statement, made.0);
+        Ok(made.1)
+    }
+
+    /// Takes back the last statement by the way back over it. It takes no memory.
+    pub(crate) fn take_back(&mut self, way: WayBack)
+        requires { LeadsOver self.old (length self.old.history - 1) way }
+        ensures { self.new ≡ made_first (length self.old.history - 1) self.old }
+    {
+        if let Some(entry) = self.history.pop() {
+            let WayBack { cells, unit } = way;
+            put_each_back(&mut self.held, cells);
+            self.units[entry.unit as usize - 1] = unit;
+            drop(entry);
         }
     }
 }

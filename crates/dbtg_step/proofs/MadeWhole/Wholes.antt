@@ -1,11 +1,11 @@
 -- With every area and every cell held, a statement needs nothing more, and what it makes of its cells is its effect on the whole database.
-use Rattle.std.proofs.Common.{ℕ, zero, suc, ◌+◌, ◌-◌, ◌<◌, ◌≡◌, ◌≢◌, ◌^◌, Bool, true, false, cond, not, ◌&&◌, ◌||◌, List, [], ◌∷◌, ◌++◌, length, map, replicate, Option, Some, None, ◌⊎◌, inl, inr, slice_get, slice_set, refl, sym, ap, ◌∙◌, subst, arith}
+use Rattle.std.proofs.Common.{ℕ, zero, suc, ◌+◌, ◌-◌, ◌<◌, ◌≤◌, ◌≡◌, ◌≢◌, ◌^◌, Bool, true, false, cond, not, ◌&&◌, ◌||◌, List, [], ◌∷◌, ◌++◌, length, map, replicate, Option, Some, None, ◌⊎◌, inl, inr, slice_get, slice_set, get_or, refl, sym, ap, ◌∙◌, subst, arith}
 use Rattle.std.specs.Prelude.{IfOk, OnErr, Result, Ok, Err, is_some, option_map, if◌then◌else◌, ◌==◌}
 use Rattle.std.specs.List.{list_any, list_all, find, range_with_len}
 use Rattle.std.proofs.lemmas.Bool.{and_from, cases_Bool, eq-eqb, false≢true}
 use Rattle.std.proofs.lemmas.List.{length-map, length-set}
 use Rattle.std.proofs.lemmas.List.FromFn.{length-range_with_len}
-use Rattle.std.proofs.lemmas.Option.{same_Some}
+use Rattle.std.proofs.lemmas.Option.{same_Some, slice_get_read}
 use Rattle.dbtg_schema.specs.Lists.{Lists}
 use Rattle.dbtg_schema.specs.Lookups.{at, some_and}
 use Rattle.dbtg_schema.specs.Sound.{IsSound}
@@ -281,9 +281,9 @@ module _ (schema : Lists) (capacity : ℕ) where
     mid_all : HoldsAll schema capacity mid
     mid_all = record { areas = ap (λ (h : Hands). h.areas) guessed.rest ∙ all.areas; names = ap (λ (h : Hands). names_of h.cells) guessed.rest ∙ all.names }
 
-    pub still_all : {E : Type 0} (r : Result Answer E) → IfOk r (λ answer. (d : Database) → Agrees schema capacity d mid unit → IsMadeOn schema capacity d unit mid x (seen answer unit' new)) → OnErr r (ShowsTheSame mid new) → HoldsAll schema capacity new
-    still_all (Ok answer) h g = made_all unit unit' x old mid new answer guessed all db (h db (also_guessed unit unit' x old mid new answer guessed db agrees))
-    still_all (Err e) h g = same_names mid new g.cells g.areas mid_all
+    pub still_all : {A E : Type 0} (answer : A → Answer) (r : Result A E) → IfOk r (λ a. (d : Database) → Agrees schema capacity d mid unit → IsMadeOn schema capacity d unit mid x (seen (answer a) unit' new)) → OnErr r (ShowsTheSame mid new) → HoldsAll schema capacity new
+    still_all answer (Ok a) h g = made_all unit unit' x old mid new (answer a) guessed all db (h db (also_guessed unit unit' x old mid new (answer a) guessed db agrees))
+    still_all answer (Err e) h g = same_names mid new g.cells g.areas mid_all
 
 -- the held cell of a name shows what the database has for it
 found_in_hand : (schema : Lists) (capacity : ℕ) (db : Database) (c : CellName) (es : List (CellName × Cell)) → AllAgree schema capacity db es → list_any (λ (e : CellName × Cell). name_eq c e.0) es ≡ true → ShowsCell schema capacity db (λ d. cell_of d es) c
@@ -337,7 +337,7 @@ module _ (schema : Lists) (capacity : ℕ) (hands : Hands) (units : List Unit) (
   units_counted = ap length (sym w.units_are)
 
   module _ (u : ℕ) (r : Unit) (numbered : 0 < u) (there : slice_get units (u - 1) ≡ Some r) where
-    found_unit : slice_get now.units (u - 1) ≡ Some r
+    pub found_unit : slice_get now.units (u - 1) ≡ Some r
     found_unit = ap (λ us. slice_get us (u - 1)) (sym w.units_are) ∙ there
 
     pub maker : IsUnitIn schema capacity now.database (suc (u - 1)) r
@@ -411,3 +411,38 @@ module _ (schema : Lists) (capacity : ℕ) (hands : Hands) (units : List Unit) (
   -- with a unit that is as it was
   pub unmade_at : (u : ℕ) (r r' : Unit) (new : Hands) → slice_get units (u - 1) ≡ Some r → r' ≡ r → HoldsAll schema capacity new → values_of new.cells ≡ values_of hands.cells → IsWhole schema capacity new (slice_set units (u - 1) r') history
   unmade_at u r r' new at e all shows = subst (λ us. IsWhole schema capacity new us history) (sym (ap (slice_set units (u - 1)) e ∙ set_same_at units (u - 1) r at)) (unmade new all shows)
+
+  -- where the maker is read from the units
+  module _ (m : Making) (view : making schema capacity (length units) history ≡ m) (u : ℕ) (r : Unit) (numbered : 0 < u) (within : u ≤ m.units) (read : r ≡ get_or units (u - 1) r) where
+    pub read_there : slice_get units (u - 1) ≡ Some r
+    read_there = let count : length units ≡ m.units = ap (λ (k : Making). k.units) view in slice_get_read units (length units) (u - 1) r refl (omega (arith, within, numbered, count)) read
+
+    pub read_maker : IsUnitIn schema capacity now.database (suc (u - 1)) r
+    read_maker = maker u r numbered read_there
+
+    pub read_agrees : (db : Database) × Agrees schema capacity db hands r
+    read_agrees = (now.database, maker_agrees u r numbered read_there)
+
+    pub read_unmade : (r' : Unit) (new : Hands) (entries : List Entry) → r' ≡ r → HoldsAll schema capacity new → values_of new.cells ≡ values_of hands.cells → entries ≡ history → IsWhole schema capacity new (slice_set units (u - 1) r') entries
+    read_unmade r' new entries e all shows same = subst (IsWhole schema capacity new (slice_set units (u - 1) r')) (sym same) (unmade_at u r r' new read_there e all shows)
+
+    -- and the statement is made and entered
+    module _ (x : Statement) (fit : fits m.schema x ≡ true) (unit' : Unit) (new : Hands) (answer : Answer) (effects : (db : Database) → Agrees schema capacity db hands r → IsEffect schema capacity db x r unit' new answer) (all : HoldsAll schema capacity new)
+        (entries longer : List Entry) (same : entries ≡ history) (entered : longer ≡ entries ++ record { ticket = length entries; unit = u; statement = x; answer = answer } ∷ []) where
+      fit_here : fits schema x ≡ true
+      fit_here = subst (λ (k : Making). fits k.schema x ≡ true) (sym view) fit
+
+      made_here : IsEffect schema capacity now.database x r unit' new answer
+      made_here = effects now.database (maker_agrees u r numbered read_there)
+
+      pushed : longer ≡ history ++ record { ticket = length history; unit = u; statement = x; answer = answer } ∷ []
+      pushed = entered ∙ (λ i. same i ++ record { ticket = length (same i); unit = u; statement = x; answer = answer } ∷ [])
+
+      pub read_whole : IsWhole schema capacity new (slice_set units (u - 1) unit') longer
+      read_whole = subst (IsWhole schema capacity new (slice_set units (u - 1) unit')) (sym pushed) (whole_then u r numbered read_there x fit_here unit' new answer made_here all)
+
+      pub read_made : HasMade m u x (making schema capacity (length (slice_set units (u - 1) unit')) longer)
+      read_made =
+          subst (λ (k : Making). HasMade k u x (making schema capacity (length (slice_set units (u - 1) unit')) longer)) view
+          (subst (λ (es : List Entry). HasMade (making schema capacity (length units) history) u x (making schema capacity (length (slice_set units (u - 1) unit')) es)) (sym pushed)
+          (made_then u r numbered read_there x fit_here unit' new answer made_here all))

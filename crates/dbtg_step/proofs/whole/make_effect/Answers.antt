@@ -26,4 +26,4 @@ returns-clause-effect c =
 pub returns-clause-all : goal.returns-clause-all
 returns-clause-all c =
     still_all c.args.schema.now c.args.capacity c.args.unit.now c.make.new.unit c.args.statement.now c.args.held.now c.guess_owners.new.held c.make.new.held c.in_ok-guess_owners.ensures.guessed c.requires.all c.requires.agrees.0 c.requires.agrees.1
-    c.make.result c.make.ensures.made c.make.ensures.shows
+    (λ answer. answer) c.make.result c.make.ensures.made c.make.ensures.shows
