@@ -16,7 +16,6 @@ mod results;
 mod reversible;
 mod runner;
 mod running;
-mod stand_in;
 mod statements;
 mod stepping;
 mod table;

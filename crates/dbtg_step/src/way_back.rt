@@ -10,7 +10,6 @@ ghost use Rattle.dbtg_unit.specs.Hands.Making.{MayPrepare, ShowsTheSame};
 ghost use Rattle.dbtg_unit.specs.Hands.Prepared.{values_of};
 ghost use Rattle.dbtg_step.specs.Inside.Reversible.{IsWayBack, values_at, with_copies};
 
-use crate::stand_in::{copy_cell, names_of_plan};
 use crate::statements::prepare;
 use dbtg_cells::{Cell, CellName};
 use dbtg_schema::{Row, Schema};
@@ -35,7 +34,7 @@ fn copies_of(
     let mut copies = Vec::with_capacity(alloc, names.len())?;
     for name in names {
         if let Some(cell) = held.cell(name) {
-            copies.push((*name, copy_cell(alloc, cell)?))?;
+            copies.push((*name, cell.copy(alloc)?))?;
         }
     }
     Ok(Row::of(copies))
@@ -51,7 +50,7 @@ fn way_back(
     ensures cells { IfOk result (λ way. values_of way.cells ≡ values_at held.now.cells (map (λ e. e.name) prepared.now.cells)) }
     ensures unit { IfOk result (λ way. way.unit ≡ unit.now) }
 {
-    let names = names_of_plan(alloc, prepared)?;
+    let names = prepared.names(alloc)?;
     let cells = copies_of(alloc, held, names.as_slice())?;
     let unit = unit.copy(alloc)?;
     Ok(WayBack { cells, unit })
