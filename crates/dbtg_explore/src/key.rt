@@ -16,19 +16,11 @@ use crate::meeting::Meeting;
 use crate::unversioned::{unversioned_image, unversioned_units};
 use crate::whereabouts::Whereabouts;
 use dbtg_going::Going;
-use dbtg_outcomes::{Spelled, spell_each, spell_image};
+use dbtg_outcomes::{Spelled, spell_image, spell_list};
 use dbtg_program::{Due, End};
 use dbtg_schema::Row;
 use dbtg_unit::{Image, Unit};
 use std::alloc::{AllocError, Global};
-
-// How many things there are, and then each.
-fn spell_list<T: Spelled>(things: &[T], out: &mut Vec<u64>) -> Result<(), AllocError>
-    ensures { OnOk result (out.new.items ≡ out.old.items ++ list_numbers T.numbers things.now) }
-{
-    out.push(things.len() as u64)?;
-    spell_each(things, out)
-}
 
 // The kind of an end, and its line.
 fn numbers_of(end: End) -> (u64, u64)

@@ -7,3 +7,4 @@ pub mod Extending
 pub mod Merges
 pub mod Mixed
 pub mod Nexts
+pub mod Turns

@@ -18,3 +18,4 @@ pub mod SameImages
 pub mod SameStates
 pub mod Searched
 pub mod States
+pub mod Walks

@@ -8,4 +8,5 @@ pub mod Search
 pub mod Spelling
 pub mod Statuses
 pub mod Steps
+pub mod Walks
 pub mod Wishes

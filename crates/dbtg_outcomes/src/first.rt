@@ -5,13 +5,15 @@ ghost use Rattle.dbtg_unit.specs.Database.Statements.Fits.{fits};
 ghost use Rattle.dbtg_unit.specs.Database.Laws.Replaying.{statements_of};
 ghost use Rattle.dbtg_outcomes.specs.Orders.{first_script, made, made_first, others};
 ghost use Rattle.dbtg_outcomes.specs.Outcomes.{IsMeeting};
-ghost use Rattle.dbtg_outcomes.specs.Inside.Outcomes.{IsMaking, IsRunOf, MakesNoted, MakesScript};
+ghost use Rattle.dbtg_outcomes.specs.Inside.Outcomes.{MakesNoted, MakesScript};
+ghost use Rattle.dbtg_outcomes.specs.Inside.Walks.{IsMaking, LeadTo};
 ghost use Rattle.dbtg_outcomes.specs.Inside.Search.{AreNotedOf, order_alone};
 
 use crate::meeting::{Meeting, make_copy};
 use crate::notes::Note;
+use crate::turns::{Turn, push_turns};
 use dbtg_schema::Row;
-use dbtg_step::{Run, WholeDatabase};
+use dbtg_step::WholeDatabase;
 use dbtg_unit::Statement;
 use std::alloc::{AllocError, Global};
 
@@ -134,44 +136,59 @@ impl<'a> Meeting<'a> {
         self.make_script(alloc, database, 1, script, notes)
     }
 
-    /// The result of the script that is made first; the statuses of its statements are noted.
-    pub(crate) fn first_run(&self, alloc: Global, notes: &mut Vec<Note>) -> Result<Run, AllocError>
+    /// Notes the statuses of the script that is made first.
+    pub(crate) fn note_first(&self, alloc: Global, notes: &mut Vec<Note>) -> Result<(), AllocError>
         requires meeting { IsMeeting self.now }
         requires none { notes.old.items ≡ [] }
-        ensures run { IfOk result (IsRunOf self.now (made_first self.now.first self.now.scripts)) }
-        ensures noted { OnOk result (AreNotedOf self.now (made_first self.now.first self.now.scripts) notes.new.items) }
+        ensures { OnOk result (AreNotedOf self.now (made_first self.now.first self.now.scripts) notes.new.items) }
     {
         let mut database = WholeDatabase::opening(alloc, self.schema, self.capacity, self.units())?;
-        match self.make_first(alloc, &mut database, notes) {
-            Ok(()) => Ok(database.into_run()?),
-            Err(refused) => {
-                database.discard();
-                Err(refused)
-            }
-        }
+        let made = self.make_first(alloc, &mut database, notes);
+        database.discard();
+        made
     }
 
-    /// The result of the script of unit 1, if that is the only one beside the script that is made first; the statuses of all statements
-    /// are noted.
-    pub(crate) fn run_alone(
+    /// Notes the statuses of the script that is made first and of that of unit 1, if that is the only one beside it.
+    pub(crate) fn note_alone(
         &self,
         alloc: Global,
         script: &[Statement],
         notes: &mut Vec<Note>,
-    ) -> Result<Run, AllocError>
+    ) -> Result<(), AllocError>
         requires meeting { IsMeeting self.now }
         requires alone { others self.now.first self.now.scripts ≡ script.now ∷ [] }
         requires none { notes.old.items ≡ [] }
-        ensures run { IfOk result (IsRunOf self.now (order_alone self.now script.now)) }
-        ensures noted { OnOk result (AreNotedOf self.now (order_alone self.now script.now) notes.new.items) }
+        ensures { OnOk result (AreNotedOf self.now (order_alone self.now script.now) notes.new.items) }
     {
         let mut database = WholeDatabase::opening(alloc, self.schema, self.capacity, self.units())?;
-        match self.make_alone(alloc, &mut database, script, notes) {
-            Ok(()) => Ok(database.into_run()?),
-            Err(refused) => {
-                database.discard();
-                Err(refused)
-            }
-        }
+        let made = self.make_alone(alloc, &mut database, script, notes);
+        database.discard();
+        made
+    }
+
+    /// The turns of the script that is made first.
+    pub(crate) fn first_turns(&self, alloc: Global) -> Result<Vec<Turn>, AllocError>
+        requires { IsMeeting self.now }
+        ensures { IfOk result (λ turns. LeadTo self.now turns.items (made_first self.now.first self.now.scripts)) }
+    {
+        let mut turns = Vec::new(alloc);
+        let script = first_script(self.first, self.scripts);
+        push_turns(&mut turns, self.units(), script.len())?;
+        Ok(turns)
+    }
+
+    /// The turns of that script, and then those of the script of unit 1, if that is the only one beside it.
+    pub(crate) fn turns_alone(
+        &self,
+        alloc: Global,
+        script: &[Statement],
+    ) -> Result<Vec<Turn>, AllocError>
+        requires meeting { IsMeeting self.now }
+        requires alone { others self.now.first self.now.scripts ≡ script.now ∷ [] }
+        ensures { IfOk result (λ turns. LeadTo self.now turns.items (order_alone self.now script.now)) }
+    {
+        let mut turns = self.first_turns(alloc)?;
+        push_turns(&mut turns, 1, script.len())?;
+        Ok(turns)
     }
 }

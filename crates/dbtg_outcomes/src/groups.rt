@@ -1,23 +1,23 @@
-//! Histories in groups: those of one group have the same key. The first history of each group is kept, with the number of orders.
+//! Orders in groups: those of one group have the same key. The turns of the first order of each group are kept, with the number of orders.
 ghost use Rattle.std.specs.Prelude.{◌≡◌, ◌++◌, ◌∷◌, ◌<◌, [], false, length, map, IfOk, IfSome, IfNone, OnOk};
 ghost use Rattle.dbtg_outcomes.specs.Inside.Grouped.{IsAdded, IsAt, keys_of};
 ghost use Rattle.dbtg_outcomes.specs.Groups.{among};
 
 use crate::count::sum_of;
+use crate::turns::Turn;
 use dbtg_schema::Row;
-use dbtg_unit::Entry;
 use indexmap::IndexMap;
 use std::alloc::{AllocError, Global};
 use std::marker::Model;
 
-/// The first history of a group, and how many orders the group has.
+/// The turns of the first order of a group, and how many orders the group has.
 #[derive(Drop)]
 pub struct Group {
-    pub history: Row<Entry>,
+    pub turns: Row<Turn>,
     pub orders: Option<u64>,
 }
 
-/// Groups by their keys, in the order in which their first histories came.
+/// Groups by their keys, in the order in which their first orders came.
 #[derive(Drop)]
 pub struct Groups {
     groups: IndexMap<Vec<u64>, Group>,
@@ -66,7 +66,7 @@ impl Groups {
         Ok(())
     }
 
-    /// Adds a history that stands for this many orders: to the group with its key, or as a new group after the others.
+    /// Adds an order that stands for this many orders: to the group with its key, or as a new group after the others.
     pub fn add(&mut self, key: Vec<u64>, group: Group) -> Result<(), AllocError>
         ensures { OnOk result (IsAdded self.old key.items group self.new) }
     {

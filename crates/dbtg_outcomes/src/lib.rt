@@ -16,6 +16,8 @@ mod parts;
 mod search;
 mod spelled;
 mod told;
+mod turns;
+mod walk;
 mod watch;
 mod wishes;
 
@@ -30,7 +32,7 @@ pub use meeting::{Meeting, as_numbers};
 pub use outcomes::{OneResult, Outcomes, all_outcomes};
 pub use parts::spell_image;
 pub use search::Stop;
-pub use spelled::{Spelled, spell_each};
+pub use spelled::{Spelled, spell_list};
 pub use told::usage_by_unit;
 pub use watch::{Unwatched, Watch};
 pub use wishes::{Wish, broken_turns, is_there};

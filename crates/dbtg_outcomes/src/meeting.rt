@@ -6,14 +6,14 @@ ghost use Rattle.dbtg_unit.specs.Database.Laws.Replay.{IsHistoryOf, entries_of};
 ghost use Rattle.dbtg_unit.specs.Database.Laws.Replaying.{statements_of};
 ghost use Rattle.dbtg_step.specs.Core.Whole.{HasMade};
 ghost use Rattle.dbtg_outcomes.specs.Outcomes.{HasStatus, IsMeeting};
-ghost use Rattle.dbtg_outcomes.specs.Inside.Outcomes.{IsRunOf};
+ghost use Rattle.dbtg_outcomes.specs.Inside.Walks.{IsMaking};
 ghost use Rattle.dbtg_outcomes.specs.Brief.{told_of};
 ghost use Rattle.dbtg_outcomes.specs.Results.{answers_told, placed_told, result_text, state_key, told_text};
 
 use crate::brief::Told;
 use crate::facts::named;
 use crate::parts::spell_image;
-use crate::spelled::Spelled;
+use crate::spelled::{Spelled, spell_list};
 use crate::told::{answers_by_unit, placed_by_unit, result_text, usage_by_unit};
 use dbtg_schema::{Row, Schema};
 use dbtg_script::push_run;
@@ -42,8 +42,8 @@ impl<'a> Model for Meeting<'a> {
     ghost view = { λ m. record { schema = m.schema.now; capacity = m.capacity; scripts = m.scripts.now; first = m.first; tells = m.tells_answers } };
 }
 
-/// How many statements the unit has made.
-pub fn made_by(history: &[Entry], unit: u8) -> usize
+// How many statements the unit has made.
+fn made_by(history: &[Entry], unit: u8) -> usize
     ensures { result ≡ length (entries_of unit history.now) }
 {
     history.iter().filter(|entry| entry.unit == unit).count()
@@ -95,66 +95,6 @@ impl<'a> Meeting<'a> {
         self.scripts.len() as u8
     }
 
-    /// The database after the statements of a history.
-    fn after(&self, alloc: Global, history: &[Entry]) -> Result<WholeDatabase<'a>, AllocError>
-        requires meeting { IsMeeting self.now }
-        requires history { IsHistoryOf self.now.schema self.now.capacity (length self.now.scripts) history.now }
-        ensures same { IfOk result (λ database. database ≡ record { schema = self.now.schema; capacity = self.now.capacity; units = length self.now.scripts; history = database.history }) }
-        ensures made { IfOk result (λ database. statements_of database.history ≡ statements_of history.now) }
-    {
-        let mut database = WholeDatabase::opening(alloc, self.schema, self.capacity, self.units())?;
-        for entry in history {
-            match make_copy(alloc, &mut database, entry.unit, &entry.statement) {
-                Ok(()) => {}
-                Err(refused) => {
-                    database.discard();
-                    return Err(refused);
-                }
-            }
-        }
-        Ok(database)
-    }
-
-    /// The run to which a history leads.
-    pub(crate) fn replayed(&self, alloc: Global, history: &[Entry]) -> Result<Run, AllocError>
-        requires meeting { IsMeeting self.now }
-        requires history { IsHistoryOf self.now.schema self.now.capacity (length self.now.scripts) history.now }
-        ensures { IfOk result (IsRunOf self.now (statements_of history.now)) }
-    {
-        self.after(alloc, history)?.into_run()
-    }
-
-    /// The run to which a history with one more statement leads, and the status of that statement.
-    pub(crate) fn extended(
-        &self,
-        alloc: Global,
-        history: &[Entry],
-        unit: u8,
-        statement: &Statement,
-    ) -> Result<(Run, u16), AllocError>
-        requires meeting { IsMeeting self.now }
-        requires history { IsHistoryOf self.now.schema self.now.capacity (length self.now.scripts) history.now }
-        requires numbered { 0 < unit }
-        requires within { unit ≤ length self.now.scripts }
-        requires fitting { fits self.now.schema statement.now ≡ true }
-        ensures run { IfOk result (λ made. IsRunOf self.now (statements_of history.now ++ (unit, statement.now) ∷ []) made.0) }
-        ensures status { IfOk result (λ made. HasStatus self.now (statements_of history.now) unit statement.now made.1) }
-    {
-        let mut database = self.after(alloc, history)?;
-        let before = database.history().len();
-        match make_copy(alloc, &mut database, unit, statement) {
-            Ok(()) => {
-                let made = &database.history()[before];
-                let status = made.answer.status.code(&made.statement);
-                Ok((database.into_run()?, status))
-            }
-            Err(refused) => {
-                database.discard();
-                Err(refused)
-            }
-        }
-    }
-
     /// The answers so far, if they tell results apart.
     fn answers(&self, alloc: Global, history: &[Entry]) -> Result<Row<Row<u8>>, AllocError>
         requires meeting { IsMeeting self.now }
@@ -168,55 +108,40 @@ impl<'a> Meeting<'a> {
         }
     }
 
-    /// The state to which a history leads, as numbers: everything on which what comes after it depends.
-    pub(crate) fn state_key(&self, alloc: Global, run: &Run) -> Result<Vec<u64>, AllocError>
+    /// The state of a database as numbers: everything on which what comes after it depends.
+    pub(crate) fn state_key(
+        &self,
+        alloc: Global,
+        database: &WholeDatabase,
+    ) -> Result<Vec<u64>, AllocError>
         requires meeting { IsMeeting self.now }
-        requires run { IsRunOf self.now (statements_of run.now.history) run.now }
-        ensures { IfOk result (λ key. key.items ≡ state_key self.now (statements_of run.now.history)) }
+        requires making { IsMaking self.now (statements_of database.now.history) database.now }
+        ensures { IfOk result (λ key. key.items ≡ state_key self.now (statements_of database.now.history)) }
     {
-        let history = run.history.as_slice();
+        let history = database.history();
         let mut key = Vec::new(alloc);
         made_by_each(alloc, history, self.units())?.spell(&mut key)?;
-        spell_image(alloc, &run.image, self.units(), &mut key)?;
-        run.units.spell(&mut key)?;
+        spell_image(alloc, &database.image()?, self.units(), &mut key)?;
+        spell_list(database.units(), &mut key)?;
         self.answers(alloc, history)?.spell(&mut key)?;
         Ok(key)
     }
 
-    // The text of the result to which a run leads, byte by byte. In the image of the run the units that have an area open are then in
-    // the order of their numbers.
-    fn key_told(&self, alloc: Global, run: &mut Run) -> Result<Vec<u64>, AllocError>
-        requires meeting { IsMeeting self.now }
-        requires run { IsRunOf self.now (statements_of run.old.history) run.old }
-        ensures key { IfOk result (λ key. key.items ≡ result_text self.now (statements_of run.old.history)) }
-        ensures history { run.new.history ≡ run.old.history }
-    {
-        let answers = self.answers(alloc, run.history.as_slice())?;
-        let text = result_text(
-            alloc,
-            self.schema,
-            answers.as_slice(),
-            &mut run.image,
-            run.units.as_slice(),
-        )?;
-        as_numbers(alloc, text.as_slice())
-    }
-
-    /// The text of the result to which a run leads, byte by byte, and the run's history.
+    /// The text of the result to which the statements of a database lead, byte by byte.
     pub(crate) fn result_key(
         &self,
         alloc: Global,
-        run: Run,
-    ) -> Result<(Vec<u64>, Row<Entry>), AllocError>
+        database: &WholeDatabase,
+    ) -> Result<Vec<u64>, AllocError>
         requires meeting { IsMeeting self.now }
-        requires run { IsRunOf self.now (statements_of run.history) run }
-        ensures key { IfOk result (λ told. told.0.items ≡ result_text self.now (statements_of run.history)) }
-        ensures history { IfOk result (λ told. told.1 ≡ run.history) }
+        requires making { IsMaking self.now (statements_of database.now.history) database.now }
+        ensures { IfOk result (λ key. key.items ≡ result_text self.now (statements_of database.now.history)) }
     {
-        let mut run = run;
-        let key = self.key_told(alloc, &mut run);
-        let history = run.into_history();
-        Ok((key?, history))
+        let answers = self.answers(alloc, database.history())?;
+        let mut image = database.image()?;
+        let units = database.units();
+        let text = result_text(alloc, self.schema, answers.as_slice(), &mut image, units)?;
+        as_numbers(alloc, text.as_slice())
     }
 
     // The answers of a history with the places of their statements, if they tell results apart.

@@ -5,16 +5,18 @@ ghost use Rattle.dbtg_outcomes.specs.Inside.Given.{all_orders, one_result};
 ghost use Rattle.dbtg_outcomes.specs.Orders.{count_statements, others};
 ghost use Rattle.dbtg_outcomes.specs.Outcomes.{AreOutcomes, IsMeeting, count_states};
 ghost use Rattle.dbtg_outcomes.specs.Inside.Search.{IsAt};
-ghost use Rattle.dbtg_outcomes.specs.Inside.Steps.{AreByResult, HasHistory, Joins};
+ghost use Rattle.dbtg_outcomes.specs.Inside.Steps.{AreByResult, HaveStatements, Joins};
+ghost use Rattle.dbtg_outcomes.specs.Inside.Walks.{Stands};
 
 use crate::answered::{Answered, answered_by};
 use crate::count::sum_of;
 use crate::groups::{Group, Groups};
 use crate::meeting::Meeting;
 use crate::search::{Search, Stop};
+use crate::turns::units_of;
+use crate::walk::Walk;
 use crate::watch::Watch;
 use dbtg_schema::Row;
-use dbtg_unit::Entry;
 use std::alloc::{AllocError, Global};
 
 /// A result: the first order that leads to it, by the units whose turn it is, and how many orders lead to it; none if that is
@@ -34,12 +36,12 @@ pub struct Outcomes {
 }
 
 // The states after all statements.
-fn search_all<W: Watch>(
+fn search_all<'a, W: Watch>(
     alloc: Global,
     watch: &W,
-    meeting: &Meeting,
+    meeting: &Meeting<'a>,
     limit: usize,
-) -> Result<Search, Stop>
+) -> Result<Search<'a>, Stop>
     requires { IsMeeting meeting.now }
     ensures at { IfOk result (IsAt meeting.now (count_statements (others meeting.now.first meeting.now.scripts))) }
     ensures limit { IfOk result (λ search. search.limit ≡ limit) }
@@ -51,50 +53,76 @@ fn search_all<W: Watch>(
         return Search::alone(alloc, watch, meeting, left[0].as_slice(), limit);
     }
     let mut search = Search::begin(alloc, meeting, limit)?;
-    search.pass(alloc, watch, meeting, left)?;
-    Ok(search)
+    match search.pass(alloc, watch, meeting, left) {
+        Ok(()) => Ok(search),
+        Err(stop) => {
+            search.discard();
+            Err(stop)
+        }
+    }
 }
 
 // Adds a group to the group of its result.
-fn join_result(
+fn join_result<'a>(
     alloc: Global,
-    meeting: &Meeting,
+    meeting: &Meeting<'a>,
+    walk: &mut Walk<'a>,
     group: &Group,
     results: &mut Groups,
 ) -> Result<(), AllocError>
     requires meeting { IsMeeting meeting.now }
-    requires history { HasHistory meeting.now group.now }
-    ensures { OnOk result (Joins meeting.now group.now results.old results.new) }
+    requires stands { Stands meeting.now walk.old }
+    requires group { HaveStatements meeting.now group.now }
+    ensures stands { OnOk result (Stands meeting.now walk.new) }
+    ensures joins { OnOk result (Joins meeting.now group.now results.old results.new) }
 {
-    let run = meeting.replayed(alloc, group.history.as_slice())?;
-    let (key, history) = meeting.result_key(alloc, run)?;
+    let turns = group.turns.as_slice();
+    meeting.go_to(alloc, walk, turns)?;
+    let key = meeting.result_key(alloc, walk.database.database())?;
+    let turns = Row::of(Vec::from_slice(alloc, turns)?);
     let orders = group.orders;
-    results.add(key, Group { history, orders })?;
-    Ok(())
+    results.add(key, Group { turns, orders })
 }
 
 // The groups of the same result.
-fn by_result(alloc: Global, meeting: &Meeting, last: &[Group]) -> Result<Vec<Group>, AllocError>
+fn by_result<'a>(
+    alloc: Global,
+    meeting: &Meeting<'a>,
+    walk: &mut Walk<'a>,
+    last: &[Group],
+) -> Result<Vec<Group>, AllocError>
     requires meeting { IsMeeting meeting.now }
-    requires histories { All (HasHistory meeting.now) last.now }
+    requires stands { Stands meeting.now walk.old }
+    requires groups { All (HaveStatements meeting.now) last.now }
     ensures { IfOk result (λ groups. AreByResult meeting.now last.now groups.items) }
 {
     let mut results = Groups::none(alloc);
     for group in last {
-        join_result(alloc, meeting, group, &mut results)?;
+        join_result(alloc, meeting, walk, group, &mut results)?;
     }
     results.into_groups(alloc)
 }
 
-// The units of the entries, in turn.
-pub(crate) fn turns_of(alloc: Global, history: &[Entry]) -> Result<Row<u8>, AllocError>
-    ensures { IfOk result (λ turns. turns ≡ map (λ e. e.unit) history.now) }
+// The groups of the same result, after a search. One group is one result, and its statements need not be made again.
+fn results_after<'a>(
+    alloc: Global,
+    meeting: &Meeting<'a>,
+    walk: &mut Walk<'a>,
+    last: &[Group],
+) -> Result<Vec<Group>, AllocError>
+    requires meeting { IsMeeting meeting.now }
+    requires stands { Stands meeting.now walk.old }
+    requires groups { All (HaveStatements meeting.now) last.now }
+    ensures { IfOk result (λ groups. AreByResult meeting.now last.now groups.items) }
 {
-    let mut turns = Row::of(Vec::new(alloc));
-    for entry in history {
-        turns.push(entry.unit)?;
+    if last.len() != 1 {
+        return by_result(alloc, meeting, walk, last);
     }
-    Ok(turns)
+    let turns = last[0].turns.copy(alloc)?;
+    let orders = last[0].orders;
+    let mut results = Vec::new(alloc);
+    results.push(Group { turns, orders })?;
+    Ok(results)
 }
 
 // The groups as results.
@@ -103,7 +131,7 @@ fn results_of(alloc: Global, groups: &[Group]) -> Result<Vec<OneResult>, AllocEr
 {
     let mut results = Vec::new(alloc);
     for group in groups {
-        let turns = turns_of(alloc, group.history.as_slice())?;
+        let turns = units_of(alloc, group.turns.as_slice())?;
         let orders = group.orders;
         results.push(OneResult { turns, orders })?;
     }
@@ -122,14 +150,19 @@ fn all_orders(groups: &[Group]) -> Option<u64>
 }
 
 // The outcomes of a search that has made all statements.
-fn outcomes_of(alloc: Global, meeting: &Meeting, search: &Search) -> Result<Outcomes, AllocError>
+fn outcomes_of<'a>(
+    alloc: Global,
+    meeting: &Meeting<'a>,
+    search: &mut Search<'a>,
+) -> Result<Outcomes, AllocError>
     requires meeting { IsMeeting meeting.now }
-    requires at { IsAt meeting.now (count_statements (others meeting.now.first meeting.now.scripts)) search.now }
+    requires at { IsAt meeting.now (count_statements (others meeting.now.first meeting.now.scripts)) search.old }
     ensures { IfOk result (AreOutcomes meeting.now) }
 {
-    let groups = by_result(alloc, meeting, search.layer.as_slice())?;
+    let answered = answered_by(alloc, meeting.scripts, search.walk.notes.as_slice())?;
+    let layer = search.layer.as_slice();
+    let groups = results_after(alloc, meeting, &mut search.walk, layer)?;
     let results = results_of(alloc, groups.as_slice())?;
-    let answered = answered_by(alloc, meeting.scripts, search.notes.as_slice())?;
     Ok(Outcomes {
         orders: all_orders(groups.as_slice()),
         results,
@@ -152,7 +185,8 @@ pub fn all_outcomes<W: Watch>(
     ensures stopped { IfErr result (λ stop. stop ≡ States → limit < count_states meeting.now) }
     ensures at_once { limit ≡ 0 → MatchResult result (λ _. ⊥) (λ stop. stop ≡ States) }
 {
-    let search = search_all(alloc, watch, meeting, limit)?;
-    let outcomes = outcomes_of(alloc, meeting, &search)?;
-    Ok(outcomes)
+    let mut search = search_all(alloc, watch, meeting, limit)?;
+    let outcomes = outcomes_of(alloc, meeting, &mut search);
+    search.discard();
+    Ok(outcomes?)
 }

@@ -5,7 +5,7 @@ ghost use Rattle.dbtg_outcomes.specs.Results.{in_unit_order};
 ghost use Rattle.dbtg_outcomes.specs.Spelling.{stored_numbers, currency_numbers, image_numbers, kept_numbers, key_numbers, mode_numbers, owner_numbers, place_numbers, unit_numbers, value_numbers};
 ghost use Rattle.dbtg_outcomes.specs.Inside.Spelling.{currency_apart, kept_apart, key_apart, mode_apart, owner_apart, place_apart, unit_apart, value_apart};
 
-use crate::spelled::{Spelled, spell_each};
+use crate::spelled::{Spelled, spell_list};
 use crate::told::usage_by_unit;
 use dbtg_cells::{DbKey, Mode, Owner, Value};
 use dbtg_unit::{Currency, Image, Kept, Place, Unit};
@@ -96,8 +96,7 @@ impl Spelled for Kept {
     ghost numbers = { kept_numbers };
 
     fn spell(&self, out: &mut Vec<u64>) -> Result<(), AllocError> {
-        out.push(self.as_slice().len() as u64)?;
-        spell_each(self.as_slice(), out)
+        spell_list(self.as_slice(), out)
     }
 
     ghost apart = { kept_apart };

@@ -1,23 +1,23 @@
 //! A search among all orders of the statements of scripts, layer by layer: a layer has the states after a number of statements, each
 //! with the first order that leads there and the number of all orders that do.
-ghost use Rattle.std.specs.Prelude.{◌≡◌, ◌≤◌, ◌<◌, ◌∷◌, [], Some, length, option_map, All, IfErr, IfOk, MatchResult, OnOk};
-ghost use Rattle.dbtg_unit.specs.Database.Laws.Replaying.{statements_of};
+ghost use Rattle.std.specs.Prelude.{◌≡◌, ◌≤◌, ◌<◌, ◌∷◌, [], true, is_some, length, All, IfErr, IfOk, MatchResult, OnOk};
 ghost use Rattle.dbtg_outcomes.specs.declared.search.Stop.TheVariants.{Memory, States};
 ghost use Rattle.dbtg_outcomes.specs.Inside.Grouped.{IsAdded};
-ghost use Rattle.dbtg_outcomes.specs.Orders.{count_statements, next_of, others};
+ghost use Rattle.dbtg_outcomes.specs.Orders.{count_statements, others};
 ghost use Rattle.dbtg_outcomes.specs.Outcomes.{IsMeeting, count_states, states_within};
-ghost use Rattle.dbtg_outcomes.specs.Inside.Outcomes.{IsRunOf};
 ghost use Rattle.dbtg_outcomes.specs.Results.{state_key, units_of};
 ghost use Rattle.dbtg_outcomes.specs.Inside.Search.{IsAt};
-ghost use Rattle.dbtg_outcomes.specs.Inside.Steps.{Advances, Extends, ExtendsAll, HasHistory, IsOver, IsUnderWay, LeadToMore};
+ghost use Rattle.dbtg_outcomes.specs.Inside.Steps.{Advances, Extends, ExtendsAll, HaveStatements, IsAtState, IsOver, IsUnderWay, LeadToMore};
+ghost use Rattle.dbtg_outcomes.specs.Inside.Walks.{Stands, next_turn, order_of, statement_at};
 
 use crate::groups::{Group, Groups};
-use crate::meeting::{Meeting, made_by};
+use crate::meeting::Meeting;
 use crate::notes::{Note, enter_note};
+use crate::turns::{Turn, next_turn};
+use crate::walk::Walk;
 use crate::watch::Watch;
 use dbtg_schema::Row;
-use dbtg_step::Run;
-use dbtg_unit::{Entry, Statement};
+use dbtg_unit::Statement;
 use std::alloc::{AllocError, AllocFailed, Global};
 
 /// Why there are no outcomes: memory was refused, or there are more states than allowed.
@@ -44,79 +44,68 @@ impl<T: Drop> From<AllocFailed<T>> for Stop {
 }
 
 impl<'a> Meeting<'a> {
-    // The unit's next statement after a history, if it has one left.
-    pub(crate) fn next_statement(&self, history: &[Entry], unit: u8) -> Option<&Statement>
-        requires numbered { 0 < unit }
-        requires within { unit ≤ length self.now.scripts }
-        ensures { option_map (λ x. x.now) result ≡ next_of self.now.scripts (statements_of history.now) unit }
-    {
-        let place = made_by(history, unit);
-        self.scripts[unit as usize - 1].get(place)
-    }
-
-    // Adds a run's history, which stands for this many orders, to the group of its state.
+    // Adds the state where the walk stands, to which this many orders lead.
     fn add_state(
         &self,
         alloc: Global,
-        run: Run,
+        walk: &Walk,
         orders: Option<u64>,
         next: &mut Groups,
     ) -> Result<(), AllocError>
         requires meeting { IsMeeting self.now }
-        requires run { IsRunOf self.now (statements_of run.history) run }
-        ensures { OnOk result (IsAdded next.old (state_key self.now (statements_of run.history)) (record { history = run.history; orders = orders }) next.new) }
+        requires stands { Stands self.now walk.now }
+        ensures { OnOk result (IsAdded next.old (state_key self.now (order_of self.now walk.now.turns.items)) (record { turns = walk.now.turns.items; orders = orders }) next.new) }
     {
-        let key = self.state_key(alloc, &run);
-        let history = run.into_history();
-        next.add(key?, Group { history, orders })
+        let key = self.state_key(alloc, walk.database.database())?;
+        let turns = Row::of(Vec::from_slice(alloc, walk.turns.as_slice())?);
+        next.add(key, Group { turns, orders })
     }
 
-    // Extends the order of a group by this statement, the unit's next.
+    // Extends the order of a group by this turn.
     fn extend_with(
         &self,
         alloc: Global,
+        walk: &mut Walk<'a>,
         group: &Group,
-        unit: u8,
-        statement: &Statement,
+        turn: Turn,
         next: &mut Groups,
-        notes: &mut Vec<Note>,
     ) -> Result<(), AllocError>
         requires meeting { IsMeeting self.now }
-        requires history { HasHistory self.now group.now }
-        requires numbered { 0 < unit }
-        requires within { unit ≤ length self.now.scripts }
-        requires next { next_of self.now.scripts (statements_of group.now.history) unit ≡ Some statement.now }
-        ensures { OnOk result (Extends self.now group.now (unit ∷ []) next.old next.new notes.old.items notes.new.items) }
+        requires stands { Stands self.now walk.old }
+        requires group { HaveStatements self.now group.now }
+        requires turn { turn ≡ next_turn turn.unit group.now.turns }
+        requires there { is_some (statement_at self.now.scripts turn) ≡ true }
+        ensures stands { OnOk result (Stands self.now walk.new) }
+        ensures extends { OnOk result (Extends self.now group.now (turn.unit ∷ []) next.old next.new walk.old.notes.items walk.new.notes.items) }
     {
-        let history = group.history.as_slice();
-        let (run, status) = self.extended(alloc, history, unit, statement)?;
-        self.add_state(alloc, run, group.orders, next)?;
+        let status = self.turned(alloc, walk, group.turns.as_slice(), turn)?;
+        self.add_state(alloc, walk, group.orders, next)?;
         let note = Note {
-            unit,
-            place: made_by(history, unit),
+            unit: turn.unit,
+            place: turn.place,
             status,
         };
-        enter_note(notes, note)?;
-        Ok(())
+        enter_note(&mut walk.notes, note)
     }
 
     // Extends the order of a group by the next statement of this unit, if it has one.
     fn extend_by(
         &self,
         alloc: Global,
+        walk: &mut Walk<'a>,
         group: &Group,
         unit: u8,
         next: &mut Groups,
-        notes: &mut Vec<Note>,
     ) -> Result<(), AllocError>
         requires meeting { IsMeeting self.now }
-        requires history { HasHistory self.now group.now }
-        requires numbered { 0 < unit }
-        requires within { unit ≤ length self.now.scripts }
-        ensures { OnOk result (Extends self.now group.now (unit ∷ []) next.old next.new notes.old.items notes.new.items) }
+        requires stands { Stands self.now walk.old }
+        requires group { HaveStatements self.now group.now }
+        ensures stands { OnOk result (Stands self.now walk.new) }
+        ensures extends { OnOk result (Extends self.now group.now (unit ∷ []) next.old next.new walk.old.notes.items walk.new.notes.items) }
     {
-        match self.next_statement(group.history.as_slice(), unit) {
-            Some(statement) => self.extend_with(alloc, group, unit, statement, next, notes),
+        let turn = next_turn(group.turns.as_slice(), unit);
+        match self.statement_at(turn) {
+            Some(_statement) => self.extend_with(alloc, walk, group, turn, next),
             None => Ok(()),
         }
     }
@@ -125,16 +114,18 @@ impl<'a> Meeting<'a> {
     fn extend(
         &self,
         alloc: Global,
+        walk: &mut Walk<'a>,
         group: &Group,
         next: &mut Groups,
-        notes: &mut Vec<Note>,
     ) -> Result<(), AllocError>
         requires meeting { IsMeeting self.now }
-        requires history { HasHistory self.now group.now }
-        ensures { OnOk result (Extends self.now group.now (units_of self.now) next.old next.new notes.old.items notes.new.items) }
+        requires stands { Stands self.now walk.old }
+        requires group { HaveStatements self.now group.now }
+        ensures stands { OnOk result (Stands self.now walk.new) }
+        ensures extends { OnOk result (Extends self.now group.now (units_of self.now) next.old next.new walk.old.notes.items walk.new.notes.items) }
     {
         for before in 0..self.units() {
-            self.extend_by(alloc, group, before + 1, next, notes)?;
+            self.extend_by(alloc, walk, group, before + 1, next)?;
         }
         Ok(())
     }
@@ -144,20 +135,22 @@ impl<'a> Meeting<'a> {
         &self,
         alloc: Global,
         watch: &W,
+        walk: &mut Walk<'a>,
         layer: &[Group],
         before: usize,
         most: usize,
-        notes: &mut Vec<Note>,
     ) -> Result<Groups, Stop>
         requires meeting { IsMeeting self.now }
-        requires histories { All (HasHistory self.now) layer.now }
-        ensures all { IfOk result (λ next. ExtendsAll self.now layer.now next notes.old.items notes.new.items) }
+        requires stands { Stands self.now walk.old }
+        requires groups { All (HaveStatements self.now) layer.now }
+        ensures stands { OnOk result (Stands self.now walk.new) }
+        ensures all { IfOk result (λ next. ExtendsAll self.now layer.now next walk.old.notes.items walk.new.notes.items) }
         ensures few { IfOk result (λ next. length next ≤ most) }
         ensures stopped { IfErr result (λ stop. stop ≡ States → LeadToMore self.now layer.now most) }
     {
         let mut next = Groups::none(alloc);
         for group in layer {
-            self.extend(alloc, group, &mut next, notes)?;
+            self.extend(alloc, walk, group, &mut next)?;
             if most < next.len() {
                 return Err(Stop::States);
             }
@@ -167,19 +160,44 @@ impl<'a> Meeting<'a> {
     }
 }
 
-/// A search: the states after some number of statements, how many states there were so far, how many there may be, and the statuses of
-/// all statements on the way.
+/// A search: the states after some number of statements, how many states there were so far, how many there may be, and the walk by
+/// which it comes to them, with the statuses of all statements on the way.
 #[derive(Drop)]
-pub struct Search {
+pub struct Search<'a> {
     pub layer: Vec<Group>,
     pub states: usize,
     pub limit: usize,
-    pub notes: Vec<Note>,
+    pub walk: Walk<'a>,
 }
 
-impl Search {
+impl<'a> Search<'a> {
+    // One state, to which one order leads, that of these turns.
+    fn at_state(
+        alloc: Global,
+        meeting: &Meeting<'a>,
+        turns: Row<Turn>,
+        notes: Vec<Note>,
+        limit: usize,
+    ) -> Result<Search<'a>, AllocError>
+        requires { IsMeeting meeting.now }
+        ensures { IfOk result (IsAtState meeting.now turns notes.items limit) }
+    {
+        let mut layer = Vec::new(alloc);
+        layer.push(Group {
+            turns,
+            orders: Some(1),
+        })?;
+        let walk = meeting.walk(alloc, notes)?;
+        Ok(Search {
+            layer,
+            states: 1,
+            limit,
+            walk,
+        })
+    }
+
     /// After the script that is made first there is one state.
-    pub fn begin(alloc: Global, meeting: &Meeting, limit: usize) -> Result<Search, Stop>
+    pub fn begin(alloc: Global, meeting: &Meeting<'a>, limit: usize) -> Result<Search<'a>, Stop>
         requires meeting { IsMeeting meeting.now }
         ensures at { IfOk result (IsAt meeting.now 0) }
         ensures limit { IfOk result (λ search. search.limit ≡ limit) }
@@ -190,18 +208,9 @@ impl Search {
             return Err(Stop::States);
         }
         let mut notes = Vec::new(alloc);
-        let history = meeting.first_run(alloc, &mut notes)?.into_history();
-        let mut layer = Vec::new(alloc);
-        layer.push(Group {
-            history,
-            orders: Some(1),
-        })?;
-        Ok(Search {
-            layer,
-            states: 1,
-            limit,
-            notes,
-        })
+        meeting.note_first(alloc, &mut notes)?;
+        let turns = Row::of(meeting.first_turns(alloc)?);
+        Ok(Search::at_state(alloc, meeting, turns, notes, limit)?)
     }
 
     /// If there is one script beside the one that is made first, there is one order. No state has to be told from others then, so the
@@ -209,10 +218,10 @@ impl Search {
     pub fn alone<W: Watch>(
         alloc: Global,
         watch: &W,
-        meeting: &Meeting,
+        meeting: &Meeting<'a>,
         script: &[Statement],
         limit: usize,
-    ) -> Result<Search, Stop>
+    ) -> Result<Search<'a>, Stop>
         requires meeting { IsMeeting meeting.now }
         requires alone { others meeting.now.first meeting.now.scripts ≡ script.now ∷ [] }
         ensures at { IfOk result (IsAt meeting.now (count_statements (others meeting.now.first meeting.now.scripts))) }
@@ -223,21 +232,18 @@ impl Search {
         if limit <= script.len() {
             return Err(Stop::States);
         }
-        let states = script.len() + 1;
         let mut notes = Vec::new(alloc);
-        let history = meeting.run_alone(alloc, script, &mut notes)?.into_history();
-        let mut layer = Vec::new(alloc);
-        layer.push(Group {
-            history,
-            orders: Some(1),
-        })?;
-        watch.seen(states);
-        Ok(Search {
-            layer,
-            states,
-            limit,
-            notes,
-        })
+        meeting.note_alone(alloc, script, &mut notes)?;
+        let turns = Row::of(meeting.turns_alone(alloc, script)?);
+        let mut search = Search::at_state(alloc, meeting, turns, notes, limit)?;
+        search.states = script.len() + 1;
+        watch.seen(search.states);
+        Ok(search)
+    }
+
+    /// Drops the search. Functions that own one call this, so that it is proved once that its parts can be dropped.
+    pub fn discard(self) {
+        drop(self)
     }
 
     // Goes on by one statement.
@@ -245,7 +251,7 @@ impl Search {
         &mut self,
         alloc: Global,
         watch: &W,
-        meeting: &Meeting,
+        meeting: &Meeting<'a>,
     ) -> Result<(), Stop>
         requires meeting { IsMeeting meeting.now }
         requires at { IsUnderWay meeting.now self.old }
@@ -254,7 +260,7 @@ impl Search {
     {
         let most = self.limit - self.states;
         let layer = self.layer.as_slice();
-        let next = meeting.extend_all(alloc, watch, layer, self.states, most, &mut self.notes)?;
+        let next = meeting.extend_all(alloc, watch, &mut self.walk, layer, self.states, most)?;
         self.states += next.len();
         self.layer = next.into_groups(alloc)?;
         Ok(())
@@ -265,7 +271,7 @@ impl Search {
         &mut self,
         alloc: Global,
         watch: &W,
-        meeting: &Meeting,
+        meeting: &Meeting<'a>,
         count: usize,
     ) -> Result<(), Stop>
         requires meeting { IsMeeting meeting.now }
@@ -284,7 +290,7 @@ impl Search {
         &mut self,
         alloc: Global,
         watch: &W,
-        meeting: &Meeting,
+        meeting: &Meeting<'a>,
         scripts: &[Row<Statement>],
     ) -> Result<(), Stop>
         requires meeting { IsMeeting meeting.now }

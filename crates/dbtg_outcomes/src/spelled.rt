@@ -94,13 +94,19 @@ pub fn spell_each<T: Spelled>(items: &[T], out: &mut Vec<u64>) -> Result<(), All
     Ok(())
 }
 
-// The number of items comes before them.
+/// How many things there are, and then each.
+pub fn spell_list<T: Spelled>(things: &[T], out: &mut Vec<u64>) -> Result<(), AllocError>
+    ensures { OnOk result (out.new.items ≡ out.old.items ++ list_numbers T.numbers things.now) }
+{
+    out.push(things.len() as u64)?;
+    spell_each(things, out)
+}
+
 impl<T: Spelled> Spelled for Row<T> {
     ghost numbers = { list_numbers T.numbers };
 
     fn spell(&self, out: &mut Vec<u64>) -> Result<(), AllocError> {
-        out.push(self.len() as u64)?;
-        spell_each(self.as_slice(), out)
+        spell_list(self.as_slice(), out)
     }
 
     ghost apart = { list_apart T.numbers T.apart };

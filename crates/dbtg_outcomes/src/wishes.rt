@@ -1,21 +1,21 @@
 //! A wish for the status of a statement over all orders, and turns that break it.
-ghost use Rattle.std.specs.Prelude.{◌≡◌, ◌≤◌, ◌<◌, ◌-◌, ◌++◌, ◌∷◌, [], Some, length, map, true, All, IfErr, IfOk, OnOk};
-ghost use Rattle.dbtg_unit.specs.Database.Laws.Replay.{IsHistoryOf};
-ghost use Rattle.dbtg_unit.specs.Database.Laws.Replaying.{statements_of};
+ghost use Rattle.std.specs.Prelude.{◌≡◌, ◌≤◌, ◌<◌, ◌++◌, ◌∷◌, [], length, map, true, All, IfErr, IfOk, OnOk};
 ghost use Rattle.dbtg_outcomes.specs.declared.search.Stop.TheVariants.{States};
-ghost use Rattle.dbtg_outcomes.specs.Orders.{count_statements, made, next_of, others};
+ghost use Rattle.dbtg_outcomes.specs.Orders.{count_statements, others};
 ghost use Rattle.dbtg_outcomes.specs.Outcomes.{IsMeeting, count_states};
 ghost use Rattle.dbtg_outcomes.specs.Wishes.{IsJudged, breaks, is_there};
-ghost use Rattle.dbtg_outcomes.specs.Inside.Steps.{HasHistory};
+ghost use Rattle.dbtg_outcomes.specs.Inside.Steps.{HaveStatements};
+ghost use Rattle.dbtg_outcomes.specs.Inside.Walks.{Stands, have_statements, order_of};
 ghost use Rattle.dbtg_outcomes.specs.Inside.Wishes.{Hunts, HuntsOn, IsBroken, IsBrokenIn, IsHuntOver, IsHunting};
 
 use crate::groups::Group;
-use crate::meeting::{Meeting, made_by};
-use crate::outcomes::turns_of;
+use crate::meeting::Meeting;
 use crate::search::{Search, Stop};
+use crate::turns::{Turn, next_turn, units_of};
+use crate::walk::Walk;
 use crate::watch::Watch;
 use dbtg_schema::Row;
-use dbtg_unit::{Entry, Statement};
+use dbtg_unit::Statement;
 use std::alloc::{AllocError, Global};
 
 /// A wish for a statement, named by its unit and its place in the unit's script, both from 1: that it never has this status, or
@@ -41,97 +41,82 @@ impl Wish {
 }
 
 impl<'a> Meeting<'a> {
-    // Does the unit's next statement break the wish, if it is the statement of the wish?
-    fn breaks_with(
-        &self,
-        alloc: Global,
-        history: &[Entry],
-        wish: Wish,
-        statement: &Statement,
-    ) -> Result<bool, AllocError>
-        requires meeting { IsMeeting self.now }
-        requires history { IsHistoryOf self.now.schema self.now.capacity (length self.now.scripts) history.now }
-        requires numbered { 0 < wish.unit }
-        requires within { wish.unit ≤ length self.now.scripts }
-        requires placed { made wish.unit (statements_of history.now) ≡ wish.place - 1 }
-        requires next { next_of self.now.scripts (statements_of history.now) wish.unit ≡ Some statement.now }
-        ensures { IfOk result (IsBroken self.now wish (statements_of history.now)) }
-    {
-        let (run, status) = self.extended(alloc, history, wish.unit, statement)?;
-        run.discard();
-        Ok(wish.breaks(status))
-    }
-
-    // Does the statement that its unit makes next, after a history, break the wish?
+    // Does the statement that its unit makes next, after these turns, break the wish?
     fn is_broken_behind(
         &self,
         alloc: Global,
-        history: &[Entry],
+        walk: &mut Walk<'a>,
+        turns: &[Turn],
         wish: Wish,
     ) -> Result<bool, AllocError>
         requires meeting { IsMeeting self.now }
-        requires history { IsHistoryOf self.now.schema self.now.capacity (length self.now.scripts) history.now }
-        requires numbered { 0 < wish.unit }
-        requires within { wish.unit ≤ length self.now.scripts }
+        requires stands { Stands self.now walk.old }
+        requires turns { have_statements self.now turns.now ≡ true }
         requires placed { 0 < wish.place }
-        ensures { IfOk result (IsBroken self.now wish (statements_of history.now)) }
+        ensures stands { OnOk result (Stands self.now walk.new) }
+        ensures notes { OnOk result (walk.new.notes.items ≡ walk.old.notes.items) }
+        ensures broken { IfOk result (IsBroken self.now wish (order_of self.now turns.now)) }
     {
-        if made_by(history, wish.unit) != wish.place - 1 {
+        let turn = next_turn(turns, wish.unit);
+        if turn.place != wish.place - 1 {
             return Ok(false);
         }
-        match self.next_statement(history, wish.unit) {
-            Some(statement) => self.breaks_with(alloc, history, wish, statement),
-            None => Ok(false),
+        if self.statement_at(turn).is_none() {
+            return Ok(false);
         }
+        let status = self.turned(alloc, walk, turns, turn)?;
+        Ok(wish.breaks(status))
     }
 
     // The turns up to the statement that breaks the wish, after the first of these groups in which one does.
     fn broken_in(
         &self,
         alloc: Global,
+        walk: &mut Walk<'a>,
         layer: &[Group],
         wish: Wish,
     ) -> Result<Option<Row<u8>>, AllocError>
         requires meeting { IsMeeting self.now }
-        requires histories { All (HasHistory self.now) layer.now }
-        requires numbered { 0 < wish.unit }
-        requires within { wish.unit ≤ length self.now.scripts }
+        requires stands { Stands self.now walk.old }
+        requires groups { All (HaveStatements self.now) layer.now }
         requires placed { 0 < wish.place }
-        ensures { IfOk result (IsBrokenIn self.now wish layer.now) }
+        ensures stands { OnOk result (Stands self.now walk.new) }
+        ensures notes { OnOk result (walk.new.notes.items ≡ walk.old.notes.items) }
+        ensures broken { IfOk result (IsBrokenIn self.now wish layer.now) }
     {
         for group in layer {
-            let history = group.history.as_slice();
-            if self.is_broken_behind(alloc, history, wish)? {
-                return Ok(Some(turns_up_to(alloc, history, wish.unit)?));
+            let turns = group.turns.as_slice();
+            if self.is_broken_behind(alloc, walk, turns, wish)? {
+                return Ok(Some(turns_up_to(alloc, turns, wish.unit)?));
             }
         }
         Ok(None)
     }
 }
 
-// The units of the entries, in turn, and then this unit.
-fn turns_up_to(alloc: Global, history: &[Entry], unit: u8) -> Result<Row<u8>, AllocError>
-    ensures { IfOk result (λ turns. turns ≡ map (λ e. e.unit) history.now ++ unit ∷ []) }
+// The units of the turns, and then this unit.
+fn turns_up_to(alloc: Global, turns: &[Turn], unit: u8) -> Result<Row<u8>, AllocError>
+    ensures { IfOk result (λ units. units ≡ map (λ t. t.unit) turns.now ++ unit ∷ []) }
 {
-    let mut turns = turns_of(alloc, history)?;
-    turns.push(unit)?;
-    Ok(turns)
+    let mut units = units_of(alloc, turns)?;
+    units.push(unit)?;
+    Ok(units)
 }
 
 /// A search for turns that break a wish, and the first that it found.
 #[derive(Drop)]
-pub struct Hunt {
-    pub search: Search,
+pub struct Hunt<'a> {
+    pub search: Search<'a>,
     pub broken: Option<Row<u8>>,
 }
 
-impl Hunt {
+impl<'a> Hunt<'a> {
     // Goes on by one statement, if nothing is found yet.
     fn step<W: Watch>(
         &mut self,
         alloc: Global,
         watch: &W,
-        meeting: &Meeting,
+        meeting: &Meeting<'a>,
         wish: Wish,
     ) -> Result<(), Stop>
         requires meeting { IsMeeting meeting.now }
@@ -145,7 +130,9 @@ impl Hunt {
         if self.broken.is_some() {
             return Ok(());
         }
-        match meeting.broken_in(alloc, self.search.layer.as_slice(), wish)? {
+        let search = &mut self.search;
+        let layer = search.layer.as_slice();
+        match meeting.broken_in(alloc, &mut search.walk, layer, wish)? {
             Some(turns) => {
                 self.broken = Some(turns);
                 Ok(())
@@ -159,7 +146,7 @@ impl Hunt {
         &mut self,
         alloc: Global,
         watch: &W,
-        meeting: &Meeting,
+        meeting: &Meeting<'a>,
         wish: Wish,
         count: usize,
     ) -> Result<(), Stop>
@@ -182,7 +169,7 @@ impl Hunt {
         &mut self,
         alloc: Global,
         watch: &W,
-        meeting: &Meeting,
+        meeting: &Meeting<'a>,
         wish: Wish,
         scripts: &[Row<Statement>],
     ) -> Result<(), Stop>
@@ -200,7 +187,12 @@ impl Hunt {
         Ok(())
     }
 
-    fn begin(alloc: Global, meeting: &Meeting, wish: Wish, limit: usize) -> Result<Hunt, Stop>
+    fn begin(
+        alloc: Global,
+        meeting: &Meeting<'a>,
+        wish: Wish,
+        limit: usize,
+    ) -> Result<Hunt<'a>, Stop>
         requires meeting { IsMeeting meeting.now }
         ensures hunts { IfOk result (λ hunt. Hunts meeting.now wish 0 hunt) }
         ensures limit { IfOk result (λ hunt. hunt.search.limit ≡ limit) }
@@ -215,9 +207,10 @@ impl Hunt {
 
     // What it found.
     fn into_broken(self) -> Option<Row<u8>>
-        ensures { result ≡ self.broken }
+        ensures { result ≡ self.entry.broken }
     {
-        let Hunt { broken, .. } = self;
+        let Hunt { search, broken } = self;
+        search.discard();
         broken
     }
 }
@@ -253,6 +246,8 @@ pub fn broken_turns<W: Watch>(
 {
     let left = meeting.others();
     let mut hunt = Hunt::begin(alloc, meeting, wish, limit)?;
-    hunt.pass(alloc, watch, meeting, wish, left)?;
-    Ok(hunt.into_broken())
+    let passed = hunt.pass(alloc, watch, meeting, wish, left);
+    let broken = hunt.into_broken();
+    passed?;
+    Ok(broken)
 }

@@ -1,28 +1,28 @@
 -- Groups that continue with the next statements of units.
 -- m is a meeting, g a group, u a unit, x a statement, w an order with a weight.
-use Rattle.std.proofs.Common.{◌≡◌, refl, sym, ◌∙◌, ap, subst, ℕ, ◌+◌, ◌<◌, ◌≤◌, List, [], ◌∷◌, ◌++◌, length, get_or, take, drop, Some, None, arith, append_assoc, append-nil}
+use Rattle.std.proofs.Common.{◌≡◌, refl, sym, ◌∙◌, ap, subst, ℕ, ◌+◌, ◌<◌, ◌≤◌, List, [], ◌∷◌, ◌++◌, length, get_or, take, drop, true, Option, Some, None, arith, append_assoc, append-nil}
+use Rattle.std.specs.Prelude.{◌&&◌, is_some, option_map, option_to_list}
 use Rattle.std.specs.List.{range_with_len}
+use Rattle.std.proofs.lemmas.Bool.{false≢true}
 use Rattle.std.proofs.lemmas.List.{take-append-drop, take_more, map-append}
 use Rattle.std.proofs.lemmas.List.Concat.{flat_map-append}
 use Rattle.dbtg_unit.specs.declared.statement.Statement.{Statement}
-use Rattle.dbtg_unit.specs.declared.unit.Entry.{Entry}
-use Rattle.dbtg_unit.specs.Database.Laws.Replay.{entries_of}
-use Rattle.dbtg_unit.specs.Database.Laws.Replaying.{statements_of}
-use Rattle.dbtg_step.specs.declared.results.Run.{Run}
 use Rattle.dbtg_outcomes.specs.declared.groups.Group.{Group}
 use Rattle.dbtg_outcomes.specs.declared.notes.Note.{Note}
+use Rattle.dbtg_outcomes.specs.declared.turns.Turn.{Turn}
 use Rattle.dbtg_outcomes.specs.Inside.Gathered.{each_of, gathered}
 use Rattle.dbtg_outcomes.specs.Inside.Grouped.{IsAdded}
-use Rattle.dbtg_outcomes.specs.Orders.{extended, extended_by, next_of}
+use Rattle.dbtg_outcomes.specs.Orders.{extended, extended_by, made, next_of}
 use Rattle.dbtg_outcomes.specs.Outcomes.{HasStatus}
-use Rattle.dbtg_outcomes.specs.Inside.Outcomes.{IsRunOf}
 use Rattle.dbtg_outcomes.specs.Results.{Meeting, state_key, units_of}
 use Rattle.dbtg_outcomes.specs.Inside.Search.{AreHeld, AreNoted, Hold, IsHeld}
 use Rattle.dbtg_outcomes.specs.Inside.Statuses.{HasNoted}
+use Rattle.dbtg_outcomes.specs.Inside.Walks.{HasStatusIn, LeadTo, have_statements, next_turn, order_of, statement_at}
 use Rattle.dbtg_outcomes.specs.Inside.Steps.{Extends, ExtendsAll, LeadToMore, next_orders, nexts, with_each}
 use Rattle.dbtg_outcomes.proofs.Lists.Gathered.{each_append, gathered_append, gathered_longer}
 use Rattle.dbtg_outcomes.proofs.States.Layers.{stand_length}
 use Rattle.dbtg_outcomes.proofs.Orders.Nexts.{hold_ended, hold_extended, noted_extended}
+use Rattle.dbtg_outcomes.proofs.Orders.Turns.{made_in_turns, next_there, order_append, there_both}
 use Rattle.dbtg_outcomes.proofs.States.Noted.{noted_append, noted_none, noted_nothing}
 use Rattle.dbtg_outcomes.proofs.Lists.Ranges.{next_range}
 
@@ -36,26 +36,48 @@ module _ (m : Meeting) where
   }
 
   -- a group continues with the next statement of one unit
-  pub extends_one : (g : Group) (fs : List Entry) (u : ℕ) (x : Statement) (run : Run) (place status : ℕ) (old new : List (List ℕ × Group)) (before after : List Note) → fs ≡ g.history → next_of m.scripts (statements_of g.history) u ≡ Some x → IsRunOf m (statements_of fs ++ (u, x) ∷ []) run → HasStatus m (statements_of fs) u x status → place ≡ length (entries_of u fs) → IsAdded old (state_key m (statements_of run.history)) (record { history = run.history; orders = g.orders }) new → HasNoted before (record { unit = u; place = place; status = status }) after → Extends m g (u ∷ []) old new before after
-  extends_one g fs u x run place status old new before after same e of has p added noted =
-      let own : IsRunOf m (statements_of g.history ++ (u, x) ∷ []) run = subst (λ (es : List Entry). IsRunOf m (statements_of es ++ (u, x) ∷ []) run) same of in
-      record {
-        holds = λ seen w held hold.
-            subst (λ (os : List (List (ℕ × Statement))). Hold m (state_key m) new (seen ++ each_of w.1 os)) (sym (append-nil (extended_by m.scripts w.0 u)))
-            (hold_extended m g u x run (state_key m (statements_of run.history)) old new e own refl added seen w held hold);
-        noted = noted_extended m g.history fs u x place status before after same e has p noted;
-      }
+  pub extends_one : (g : Group) (u : ℕ) (x : Statement) (ts : List Turn) (place status : ℕ) (old new : List (List ℕ × Group)) (before after : List Note) → next_of m.scripts (order_of m g.turns) u ≡ Some x → LeadTo m ts (order_of m g.turns ++ (u, x) ∷ []) → HasStatus m (order_of m g.turns) u x status → place ≡ made u (order_of m g.turns) → IsAdded old (state_key m (order_of m ts)) (record { turns = ts; orders = g.orders }) new → HasNoted before (record { unit = u; place = place; status = status }) after → Extends m g (u ∷ []) old new before after
+  extends_one g u x ts place status old new before after e leads has p added noted = record {
+    holds = λ seen w held hold.
+        subst (λ (os : List (List (ℕ × Statement))). Hold m (state_key m) new (seen ++ each_of w.1 os)) (sym (append-nil (extended_by m.scripts w.0 u)))
+        (hold_extended m g u x ts (state_key m (order_of m ts)) old new e leads refl added seen w held hold);
+    noted = noted_extended m (order_of m g.turns) u x place status before after e has p noted;
+  }
+
+  -- the same, turn by turn
+  pub extends_turn : (g : Group) (t : Turn) (ts : List Turn) (status : ℕ) (old new : List (List ℕ × Group)) (before after : List Note) → have_statements m g.turns ≡ true → t ≡ next_turn t.unit g.turns → is_some (statement_at m.scripts t) ≡ true → ts ≡ g.turns ++ t ∷ [] → HasStatusIn m (order_of m g.turns) t status → IsAdded old (state_key m (order_of m ts)) (record { turns = ts; orders = g.orders }) new → HasNoted before (record { unit = t.unit; place = t.place; status = status }) after → Extends m g (t.unit ∷ []) old new before after
+  extends_turn g t ts status old new before after have next there turns has added noted =
+      by (next_of m.scripts (order_of m g.turns) t.unit) refl
+    where
+      at : statement_at m.scripts t ≡ option_map (λ x. (t.unit, x)) (next_of m.scripts (order_of m g.turns) t.unit)
+      at = ap (statement_at m.scripts) next ∙ next_there m t.unit g.turns have
+
+      by : (x : Option Statement) → next_of m.scripts (order_of m g.turns) t.unit ≡ x → Extends m g (t.unit ∷ []) old new before after
+      by None e = absurd (false≢true (sym (ap is_some (at ∙ ap (option_map {T = Statement} {U = ℕ × Statement} (λ x. (t.unit, x))) e)) ∙ there))
+      by (Some x) e =
+          let is : statement_at m.scripts t ≡ Some (t.unit, x) = at ∙ ap (option_map {T = Statement} {U = ℕ × Statement} (λ x. (t.unit, x))) e in
+          let one : order_of m (t ∷ []) ≡ (t.unit, x) ∷ [] = ap (λ (o : Option (ℕ × Statement)). option_to_list o ++ []) is in
+          let leads : LeadTo m ts (order_of m g.turns ++ (t.unit, x) ∷ []) = record {
+            order_is = ap (order_of m) turns ∙ order_append m g.turns (t ∷ []) ∙ ap (λ (o : List (ℕ × Statement)). order_of m g.turns ++ o) one;
+            there = ap (have_statements m) turns ∙ there_both m g.turns (t ∷ []) have (ap (λ (o : Option (ℕ × Statement)). is_some o && true) is);
+          } in
+          extends_one g t.unit x ts t.place status old new before after e leads (has x is) (ap (λ (u : Turn). u.place) next ∙ sym (made_in_turns m t.unit g.turns have)) added noted
 
   -- a unit at the end of its script adds nothing
-  pub extends_ended : (g : Group) (fs : List Entry) (u : ℕ) (gs : List (List ℕ × Group)) (notes : List Note) → fs ≡ g.history → next_of m.scripts (statements_of fs) u ≡ None → Extends m g (u ∷ []) gs gs notes notes
-  extends_ended g fs u gs notes same e =
-      let none : next_of m.scripts (statements_of g.history) u ≡ None = ap (λ (es : List Entry). next_of m.scripts (statements_of es) u) (sym same) ∙ e in
-      record {
-        holds = λ seen w held hold.
-            subst (λ (os : List (List (ℕ × Statement))). Hold m (state_key m) gs (seen ++ each_of w.1 os)) (sym (append-nil (extended_by m.scripts w.0 u)))
-            (hold_ended m u g gs none seen w held hold);
-        noted = noted_none m (statements_of g.history) u notes none;
-      }
+  pub extends_ended : (g : Group) (u : ℕ) (gs : List (List ℕ × Group)) (notes : List Note) → next_of m.scripts (order_of m g.turns) u ≡ None → Extends m g (u ∷ []) gs gs notes notes
+  extends_ended g u gs notes none = record {
+    holds = λ seen w held hold.
+        subst (λ (os : List (List (ℕ × Statement))). Hold m (state_key m) gs (seen ++ each_of w.1 os)) (sym (append-nil (extended_by m.scripts w.0 u)))
+        (hold_ended m u g gs none seen w held hold);
+    noted = noted_none m (order_of m g.turns) u notes none;
+  }
+
+  pub extends_no_turn : (g : Group) (t : Turn) (u : ℕ) (gs : List (List ℕ × Group)) (notes : List Note) → have_statements m g.turns ≡ true → t ≡ next_turn u g.turns → statement_at m.scripts t ≡ None → Extends m g (u ∷ []) gs gs notes notes
+  extends_no_turn g t u gs notes have next none = extends_ended g u gs notes (by (next_of m.scripts (order_of m g.turns) u) (sym (next_there m u g.turns have) ∙ ap (statement_at m.scripts) (sym next) ∙ none))
+    where
+      by : (x : Option Statement) → option_map {T = Statement} {U = ℕ × Statement} (λ x. (u, x)) x ≡ None → x ≡ None
+      by None e = refl
+      by (Some x) e = absurd (cc (e))
 
   pub extends_more : (g : Group) (us vs : List ℕ) (a b c : List (List ℕ × Group)) (k l n : List Note) → Extends m g us a b k l → Extends m g vs b c l n → Extends m g (us ++ vs) a c k n
   extends_more g us vs a b c k l n h r = record {
@@ -67,8 +89,8 @@ module _ (m : Meeting) where
         subst (λ (ws : List (List (ℕ × Statement) × ℕ)). Hold m (state_key m) c ws) (append_assoc seen first rest ∙ ap (λ (ws : List (List (ℕ × Statement) × ℕ)). seen ++ ws) both)
         (r.holds (seen ++ first) w held (h.holds seen w held hold));
     noted =
-        subst (λ (ps : List (List (ℕ × Statement) × ℕ)). AreNoted m ps k n) (sym (map-append {B = List (ℕ × Statement) × ℕ} (λ u. (statements_of g.history, u)) us vs))
-        (noted_append m (with_each (statements_of g.history) us) (with_each (statements_of g.history) vs) k l n h.noted r.noted);
+        subst (λ (ps : List (List (ℕ × Statement) × ℕ)). AreNoted m ps k n) (sym (map-append {B = List (ℕ × Statement) × ℕ} (λ u. (order_of m g.turns, u)) us vs))
+        (noted_append m (with_each (order_of m g.turns) us) (with_each (order_of m g.turns) vs) k l n h.noted r.noted);
   }
 
   -- the next unit
@@ -130,10 +152,10 @@ module _ (m : Meeting) where
         ∙ ap (next_orders m) at.is in
         subst (λ (l : List (List (ℕ × Statement) × ℕ)). Hold m (state_key m) b l) all (r.holds (next_orders m at.front) at.last at.held (h.holds at.front at.fronts));
     noted =
-        let all : nexts m gs ++ with_each (statements_of g.history) (units_of m) ≡ nexts m (gs ++ g ∷ []) =
-        ap (λ (l : List (List (ℕ × Statement) × ℕ)). nexts m gs ++ l) (sym (append-nil (with_each (statements_of g.history) (units_of m))))
-        ∙ sym (flat_map-append (λ (f : Group). with_each (statements_of f.history) (units_of m)) gs (g ∷ [])) in
-        subst (λ (ps : List (List (ℕ × Statement) × ℕ)). AreNoted m ps k n) all (noted_append m (nexts m gs) (with_each (statements_of g.history) (units_of m)) k l n h.noted r.noted);
+        let all : nexts m gs ++ with_each (order_of m g.turns) (units_of m) ≡ nexts m (gs ++ g ∷ []) =
+        ap (λ (l : List (List (ℕ × Statement) × ℕ)). nexts m gs ++ l) (sym (append-nil (with_each (order_of m g.turns) (units_of m))))
+        ∙ sym (flat_map-append (λ (f : Group). with_each (order_of m f.turns) (units_of m)) gs (g ∷ [])) in
+        subst (λ (ps : List (List (ℕ × Statement) × ℕ)). AreNoted m ps k n) all (noted_append m (nexts m gs) (with_each (order_of m g.turns) (units_of m)) k l n h.noted r.noted);
   }
 
   -- the next group of a layer

@@ -9,22 +9,23 @@ use Rattle.std.proofs.lemmas.List.{length-map, length-take-le, map-append, take-
 use Rattle.std.proofs.lemmas.Slice.Eq.{bytes_eq-Decides}
 use Rattle.dbtg_cells.proofs.Public.{there_is}
 use Rattle.dbtg_unit.specs.declared.statement.Statement.{Statement}
-use Rattle.dbtg_unit.specs.declared.unit.Entry.{Entry}
-use Rattle.dbtg_unit.specs.Database.Laws.Replay.{IsHistoryOf}
-use Rattle.dbtg_unit.specs.Database.Laws.Replaying.{statements_of}
 use Rattle.dbtg_unit.proofs.Public.{In}
 use Rattle.dbtg_step.specs.Machine.SequentialDatabase.{unit_at}
 use Rattle.dbtg_outcomes.specs.declared.groups.Group.{Group}
 use Rattle.dbtg_outcomes.specs.declared.notes.Note.{Note}
 use Rattle.dbtg_outcomes.specs.declared.search.Search as given
+use Rattle.dbtg_outcomes.specs.declared.turns.Turn.{Turn}
 use Rattle.dbtg_outcomes.specs.Counted.{counted}
 use Rattle.dbtg_outcomes.specs.Groups.{groups}
 use Rattle.dbtg_outcomes.specs.Orders.{completed, count_statements, extended, made, made_first, next_of, orders, orders_after, others}
 use Rattle.dbtg_outcomes.specs.Outcomes.{Comes, count_states, states_after, states_within}
 use Rattle.dbtg_outcomes.specs.Results.{Meeting, state_key, units_of}
 use Rattle.dbtg_outcomes.specs.Inside.Search.{AreHeld, AreNotedOf, HasNote, IsAt, IsNoteIn, layer, order_alone}
+use Rattle.dbtg_outcomes.specs.Inside.Steps.{IsAtState}
+use Rattle.dbtg_outcomes.specs.Inside.Walks.{LeadTo, turns_of_script}
 use Rattle.dbtg_outcomes.proofs.Lists.Members.{contains_in, in_contains}
 use Rattle.dbtg_outcomes.proofs.Orders.Begun.{IsNext, begun_more, completed_last}
+use Rattle.dbtg_outcomes.proofs.Orders.Turns.{leads_on, script_turns}
 use Rattle.dbtg_outcomes.proofs.Orders.Mixed.{by_one, own, own_all, own_append, own_none}
 
 -- HOW MANY STATEMENTS A UNIT HAS MADE
@@ -83,6 +84,15 @@ alone_fits p true (s ∷ (t ∷ [])) script e h =
     let same : s ≡ script = cc in
     ap (list_all p) (sym same) ∙ (and_parts (list_all p s) (list_all (list_all p) (t ∷ [])) h).0
 alone_fits p true (s ∷ (t ∷ (r ∷ scripts))) script e h = absurd (too_many s t r scripts script e)
+
+-- the other script is unit 1's
+alone_unit : (first : Bool) (scripts : List (List Statement)) (script : List Statement) → others first scripts ≡ script ∷ [] → unit_at scripts 1 ≡ Some script
+unfolding unit_at
+alone_unit false scripts script e = ap (λ (l : List (List Statement)). slice_get l 0) e
+alone_unit true [] script e = absurd (cc)
+alone_unit true (s ∷ []) script e = absurd (cc)
+alone_unit true (s ∷ (t ∷ [])) script e = let same : s ≡ script = cc in ap Some same
+alone_unit true (s ∷ (t ∷ (r ∷ scripts))) script e = absurd (too_many s t r scripts script e)
 
 -- THE ONE ORDER
 
@@ -155,6 +165,12 @@ module _ (m : Meeting) (script : List Statement) (alone : others m.first m.scrip
       ap (orders_after m.first m.scripts) all_made ∙ orders_alone m.first m.scripts script alone (length script) (omega arith)
       ∙ ap (λ (o : List (ℕ × Statement)). o ∷ []) (whole_is m.first m.scripts script alone)
 
+  -- its turns
+  pub turns_alone_lead : (ts us : List Turn) (count : ℕ) → LeadTo m ts (made_first m.first m.scripts) → us ≡ ts ++ turns_of_script 1 count → count ≡ length script → LeadTo m us (order_alone m script)
+  turns_alone_lead ts us count first is long =
+      subst (λ (vs : List Turn). LeadTo m vs (order_alone m script)) (sym is)
+      (leads_on m ts (turns_of_script 1 count) (made_first m.first m.scripts) (by_one 1 script) first (script_turns m 1 script count (alone_unit m.first m.scripts script alone) long))
+
   -- STATES
 
   states_one : (k : ℕ) → k ≤ length script → states_after m k ≡ 1
@@ -179,10 +195,10 @@ module _ (m : Meeting) (script : List Statement) (alone : others m.first m.scrip
   one_weight : (k : List ℕ) (o : List (ℕ × Statement)) → length {A = List (ℕ × Statement)} (if bytes_eq k k then o ∷ [] else []) ≡ 1
   one_weight k o = rw ((bytes_eq-Decides k k).1 refl) refl
 
-  held_alone : (es : List Entry) → statements_of es ≡ order_alone m script → IsHistoryOf m.schema m.capacity (length m.scripts) es → AreHeld m (record { history = es; orders = Some 1 } ∷ []) (layer m (count_statements (others m.first m.scripts)))
-  held_alone es e h =
-      subst (λ (os : List (List (ℕ × Statement))). AreHeld m (record { history = es; orders = Some 1 } ∷ []) (groups (state_key m) os)) (sym orders_are)
-      (record { order_is = e; history_of = h; orders_are = ap counted (sym (one_weight (state_key m (order_alone m script)) (order_alone m script))) }, tt)
+  held_alone : (ts : List Turn) → LeadTo m ts (order_alone m script) → AreHeld m (record { turns = ts; orders = Some 1 } ∷ []) (layer m (count_statements (others m.first m.scripts)))
+  held_alone ts leads =
+      subst (λ (os : List (List (ℕ × Statement))). AreHeld m (record { turns = ts; orders = Some 1 } ∷ []) (groups (state_key m) os)) (sym orders_are)
+      (record { turns = leads; orders_are = ap counted (sym (one_weight (state_key m (order_alone m script)) (order_alone m script))) }, tt)
 
   module _ (notes : List Note) (noted : AreNotedOf m (order_alone m script) notes) where
     comes_alone : (note : Note) → IsNoteIn m (order_alone m script) note → Comes m note.unit note.place note.status
@@ -220,12 +236,16 @@ module _ (m : Meeting) (script : List Statement) (alone : others m.first m.scrip
         ]
 
   -- the search that has made the one order
-  pub at_alone : (s : given.Search) (es : List Entry) → s.layer.items ≡ record { history = es; orders = Some 1 } ∷ [] → s.states ≡ length script + 1 → s.states ≤ s.limit → statements_of es ≡ order_alone m script → IsHistoryOf m.schema m.capacity (length m.scripts) es → AreNotedOf m (order_alone m script) s.notes.items → IsAt m (count_statements (others m.first m.scripts)) s
-  at_alone s es layer_is count few order history noted = record {
-    held = subst (λ (gs : List Group). AreHeld m gs (layer m (count_statements (others m.first m.scripts)))) (sym layer_is) (held_alone es order history);
-    states_are = let all = states_are in omega arith;
-    within = few;
-    first = first_alone s.notes.items noted;
-    all = λ k low o u x c d e. all_alone s.notes.items noted k (let all = all_made in omega arith) o u x c d e;
-    only = λ note c. comes_alone s.notes.items noted note (noted.only note c);
-  }
+  pub at_alone : (s : given.Search) (ts : List Turn) (notes : List Note) (limit count : ℕ) → IsAtState m ts notes limit s → length script < limit → count ≡ length script + 1 → LeadTo m ts (order_alone m script) → AreNotedOf m (order_alone m script) notes → IsAt m (count_statements (others m.first m.scripts)) (record s { states = count })
+  at_alone s ts notes limit count is low all leads noted =
+      let same = is.limit_is in
+      let known = subst (λ (ns : List Note). AreNotedOf m (order_alone m script) ns) (sym is.notes_are) noted in
+      record {
+        held = subst (λ (gs : List Group). AreHeld m gs (layer m (count_statements (others m.first m.scripts)))) (sym is.layer_is) (held_alone ts leads);
+        states_are = let found = states_are in omega arith;
+        within = omega arith;
+        stands = is.stands;
+        first = first_alone s.walk.notes.items known;
+        all = λ k low o u x c d e. all_alone s.walk.notes.items known k (let made = all_made in omega arith) o u x c d e;
+        only = λ note c. comes_alone s.walk.notes.items known note (known.only note c);
+      }

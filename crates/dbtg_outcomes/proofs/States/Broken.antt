@@ -1,20 +1,20 @@
 -- Orders that break a wish: from the groups of a layer to all its orders, and from these to the statuses that come.
 -- m is a meeting, w a wish, o an order, x is a statement, n how many statements are made.
 use Rattle.std.proofs.Common.{◌≡◌, get_or, take, ⊎_elim, refl, sym, ◌∙◌, ap, subst, ℕ, ◌+◌, ◌-◌, ◌<◌, ◌≤◌, Bool, true, false, List, [], ◌∷◌, ◌++◌, length, map, Option, Some, None, arith, inl, inr, append_assoc, slice_get}
-use Rattle.std.specs.Prelude.{Contains, is_some, nat_le, nat_lt, option_and_then, unwrap_or}
-use Rattle.std.proofs.lemmas.Bool.{and_parts, cases_Bool, cases_lt, leb-true, ltb-true}
+use Rattle.std.specs.Prelude.{Contains, is_some, nat_le, nat_lt, option_and_then, option_map, unwrap_or}
+use Rattle.std.proofs.lemmas.Bool.{and_parts, cases_Bool, cases_lt, false≢true, leb-true, ltb-true}
 use Rattle.std.proofs.lemmas.Option.{slice_get_within}
 use Rattle.std.proofs.lemmas.List.{length-append, length-map, length-take-le, take_more}
 use Rattle.std.proofs.lemmas.List.Elements.{Contains-push_cases}
 use Rattle.dbtg_unit.specs.declared.statement.Statement.{Statement}
-use Rattle.dbtg_unit.specs.declared.unit.Entry.{Entry}
 use Rattle.dbtg_unit.specs.Database.Statements.Codes.{status_code}
 use Rattle.dbtg_unit.specs.Database.Statements.Effect.{StatementEffect}
-use Rattle.dbtg_unit.specs.Database.Laws.Replaying.{statements_of}
 use Rattle.dbtg_unit.proofs.Public.{In, in_range, in_right, of_map}
 use Rattle.dbtg_step.specs.Machine.SequentialDatabase.{unit_at}
 use Rattle.dbtg_outcomes.specs.declared.groups.Group.{Group}
 use Rattle.dbtg_outcomes.specs.declared.search.Search as given
+use Rattle.dbtg_outcomes.specs.declared.turns.Turn.{Turn}
+use Rattle.dbtg_outcomes.specs.declared.walk.Walk.{Walk}
 use Rattle.dbtg_outcomes.specs.declared.wishes.Hunt.{Hunt}
 use Rattle.dbtg_outcomes.specs.declared.wishes.Wish.{Wish}
 use Rattle.dbtg_outcomes.specs.Orders.{count_statements, first_script, made, made_first, next_of, orders, orders_after, others}
@@ -23,13 +23,14 @@ use Rattle.dbtg_outcomes.specs.Results.{Meeting, state_key, units_of}
 use Rattle.dbtg_outcomes.specs.Wishes.{BreaksBy, IsJudged, breaks, is_there}
 use Rattle.dbtg_outcomes.specs.Inside.Search.{AreHeld, IsAt, layer}
 use Rattle.dbtg_outcomes.specs.Inside.Steps.{Advances, IsOver}
+use Rattle.dbtg_outcomes.specs.Inside.Walks.{HasStatusIn, Stands, have_statements, next_turn, order_of, statement_at}
 use Rattle.dbtg_outcomes.specs.Inside.Wishes.{Breaks, Hunts, HuntsOn, IsBroken, IsBrokenIn, IsHunt, IsHuntOver, IsHunting, IsUnbroken}
 use Rattle.dbtg_outcomes.proofs.Lists.Members.{contains_in, in_contains}
 use Rattle.dbtg_outcomes.proofs.Orders.Begun.{amid, begun_left, begun_long, completed_begins, front_or_amid, next_left}
 use Rattle.dbtg_outcomes.proofs.Orders.Mixed.{first_left}
-use Rattle.dbtg_outcomes.proofs.States.Results.{units_alone}
+use Rattle.dbtg_outcomes.proofs.Orders.Turns.{made_in_turns, next_there, units_are}
 use Rattle.dbtg_outcomes.proofs.States.SameStates.{SameState, back, status_same}
-use Rattle.dbtg_outcomes.proofs.States.Searched.{held_of, next_completes, states_grow, weight_of}
+use Rattle.dbtg_outcomes.proofs.States.Searched.{at_walked, held_of, next_completes, states_grow, weight_of}
 use Rattle.dbtg_outcomes.proofs.States.States.{group_of, has_group, same_state}
 
 module _ (m : Meeting) (w : Wish) where
@@ -54,19 +55,48 @@ module _ (m : Meeting) (w : Wish) where
   pub none_next : (o : List (ℕ × Statement)) → next_of m.scripts o w.unit ≡ None → Breaks m w o → ⊥
   none_next o e b = let clash : None ≡ Some b.statement = sym e ∙ b.next_is in absurd (cc)
 
+  -- the same of turns, after which the unit of the wish has its next turn
+  module _ (ts : List Turn) (t : Turn) (have : have_statements m ts ≡ true) (is : t ≡ next_turn w.unit ts) where
+    at : statement_at m.scripts t ≡ option_map {T = Statement} {U = ℕ × Statement} (λ x. (w.unit, x)) (next_of m.scripts (order_of m ts) w.unit)
+    at = ap (statement_at m.scripts) is ∙ next_there m w.unit ts have
+
+    made_is : made w.unit (order_of m ts) ≡ t.place
+    made_is = made_in_turns m w.unit ts have ∙ sym (ap (λ (u : Turn). u.place) is)
+
+    pub broken_turn : (code : ℕ) (broken : Bool) → is_some (statement_at m.scripts t) ≡ true → t.place ≡ w.place - 1 → HasStatusIn m (order_of m ts) t code → broken ≡ breaks w code → IsBroken m w (order_of m ts) broken
+    broken_turn code broken there place has decides = by (next_of m.scripts (order_of m ts) w.unit) refl
+      where
+        by : (x : Option Statement) → next_of m.scripts (order_of m ts) w.unit ≡ x → IsBroken m w (order_of m ts) broken
+        by None e = absurd (false≢true (sym (ap is_some (at ∙ ap (option_map {T = Statement} {U = ℕ × Statement} (λ x. (w.unit, x))) e)) ∙ there))
+        by (Some x) e =
+            let unit : t.unit ≡ w.unit = ap (λ (u : Turn). u.unit) is in
+            let found : statement_at m.scripts t ≡ Some (t.unit, x) = at ∙ ap (option_map {T = Statement} {U = ℕ × Statement} (λ x. (w.unit, x))) e ∙ ap (λ (u : ℕ). Some (u, x)) (sym unit) in
+            broken_by (order_of m ts) x code broken e (made_is ∙ place) (subst (λ (u : ℕ). HasStatus m (order_of m ts) u x code) unit (has x found)) decides
+
+    -- no such statement comes next
+    pub other_place : (t.place ≡ w.place - 1 → ⊥) → Breaks m w (order_of m ts) → ⊥
+    other_place other b = other (sym made_is ∙ b.place_is)
+
+    pub no_turn : statement_at m.scripts t ≡ None → Breaks m w (order_of m ts) → ⊥
+    no_turn none = none_next (order_of m ts) (by (next_of m.scripts (order_of m ts) w.unit) (sym at ∙ none))
+      where
+        by : (x : Option Statement) → option_map {T = Statement} {U = ℕ × Statement} (λ x. (w.unit, x)) x ≡ None → x ≡ None
+        by None e = refl
+        by (Some x) e = absurd (cc (e))
+
   -- GROUP BY GROUP
 
   pub none_broken : IsBrokenIn m w [] None
   none_broken g c b = absurd (contains_in [] g c)
 
-  pub none_broken_more : (gs : List Group) (i : ℕ) (g : Group) (broken : Bool) (history : List Entry) → i < length gs → g ≡ get_or gs i g → history ≡ g.history → IsBrokenIn m w (take i gs) None → IsBroken m w (statements_of history) broken → broken ≡ false → IsBrokenIn m w (take (i + 1) gs) None
-  none_broken_more gs i g broken history low is same before here none f c b =
+  pub none_broken_more : (gs : List Group) (i : ℕ) (g : Group) (broken : Bool) (ts : List Turn) → i < length gs → g ≡ get_or gs i g → ts ≡ g.turns → IsBrokenIn m w (take i gs) None → IsBroken m w (order_of m ts) broken → broken ≡ false → IsBrokenIn m w (take (i + 1) gs) None
+  none_broken_more gs i g broken ts low is same before here none f c b =
       let more : take (i + 1) gs ≡ take i gs ++ g ∷ [] = take_more gs i g low ∙ ap (λ (x : Group). take i gs ++ x ∷ []) (sym is) in
       ⊎_elim
       (λ d. before f d b)
       (λ e.
-      let there : f.history ≡ history = ap (λ (x : Group). x.history) (sym e) ∙ sym same in
-      subst (IsBroken m w (statements_of history)) none here (subst (λ (es : List Entry). Breaks m w (statements_of es)) there b))
+      let there : f.turns ≡ ts = ap (λ (x : Group). x.turns) (sym e) ∙ sym same in
+      subst (IsBroken m w (order_of m ts)) none here (subst (λ (us : List Turn). Breaks m w (order_of m us)) there b))
       (Contains-push_cases (take i gs) g f (subst (λ (l : List Group). Contains l f) more c))
 
   -- FROM THE GROUPS OF A LAYER TO ITS ORDERS
@@ -92,7 +122,7 @@ module _ (m : Meeting) (w : Wish) where
         let has = has_group (state_key m) (orders_after m.first m.scripts n) o i in
         let of = held_of m gs (layer m n) has.group held has.is_in in
         let same = same_state m meets.sound meets.fit n n has.group.0 o has.of i has.key_is in
-        none of.group (in_contains gs of.group of.is_in) (subst (λ (q : List (ℕ × Statement)). Breaks m w q) (sym of.is.order_is) (moves has.group.0 o same b))
+        none of.group (in_contains gs of.group of.is_in) (subst (λ (q : List (ℕ × Statement)). Breaks m w q) (sym of.is.turns.order_is) (moves has.group.0 o same b))
 
     pub unbroken_more : (n : ℕ) (gs : List Group) → AreHeld m gs (layer m n) → IsBrokenIn m w gs None → IsUnbroken m w n → IsUnbroken m w (n + 1)
     unbroken_more n gs held none before k low o c b =
@@ -163,13 +193,13 @@ module _ (m : Meeting) (w : Wish) where
       found : (n : ℕ) (gs : List Group) (turns : List ℕ) → AreHeld m gs (layer m n) → IsUnbroken m w n → IsBrokenIn m w gs (Some turns) → IsJudged m w (Some turns)
       found n gs turns held unbroken in_group =
           let g = in_group.0 in
-          let o = statements_of g.history in
+          let o = order_of m g.turns in
           let b = in_group.2 in
           let weight = weight_of m gs (layer m n) g held (contains_in gs g in_group.1) in
-          let i : In o (orders_after m.first m.scripts n) = subst (λ (q : List (ℕ × Statement)). In q (orders_after m.first m.scripts n)) (sym weight.is.order_is) (group_of (state_key m) (orders_after m.first m.scripts n) weight.weighted weight.is_in) in
+          let i : In o (orders_after m.first m.scripts n) = subst (λ (q : List (ℕ × Statement)). In q (orders_after m.first m.scripts n)) (sym weight.is.turns.order_is) (group_of (state_key m) (orders_after m.first m.scripts n) weight.weighted weight.is_in) in
           let whole = next_completes m n o w.unit b.statement i unit_in b.next_is in
           let comes : Comes m w.unit (w.place - 1) b.code = record { before = o; statement = b.statement; rest = whole.0; is_order = whole.1; place_is = b.place_is; status = b.status } in
-          let same : turns ≡ map (λ (s : ℕ × Statement). s.0) o ++ w.unit ∷ [] = in_group.3 ∙ ap (λ (us : List ℕ). us ++ w.unit ∷ []) (units_alone m g.history) in
+          let same : turns ≡ map (λ (s : ℕ × Statement). s.0) o ++ w.unit ∷ [] = in_group.3 ∙ ap (λ (us : List ℕ). us ++ w.unit ∷ []) (sym (units_are m g.turns weight.is.turns.there)) in
           let long = begun_long m.scripts (made_first m.first m.scripts) n o i in
           let turns_long : length turns ≡ length o + 1 = ap length same ∙ length-append (map (λ (s : ℕ × Statement). s.0) o) (w.unit ∷ []) ∙ ap (λ k. k + 1) (length-map o (λ (s : ℕ × Statement). s.0)) in
           (record { code = b.code; comes = comes; breaks_is = b.breaks_is; turns_are = same }, λ others by. let least = fewest n unbroken others by in omega arith)
@@ -182,9 +212,9 @@ module _ (m : Meeting) (w : Wish) where
         limit_is = limit;
       }
 
-      pub hunt_goes : (old new : Hunt) → old.broken ≡ None → new.broken ≡ None → Advances m 1 old.search new.search → IsBrokenIn m w old.search.layer.items None → HuntsOn m w 1 old new
-      hunt_goes old new none none_too on unbroken = record {
-        hunts = λ n h. let at = subst (IsHunt m w n old) none h in subst (IsHunt m w (n + 1) new) (sym none_too) (on.at n at.0, unbroken_more n old.search.layer.items at.0.held unbroken at.1);
+      pub hunt_goes : (old new : Hunt) (walked : Walk) → Stands m walked → walked.notes.items ≡ old.search.walk.notes.items → old.broken ≡ None → new.broken ≡ None → Advances m 1 (record old.search { walk = walked }) new.search → IsBrokenIn m w old.search.layer.items None → HuntsOn m w 1 old new
+      hunt_goes old new walked stands noted none none_too on unbroken = record {
+        hunts = λ n h. let at = subst (IsHunt m w n old) none h in subst (IsHunt m w (n + 1) new) (sym none_too) (on.at n (at_walked m n old.search walked at.0 stands noted), unbroken_more n old.search.layer.items at.0.held unbroken at.1);
         limit_is = on.limit_is;
       }
 
@@ -220,8 +250,8 @@ module _ (m : Meeting) (w : Wish) where
   hunting k a b h g = record { made = g.made + k; hunts = h.hunts g.made g.hunts }
 
   -- more states than the limit
-  pub hunt_over : (hunt : Hunt) → hunt.broken ≡ None → IsOver m 1 hunt.search → IsHuntOver m w 1 hunt
-  hunt_over hunt none over n h = over n (subst (IsHunt m w n hunt) none h).0
+  pub hunt_over : (hunt : Hunt) (walked : Walk) → Stands m walked → walked.notes.items ≡ hunt.search.walk.notes.items → hunt.broken ≡ None → IsOver m 1 (record hunt.search { walk = walked }) → IsHuntOver m w 1 hunt
+  hunt_over hunt walked stands noted none over n h = over n (at_walked m n hunt.search walked (subst (IsHunt m w n hunt) none h).0 stands noted)
 
   pub hunt_over_later : (j k l : ℕ) (a b : Hunt) → j + k ≤ l → HuntsOn m w j a b → IsHuntOver m w k b → IsHuntOver m w l a
   hunt_over_later j k l a b most h over = λ n hunt.

@@ -8,10 +8,9 @@ use Rattle.dbtg_unit.specs.declared.statement.Statement.{Statement}
 use Rattle.dbtg_unit.specs.declared.unit.Answer.{Answer}
 use Rattle.dbtg_unit.specs.declared.unit.Entry.{Entry}
 use Rattle.dbtg_unit.specs.Database.Statements.Effect.{StatementEffect}
-use Rattle.dbtg_unit.specs.Database.Statements.Fits.{fits}
 use Rattle.dbtg_unit.specs.Database.Laws.Replay.{AnswersHold, IsHistoryOf, State, after_entry, entries_of, opening_state, effect_of_unit}
 use Rattle.dbtg_unit.specs.Database.Laws.Replaying.{statements_of}
-use Rattle.dbtg_unit.proofs.Public.{all_at, effect_keeps_count, element_at, opening_length, unit_is_there}
+use Rattle.dbtg_unit.proofs.Public.{effect_keeps_count, unit_is_there}
 use Rattle.dbtg_outcomes.specs.Orders.{made}
 use Rattle.dbtg_outcomes.specs.Results.{Meeting, answers_told, entries_in, unit_answers, units_of, untimed}
 
@@ -62,18 +61,6 @@ module _ (schema : Lists) (capacity : ℕ) where
       let many = effect_keeps_count state f.unit (effect_of_unit schema capacity state f.unit f.statement) in
       let high = rest.1 in
       (rest.0, omega arith)
-
--- an entry of a history belongs to one of its units, and its statement fits
-pub record IsEntryOf (schema : Lists) (n : ℕ) (e : Entry) : Type 0 where
-  pub numbered : 0 < e.unit
-  pub within : e.unit ≤ n
-  pub fitting : fits schema e.statement ≡ true
-
-pub entry_of_history : (schema : Lists) (capacity n : ℕ) (es : List Entry) (i : ℕ) (e : Entry) → IsHistoryOf schema capacity n es → slice_get es i ≡ Some e → IsEntryOf schema n e
-entry_of_history schema capacity n es i e h at =
-    let unit = units_within schema capacity (opening_state schema n) es i e h.answers_hold at in
-    let count : length (opening_state schema n).units ≡ n = opening_length schema n in
-    record { numbered = unit.0; within = subst (λ k. e.unit ≤ k) count unit.1; fitting = all_at (λ (e : Entry). fits schema e.statement) e es h.fitting (element_at es i e at) }
 
 module _ (m : Meeting) where
   -- the answers of units as they are printed

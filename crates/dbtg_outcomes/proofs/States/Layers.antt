@@ -82,7 +82,7 @@ module _ (m : Meeting) where
         let same : f ≡ p = cc in
         let key_is : k ≡ key w.0 = ap (λ (r : List ℕ × Group). r.0) (sym same) ∙ s.0.0 in
         let held : IsHeld m known w = subst (λ (r : List ℕ × Group). IsHeld m r.1 w) same s.0.1 in
-        rw ((bytes_eq-Decides (key w.0) (key q)).1 (sym key_is ∙ e)) ((key_is, record { order_is = held.order_is; history_of = held.history_of; orders_are = sum_counted known.orders g.orders w.1 c held.orders_are h.orders_are }), s.1)
+        rw ((bytes_eq-Decides (key w.0) (key q)).1 (sym key_is ∙ e)) ((key_is, record { turns = held.turns; orders_are = sum_counted known.orders g.orders w.1 c held.orders_are h.orders_are }), s.1)
     joined (f ∷ gs) (w ∷ ws) (suc i) k known g q c a s e h at =
         elim (cases_Bool (bytes_eq (key w.0) (key q))) [
           | inl y ↦

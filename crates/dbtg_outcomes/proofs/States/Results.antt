@@ -1,16 +1,13 @@
 -- The groups of the same result, and all outcomes as they are returned.
 -- m is a meeting, g a group, w an order with a weight.
-use Rattle.std.proofs.Common.{◌≡◌, refl, sym, ◌∙◌, ap, subst, ℕ, ◌+◌, ◌-◌, ◌<◌, List, [], ◌∷◌, ◌++◌, length, get_or, take, map, Option, Some, arith}
+use Rattle.std.proofs.Common.{◌≡◌, true, refl, sym, ◌∙◌, ap, subst, ℕ, ◌+◌, ◌-◌, ◌<◌, List, [], ◌∷◌, ◌++◌, length, get_or, take, map, Option, Some, arith}
 use Rattle.std.proofs.lemmas.List.{take_more}
 use Rattle.dbtg_unit.specs.declared.statement.Statement.{Statement}
-use Rattle.dbtg_unit.specs.declared.unit.Entry.{Entry}
-use Rattle.dbtg_unit.specs.Database.Laws.Replay.{IsHistoryOf}
-use Rattle.dbtg_unit.specs.Database.Laws.Replaying.{statements_of}
-use Rattle.dbtg_step.specs.declared.results.Run.{Run}
 use Rattle.dbtg_outcomes.specs.declared.groups.Group.{Group}
 use Rattle.dbtg_outcomes.specs.declared.notes.Note.{Note}
 use Rattle.dbtg_outcomes.specs.declared.outcomes.Outcomes as given
 use Rattle.dbtg_outcomes.specs.declared.search.Search.{Search}
+use Rattle.dbtg_outcomes.specs.declared.turns.Turn.{Turn}
 use Rattle.dbtg_outcomes.specs.Counted.{counted}
 use Rattle.dbtg_outcomes.specs.Inside.Gathered.{gathered}
 use Rattle.dbtg_outcomes.specs.Inside.Given.{all_orders, one_result}
@@ -18,15 +15,16 @@ use Rattle.dbtg_outcomes.specs.Inside.Grouped.{IsAdded, sum_of}
 use Rattle.dbtg_outcomes.specs.Groups.{groups}
 use Rattle.dbtg_outcomes.specs.Orders.{count_statements, orders, others}
 use Rattle.dbtg_outcomes.specs.Outcomes.{AreOutcomes, IsMeeting, result_of}
-use Rattle.dbtg_outcomes.specs.Inside.Outcomes.{IsRunOf}
 use Rattle.dbtg_outcomes.specs.Results.{Meeting, result_text}
 use Rattle.dbtg_outcomes.specs.Inside.Search.{AreHeld, Hold, IsAt, IsHeld, layer}
 use Rattle.dbtg_outcomes.specs.Inside.Statuses.{AreAllAnswered, AreOfNotes}
 use Rattle.dbtg_outcomes.specs.Inside.Steps.{AreByResult, HoldAll, Joins}
+use Rattle.dbtg_outcomes.specs.Inside.Walks.{LeadTo, have_statements, order_of}
 use Rattle.dbtg_outcomes.proofs.Orders.Extending.{last_held}
 use Rattle.dbtg_outcomes.proofs.Lists.Gathered.{gathered_is, total_groups}
 use Rattle.dbtg_outcomes.proofs.States.Layers.{stand_alone, sum_counted}
 use Rattle.dbtg_outcomes.proofs.Orders.Nexts.{hold_next}
+use Rattle.dbtg_outcomes.proofs.Orders.Turns.{units_are}
 use Rattle.dbtg_outcomes.proofs.States.Searched.{all_statuses}
 use Rattle.dbtg_outcomes.proofs.States.States.{layer_last}
 use Rattle.dbtg_outcomes.proofs.Lists.Weights.{total}
@@ -34,16 +32,11 @@ use Rattle.dbtg_outcomes.proofs.Lists.Weights.{total}
 module _ (m : Meeting) where
   -- GROUP INTO GROUP
 
-  pub joins_one : (g : Group) (fs : List Entry) (run : Run) (key : List ℕ) (history : List Entry) (old new : List (List ℕ × Group)) → fs ≡ g.history → IsRunOf m (statements_of fs) run → key ≡ result_text m (statements_of run.history) → history ≡ run.history → IsAdded old key (record { history = history; orders = g.orders }) new → Joins m g old new
-  joins_one g fs run key history old new same of k h added = record {
+  pub joins_one : (g : Group) (ts : List Turn) (key : List ℕ) (old new : List (List ℕ × Group)) → have_statements m g.turns ≡ true → ts ≡ g.turns → key ≡ result_text m (order_of m g.turns) → IsAdded old key (record { turns = ts; orders = g.orders }) new → Joins m g old new
+  joins_one g ts key old new there same k added = record {
     holds = λ seen w held hold.
-        let order : statements_of run.history ≡ w.0 = of.order_is ∙ ap statements_of same ∙ held.order_is in
-        let own : IsHeld m (record { history = history; orders = g.orders }) w = record {
-          order_is = ap statements_of h ∙ order;
-          history_of = subst (λ (es : List Entry). IsHistoryOf m.schema m.capacity (length m.scripts) es) (sym h) of.history_of;
-          orders_are = held.orders_are;
-        } in
-        hold_next m (result_text m) old new seen key (record { history = history; orders = g.orders }) w.0 w.1 hold (k ∙ ap (result_text m) order) own added;
+        let own : IsHeld m (record { turns = ts; orders = g.orders }) w = record { turns = subst (λ (us : List Turn). LeadTo m us w.0) (sym same) held.turns; orders_are = held.orders_are } in
+        hold_next m (result_text m) old new seen key (record { turns = ts; orders = g.orders }) w.0 w.1 hold (k ∙ ap (result_text m) held.turns.order_is) own added;
   }
 
   hold_nothing : (ws : List (List (ℕ × Statement) × ℕ)) → AreHeld m [] ws → Hold m (result_text m) [] ws
@@ -72,16 +65,21 @@ module _ (m : Meeting) where
 
   -- AS THEY ARE RETURNED
 
-  pub units_alone : (es : List Entry) → map (λ (e : Entry). e.unit) es ≡ map (λ (s : ℕ × Statement). s.0) (statements_of es)
-  units_alone [] = refl
-  units_alone (e ∷ es) = ap (λ l. e.unit ∷ l) (units_alone es)
+  -- one group is one result
+  pub one_result_is : (g : Group) (gs : List Group) → gs ≡ g ∷ [] → AreByResult m gs gs
+  one_result_is g gs is = record { held = λ ws held. by ws (subst (λ (fs : List Group). AreHeld m fs ws) is held) }
+    where
+      by : (ws : List (List (ℕ × Statement) × ℕ)) → AreHeld m (g ∷ []) ws → AreHeld m gs (gathered (result_text m) [] ws)
+      by [] h = absurd h
+      by (w ∷ []) h = subst (λ (fs : List Group). AreHeld m fs (w ∷ [])) (sym is) h
+      by (w ∷ (v ∷ ws)) h = absurd h.1
 
   results_given : (gs : List Group) (ws : List (List (ℕ × Statement) × ℕ)) → AreHeld m gs ws → map one_result gs ≡ map result_of ws
   results_given [] [] h = refl
   results_given [] (w ∷ ws) h = absurd h
   results_given (g ∷ gs) [] h = absurd h
   results_given (g ∷ gs) (w ∷ ws) h =
-      let turns : map (λ (e : Entry). e.unit) g.history ≡ map (λ (s : ℕ × Statement). s.0) w.0 = units_alone g.history ∙ ap (map (λ (s : ℕ × Statement). s.0)) h.0.order_is in
+      let turns : map (λ (t : Turn). t.unit) g.turns ≡ map (λ (s : ℕ × Statement). s.0) w.0 = sym (units_are m g.turns h.0.turns.there) ∙ ap (map (λ (s : ℕ × Statement). s.0)) h.0.turns.order_is in
       let one : one_result g ≡ result_of w = λ i. record { turns = turns i; orders = h.0.orders_are i } in
       λ i. one i ∷ results_given gs ws h.1 i
 
@@ -94,7 +92,7 @@ module _ (m : Meeting) where
       orders_given gs ws (sum_of n g.orders) (k + w.1) h.1 (sum_counted n g.orders k w.1 e h.0.orders_are) ∙ ap counted both
 
   -- the outcomes of a search that has made all statements
-  pub are_outcomes : IsMeeting m → (s : Search) (seen last : List Group) (notes : List Note) (all : given.Outcomes) → IsAt m (count_statements (others m.first m.scripts)) s → seen ≡ s.layer.items → notes ≡ s.notes.items → AreByResult m seen last → all.orders ≡ all_orders (Some 0) last → all.results.items ≡ map one_result last → AreAllAnswered notes m.scripts all.answered.items → AreOutcomes m all
+  pub are_outcomes : IsMeeting m → (s : Search) (seen last : List Group) (notes : List Note) (all : given.Outcomes) → IsAt m (count_statements (others m.first m.scripts)) s → seen ≡ s.layer.items → notes ≡ s.walk.notes.items → AreByResult m seen last → all.orders ≡ all_orders (Some 0) last → all.results.items ≡ map one_result last → AreAllAnswered notes m.scripts all.answered.items → AreOutcomes m all
   are_outcomes meets s seen last notes all at same noted by number results answers =
       let of : gathered (result_text m) [] (layer m (count_statements (others m.first m.scripts))) ≡ groups (result_text m) (orders m.first m.scripts) = gathered_is (result_text m) (layer m (count_statements (others m.first m.scripts))) ∙ layer_last m meets.sound meets.fit (count_statements (others m.first m.scripts)) in
       let first : AreHeld m seen (layer m (count_statements (others m.first m.scripts))) = subst (λ (gs : List Group). AreHeld m gs (layer m (count_statements (others m.first m.scripts)))) (sym same) at.held in

@@ -1,19 +1,19 @@
--- The result of statements that are made whole, as the run of an order.
+-- A database on which the statements of an order are made whole.
 -- m is a meeting, o is an order, u is a unit, x is a statement.
 use Rattle.std.proofs.Common.{◌≡◌, refl, sym, ◌∙◌, ap, subst, ℕ, ◌+◌, List, [], ◌∷◌, ◌++◌, length, get_or, append_assoc}
 use Rattle.std.proofs.Math.Seq.{get_or-append_seam}
 use Rattle.std.proofs.lemmas.List.{map-append}
 use Rattle.dbtg_unit.specs.declared.statement.Statement.{Statement}
 use Rattle.dbtg_unit.specs.declared.unit.Entry.{Entry}
+use Rattle.dbtg_unit.specs.declared.unit.Unit.{Unit}
+use Rattle.dbtg_unit.specs.Database.State.Image.{Image, image_of}
 use Rattle.dbtg_unit.specs.Database.Statements.Codes.{status_code}
-use Rattle.dbtg_unit.specs.Database.State.Image.{image_of}
-use Rattle.dbtg_unit.specs.Database.Laws.Replay.{IsHistoryOf, State, after_effect, opening_state, effect_of_unit, replay, state_after}
+use Rattle.dbtg_unit.specs.Database.Laws.Replay.{IsHistoryOf, State, after_effect, opening_state, effect_of_unit, state_after}
 use Rattle.dbtg_unit.specs.Database.Laws.Replaying.{statements_of}
 use Rattle.dbtg_unit.proofs.Public.{effect_keeps_count, opening_length, statements_determine}
-use Rattle.dbtg_step.specs.declared.results.Run.{Run}
-use Rattle.dbtg_step.specs.Core.Whole.{HasMade, IsMadeRun, Making, state_now}
+use Rattle.dbtg_step.specs.Core.Whole.{HasMade, Making, state_now}
 use Rattle.dbtg_outcomes.specs.Outcomes.{HasStatus}
-use Rattle.dbtg_outcomes.specs.Inside.Outcomes.{IsMaking, IsRunOf}
+use Rattle.dbtg_outcomes.specs.Inside.Walks.{IsMaking}
 use Rattle.dbtg_outcomes.specs.Results.{Meeting, state_of}
 
 -- four lists, one after another
@@ -21,22 +21,11 @@ pub four_behind : {X : Type 0} (k a b c d l1 l2 l3 l4 : List X) → k ≡ [] →
 four_behind k a b c d l1 l2 l3 l4 z e f g h = h ∙ ap (λ l. l ++ d) (g ∙ ap (λ l. l ++ c) (f ∙ ap (λ l. l ++ b) (e ∙ ap (λ l. l ++ a) z))) ∙ simp append_assoc
 
 module _ (m : Meeting) where
-  run_state_is : (o : List (ℕ × Statement)) (making : Making) → IsMaking m o making → state_now making ≡ state_of m o
+  pub run_state_is : (o : List (ℕ × Statement)) (making : Making) → IsMaking m o making → state_now making ≡ state_of m o
   run_state_is o making h =
       ap state_now h.same
       ∙ (statements_determine m.schema m.capacity (opening_state m.schema (length m.scripts)) making.history).state_is
       ∙ ap (state_of m) h.made
-
-  pub run_of : (o : List (ℕ × Statement)) (making : Making) (run : Run) → IsMaking m o making → IsMadeRun making run → IsRunOf m o run
-  run_of o making run h r =
-      let own : IsMadeRun (record { schema = m.schema; capacity = m.capacity; units = length m.scripts; history = making.history }) run = subst (λ (k : Making). IsMadeRun k run) h.same r in
-      let state : replay m.schema m.capacity (opening_state m.schema (length m.scripts)) making.history ≡ state_of m o = (statements_determine m.schema m.capacity (opening_state m.schema (length m.scripts)) making.history).state_is ∙ ap (state_of m) h.made in
-      record {
-        order_is = ap statements_of own.history_is ∙ h.made;
-        history_of = subst (λ (es : List Entry). IsHistoryOf m.schema m.capacity (length m.scripts) es) (sym own.history_is) own.history_of;
-        image_is = own.image_is ∙ ap (λ (s : State). image_of m.schema m.capacity s.database) state;
-        units_are = own.units_are ∙ ap (λ (s : State). s.units) state;
-      }
 
   pub made_more : (o : List (ℕ × Statement)) (u : ℕ) (x : Statement) (old new : Making) → IsMaking m o old → HasMade old u x new → IsMaking m (o ++ (u, x) ∷ []) new
   made_more o u x old new h g =
@@ -64,9 +53,14 @@ module _ (m : Meeting) where
   pub units_after_order : (o : List (ℕ × Statement)) → length (state_of m o).units ≡ length m.scripts
   units_after_order o = units_after (opening_state m.schema (length m.scripts)) o ∙ opening_length m.schema (length m.scripts)
 
-  pub units_of_run : (o : List (ℕ × Statement)) (run : Run) → IsRunOf m o run → length run.units ≡ length m.scripts
-  units_of_run o run h = ap length h.units_are ∙ units_after_order o
+  -- its entries are a history of the meeting's database
+  pub history_is : (o : List (ℕ × Statement)) (making : Making) (es : List Entry) → IsMaking m o making → IsHistoryOf making.schema making.capacity making.units making.history → es ≡ making.history → IsHistoryOf m.schema m.capacity (length m.scripts) es
+  history_is o making es h is e =
+      subst (λ (fs : List Entry). IsHistoryOf m.schema m.capacity (length m.scripts) fs) (sym e) (subst (λ (k : Making). IsHistoryOf k.schema k.capacity k.units making.history) h.same is)
 
-  -- a run is that of its own statements
-  pub own_run : (o : List (ℕ × Statement)) (run : Run) → IsRunOf m o run → IsRunOf m (statements_of run.history) run
-  own_run o run h = subst (λ (q : List (ℕ × Statement)). IsRunOf m q run) (sym h.order_is) h
+  -- the image and the units that it shows
+  pub image_shown : (o : List (ℕ × Statement)) (making : Making) (image : Image) → IsMaking m o making → image ≡ image_of making.schema making.capacity (state_now making).database → image ≡ image_of m.schema m.capacity (state_of m o).database
+  image_shown o making image h e = e ∙ (λ i. image_of (h.same i).schema (h.same i).capacity (run_state_is o making h i).database)
+
+  pub units_shown : (o : List (ℕ × Statement)) (making : Making) (units : List Unit) → IsMaking m o making → units ≡ (state_now making).units → units ≡ (state_of m o).units
+  units_shown o making units h e = e ∙ ap (λ (s : State). s.units) (run_state_is o making h)

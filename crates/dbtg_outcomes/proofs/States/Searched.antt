@@ -10,20 +10,20 @@ use Rattle.std.proofs.lemmas.Bool.{cases_lt}
 use Rattle.dbtg_unit.specs.declared.statement.Statement.{Statement}
 use Rattle.dbtg_unit.specs.Database.Statements.Codes.{status_code}
 use Rattle.dbtg_unit.specs.Database.Statements.Effect.{StatementEffect}
-use Rattle.dbtg_unit.specs.declared.unit.Entry.{Entry}
-use Rattle.dbtg_unit.specs.Database.Laws.Replay.{IsHistoryOf}
-use Rattle.dbtg_unit.specs.Database.Laws.Replaying.{statements_of}
 use Rattle.dbtg_unit.proofs.Public.{In, in_flat_map, in_map, of_flat_map, of_map}
 use Rattle.dbtg_step.specs.Machine.SequentialDatabase.{unit_at}
 use Rattle.dbtg_outcomes.specs.declared.groups.Group.{Group}
 use Rattle.dbtg_outcomes.specs.declared.notes.Note.{Note}
 use Rattle.dbtg_outcomes.specs.declared.search.Search as given
+use Rattle.dbtg_outcomes.specs.declared.turns.Turn.{Turn}
+use Rattle.dbtg_outcomes.specs.declared.walk.Walk.{Walk}
 use Rattle.dbtg_outcomes.specs.Inside.Gathered.{gathered}
 use Rattle.dbtg_outcomes.specs.Orders.{completed, count_statements, made, made_first, next_of, orders, orders_after, others}
 use Rattle.dbtg_outcomes.specs.Outcomes.{AreStatuses, Comes, IsMeeting, count_states, states_within}
 use Rattle.dbtg_outcomes.specs.Results.{Meeting, state_key, units_of}
 use Rattle.dbtg_outcomes.specs.Inside.Search.{AreHeld, AreNotedOf, HasNote, IsAt, IsHeld, IsNextNote, IsNote, IsNoteIn, layer}
-use Rattle.dbtg_outcomes.specs.Inside.Steps.{Advances, ExtendsAll, HasHistory, IsOver, IsUnderWay, LeadToMore, next_orders, nexts, with_each}
+use Rattle.dbtg_outcomes.specs.Inside.Steps.{Advances, ExtendsAll, HaveStatements, IsAtState, IsOver, IsUnderWay, LeadToMore, next_orders, nexts, with_each}
+use Rattle.dbtg_outcomes.specs.Inside.Walks.{LeadTo, Stands, order_of}
 use Rattle.dbtg_outcomes.specs.declared.answered.Answered.{Answered}
 use Rattle.dbtg_outcomes.specs.Inside.Statuses.{AreOfNotes}
 use Rattle.dbtg_outcomes.proofs.Orders.Begun.{IsNext, amid, begun_left, begun_more, completed_begins, completes, front_or_amid, left, next_left}
@@ -61,22 +61,22 @@ module _ (m : Meeting) where
   weight_of (f ∷ gs) (v ∷ ws) g h (inl e) = record { weighted = v; is_in = inl refl; is = subst (λ (f : Group). IsHeld m f v) e h.0 }
   weight_of (f ∷ gs) (v ∷ ws) g h (inr i) = let rest = weight_of gs ws g h.1 i in record { weighted = rest.weighted; is_in = inr rest.is_in; is = rest.is }
 
-  in_nexts : (gs : List Group) (g : Group) (u : ℕ) → In g gs → In u (units_of m) → In (statements_of g.history, u) (nexts m gs)
+  in_nexts : (gs : List Group) (g : Group) (u : ℕ) → In g gs → In u (units_of m) → In (order_of m g.turns, u) (nexts m gs)
   in_nexts gs g u i j =
-      in_flat_map (λ (g : Group). with_each (statements_of g.history) (units_of m)) g (statements_of g.history, u) gs i
-      (in_map {Y = List (ℕ × Statement) × ℕ} (λ u. (statements_of g.history, u)) u (units_of m) j)
+      in_flat_map (λ (g : Group). with_each (order_of m g.turns) (units_of m)) g (order_of m g.turns, u) gs i
+      (in_map {Y = List (ℕ × Statement) × ℕ} (λ u. (order_of m g.turns, u)) u (units_of m) j)
 
   pub record IsOfNexts (gs : List Group) (p : List (ℕ × Statement) × ℕ) : Type 0 where
     pub group : Group
     pub unit : ℕ
     pub group_in : In group gs
     pub unit_in : In unit (units_of m)
-    pub is : (statements_of group.history, unit) ≡ p
+    pub is : (order_of m group.turns, unit) ≡ p
 
   of_nexts : (gs : List Group) (p : List (ℕ × Statement) × ℕ) → In p (nexts m gs) → IsOfNexts gs p
   of_nexts gs p i =
-      let at = of_flat_map (λ (g : Group). with_each (statements_of g.history) (units_of m)) p gs i in
-      let by = of_map {Y = List (ℕ × Statement) × ℕ} (λ u. (statements_of at.0.history, u)) p (units_of m) at.2 in
+      let at = of_flat_map (λ (g : Group). with_each (order_of m g.turns) (units_of m)) p gs i in
+      let by = of_map {Y = List (ℕ × Statement) × ℕ} (λ u. (order_of m at.0.turns, u)) p (units_of m) at.2 in
       record { group = at.0; unit = by.0; group_in = at.1; unit_in = by.1; is = by.2 }
 
   -- FROM ONE STATE TO ANOTHER
@@ -129,9 +129,9 @@ module _ (m : Meeting) where
   first_weight : (k : List ℕ) (o : List (ℕ × Statement)) → length {A = List (ℕ × Statement)} (if bytes_eq k k then o ∷ [] else []) ≡ 1
   first_weight k o = rw ((bytes_eq-Decides k k).1 refl) refl
 
-  first_held : (es : List Entry) → statements_of es ≡ made_first m.first m.scripts → IsHistoryOf m.schema m.capacity (length m.scripts) es → AreHeld m (record { history = es; orders = Some 1 } ∷ []) (layer m 0)
+  first_held : (ts : List Turn) → LeadTo m ts (made_first m.first m.scripts) → AreHeld m (record { turns = ts; orders = Some 1 } ∷ []) (layer m 0)
   unfolding completed
-  first_held es e h = (record { order_is = e; history_of = h; orders_are = ap counted (sym (first_weight (state_key m (made_first m.first m.scripts)) (made_first m.first m.scripts))) }, tt)
+  first_held ts leads = (record { turns = leads; orders_are = ap counted (sym (first_weight (state_key m (made_first m.first m.scripts)) (made_first m.first m.scripts))) }, tt)
 
   -- what is noted of the script that is made first is a status that comes
   first_comes : (note : Note) → IsNoteIn m (made_first m.first m.scripts) note → Comes m note.unit note.place note.status
@@ -150,25 +150,43 @@ module _ (m : Meeting) where
         status = h.is.status;
       })
 
-  pub at_first : (s : given.Search) (es : List Entry) → s.layer.items ≡ record { history = es; orders = Some 1 } ∷ [] → s.states ≡ 1 → 0 < s.limit → statements_of es ≡ made_first m.first m.scripts → IsHistoryOf m.schema m.capacity (length m.scripts) es → AreNotedOf m (made_first m.first m.scripts) s.notes.items → IsAt m 0 s
-  at_first s es layer_is states_is some order history noted = record {
-    held = subst (λ (gs : List Group). AreHeld m gs (layer m 0)) (sym layer_is) (first_held es order history);
-    states_are = states_is ∙ sym first_states;
-    within = omega arith;
-    first = noted.all;
-    all = λ k low. absurd (omega arith);
-    only = λ note c. first_comes note (noted.only note c);
+  pub at_first : (s : given.Search) (ts : List Turn) (notes : List Note) (limit : ℕ) → IsAtState m ts notes limit s → 0 < limit → LeadTo m ts (made_first m.first m.scripts) → AreNotedOf m (made_first m.first m.scripts) notes → IsAt m 0 s
+  at_first s ts notes limit is some leads noted =
+      let few = is.limit_is in
+      let one = is.states_are in
+      let known = subst (λ (ns : List Note). AreNotedOf m (made_first m.first m.scripts) ns) (sym is.notes_are) noted in
+      record {
+        held = subst (λ (gs : List Group). AreHeld m gs (layer m 0)) (sym is.layer_is) (first_held ts leads);
+        states_are = is.states_are ∙ sym first_states;
+        within = omega arith;
+        stands = is.stands;
+        first = known.all;
+        all = λ k low. absurd (omega arith);
+        only = λ note c. first_comes note (known.only note c);
+      }
+
+  -- where the walk stands is no part of what the search knows
+  pub at_walked : (n : ℕ) (s : given.Search) (w : Walk) → IsAt m n s → Stands m w → w.notes.items ≡ s.walk.notes.items → IsAt m n (record s { walk = w })
+  at_walked n s w at stands same = record {
+    held = at.held;
+    states_are = at.states_are;
+    within = at.within;
+    stands = stands;
+    first = λ before q rest e. let h = at.first before q rest e in record { note = h.note; is = h.is; noted = subst (λ (ns : List Note). Contains ns h.note) (sym same) h.noted };
+    all = λ k low o u x c d e. let h = at.all k low o u x c d e in record { note = h.note; is = h.is; noted = subst (λ (ns : List Note). Contains ns h.note) (sym same) h.noted };
+    only = λ note c. at.only note (subst (λ (ns : List Note). Contains ns note) same c);
   }
 
   -- ONE MORE STATEMENT
 
   -- a search with one more statement
   pub record IsNextSearch (old new : given.Search) (next : List (List ℕ × Group)) : Type 0 where
-    pub all : ExtendsAll m old.layer.items next old.notes.items new.notes.items
+    pub all : ExtendsAll m old.layer.items next old.walk.notes.items new.walk.notes.items
     pub few : length next ≤ old.limit - old.states
     pub layer_is : new.layer.items ≡ map (λ g. g.1) next
     pub states_are : new.states ≡ old.states + length next
     pub limit_is : new.limit ≡ old.limit
+    pub stands : Stands m new.walk
 
   module _ (meets : IsMeeting m) (n : ℕ) (old : given.Search) (at : IsAt m n old) where
     pub gathers : gathered (state_key m) [] (next_orders m (layer m n)) ≡ layer m (suc n)
@@ -184,20 +202,20 @@ module _ (m : Meeting) where
         subst (λ (k : ℕ). old.limit < states_within m k) next over
 
     module _ (new : given.Search) (next : List (List ℕ × Group)) (h : IsNextSearch old new next) where
-      new_all : (o : List (ℕ × Statement)) (u : ℕ) (x : Statement) → Contains (orders_after m.first m.scripts n) o → Contains (units_of m) u → next_of m.scripts o u ≡ Some x → HasNote m new.notes.items o u x
+      new_all : (o : List (ℕ × Statement)) (u : ℕ) (x : Statement) → Contains (orders_after m.first m.scripts n) o → Contains (units_of m) u → next_of m.scripts o u ≡ Some x → HasNote m new.walk.notes.items o u x
       new_all o u x c d e =
           let has = has_group (state_key m) (orders_after m.first m.scripts n) o (contains_in (orders_after m.first m.scripts n) o c) in
           let held = held_of old.layer.items (layer m n) has.group at.held has.is_in in
           let unit = contains_in (units_of m) u d in
           let same = same_state m meets.sound meets.fit n n has.group.0 o has.of (contains_in (orders_after m.first m.scripts n) o c) has.key_is in
-          let noted = h.all.noted.all (statements_of held.group.history, u) x (in_contains (nexts m old.layer.items) (statements_of held.group.history, u) (in_nexts old.layer.items held.group u held.is_in unit)) (ap (λ (q : List (ℕ × Statement)). next_of m.scripts q u) held.is.order_is ∙ next_moves has.group.0 o u same unit ∙ e) in
-          note_moves has.group.0 o u x new.notes.items same unit (subst (λ (q : List (ℕ × Statement)). HasNote m new.notes.items q u x) held.is.order_is noted)
+          let noted = h.all.noted.all (order_of m held.group.turns, u) x (in_contains (nexts m old.layer.items) (order_of m held.group.turns, u) (in_nexts old.layer.items held.group u held.is_in unit)) (ap (λ (q : List (ℕ × Statement)). next_of m.scripts q u) held.is.turns.order_is ∙ next_moves has.group.0 o u same unit ∙ e) in
+          note_moves has.group.0 o u x new.walk.notes.items same unit (subst (λ (q : List (ℕ × Statement)). HasNote m new.walk.notes.items q u x) held.is.turns.order_is noted)
 
       new_only : (note : Note) → (p : List (ℕ × Statement) × ℕ) → Contains (nexts m old.layer.items) p → IsNextNote m p note → Comes m note.unit note.place note.status
       new_only note p c is =
           let of = of_nexts old.layer.items p (contains_in (nexts m old.layer.items) p c) in
           let held = weight_of old.layer.items (layer m n) of.group at.held of.group_in in
-          let order : p.0 ≡ held.weighted.0 = ap (λ (q : List (ℕ × Statement) × ℕ). q.0) (sym of.is) ∙ held.is.order_is in
+          let order : p.0 ≡ held.weighted.0 = ap (λ (q : List (ℕ × Statement) × ℕ). q.0) (sym of.is) ∙ held.is.turns.order_is in
           let unit : of.unit ≡ p.1 = ap (λ (q : List (ℕ × Statement) × ℕ). q.1) of.is in
           noted_comes n p.0 p.1 is.statement note
           (subst (λ (q : List (ℕ × Statement)). In q (orders_after m.first m.scripts n)) (sym order) (group_of (state_key m) (orders_after m.first m.scripts n) held.weighted held.is_in))
@@ -210,6 +228,7 @@ module _ (m : Meeting) where
           record {
             held = subst (λ (gs : List Group). AreHeld m gs (layer m (suc n))) (sym h.layer_is) (subst (λ (ws : List (List (ℕ × Statement) × ℕ)). AreHeld m (map (λ g. g.1) next) ws) gathers (stand_alone m (state_key m) next _ stands));
             states_are = h.states_are ∙ (λ i. at.states_are i + long i);
+            stands = h.stands;
             within = let few = h.few in let before = at.within in let now = h.states_are in let same = h.limit_is in omega arith;
             first = λ before s rest e. let noted = at.first before s rest e in record { note = noted.note; is = noted.is; noted = h.all.noted.kept noted.note noted.noted };
             all = λ k low o u x c d e.
@@ -231,17 +250,18 @@ module _ (m : Meeting) where
       omega arith
 
   -- the search goes on by one statement if there is memory
-  pub advances_one : IsMeeting m → (old new : given.Search) (seen : List Group) (next : List (List ℕ × Group)) (count : ℕ) → seen ≡ old.layer.items → ExtendsAll m seen next old.notes.items new.notes.items → length next ≤ old.limit - old.states → count ≡ length next → new.layer.items ≡ map (λ g. g.1) next → new.states ≡ old.states + count → new.limit ≡ old.limit → Advances m 1 old new
-  advances_one meets old new seen next count same all few long layer_is states_are limit_is = record {
+  pub advances_one : IsMeeting m → (old new : given.Search) (seen : List Group) (next : List (List ℕ × Group)) (count : ℕ) → seen ≡ old.layer.items → ExtendsAll m seen next old.walk.notes.items new.walk.notes.items → length next ≤ old.limit - old.states → count ≡ length next → new.layer.items ≡ map (λ g. g.1) next → new.states ≡ old.states + count → new.limit ≡ old.limit → Stands m new.walk → Advances m 1 old new
+  advances_one meets old new seen next count same all few long layer_is states_are limit_is stands = record {
     at = λ n at.
         let more : suc n ≡ n + 1 = omega arith in
         subst (λ (k : ℕ). IsAt m k new) more
         (at_next meets n old at new next (record {
-          all = subst (λ (gs : List Group). ExtendsAll m gs next old.notes.items new.notes.items) same all;
+          all = subst (λ (gs : List Group). ExtendsAll m gs next old.walk.notes.items new.walk.notes.items) same all;
           few = few;
           layer_is = layer_is;
           states_are = states_are ∙ ap (λ k. old.states + k) long;
           limit_is = limit_is;
+          stands = stands;
         }));
     limit_is = limit_is;
   }
@@ -285,23 +305,23 @@ module _ (m : Meeting) where
       let all : 0 + count_statements scripts ≡ count_statements (others m.first m.scripts) = omega (arith, ap count_statements same) in
       subst (λ (k : ℕ). k < count_states m) is (subst (λ (n : ℕ). s.limit < states_within m n) all (over 0 at))
 
-  -- the histories of what is held
-  pub held_histories : (gs : List Group) (ws : List (List (ℕ × Statement) × ℕ)) → AreHeld m gs ws → AllByRecursion (HasHistory m) gs
-  held_histories [] ws h = tt
-  held_histories (g ∷ gs) [] h = absurd h
-  held_histories (g ∷ gs) (w ∷ ws) h = (h.0.history_of, held_histories gs ws h.1)
+  -- the turns of what is held have statements
+  pub held_there : (gs : List Group) (ws : List (List (ℕ × Statement) × ℕ)) → AreHeld m gs ws → AllByRecursion (HaveStatements m) gs
+  held_there [] ws h = tt
+  held_there (g ∷ gs) [] h = absurd h
+  held_there (g ∷ gs) (w ∷ ws) h = (h.0.turns.there, held_there gs ws h.1)
 
   -- the statuses that are noted at the end are exactly those that come
-  pub all_statuses : (s : given.Search) → IsAt m (count_statements (others m.first m.scripts)) s → (a : Answered) → AreOfNotes s.notes.items a.unit (a.place - 1) a.statuses.items → AreStatuses m a
+  pub all_statuses : (s : given.Search) → IsAt m (count_statements (others m.first m.scripts)) s → (a : Answered) → AreOfNotes s.walk.notes.items a.unit (a.place - 1) a.statuses.items → AreStatuses m a
   all_statuses s at a h = record {
     rising = h.rising;
     come = λ code c. at.only (record { unit = a.unit; place = a.place - 1; status = code }) (h.noted code c);
     all = λ code comes.
         let has = has_note comes in
-        h.all code (subst (λ (k : Note). Contains s.notes.items k) (is_note comes has) has.noted);
+        h.all code (subst (λ (k : Note). Contains s.walk.notes.items k) (is_note comes has) has.noted);
   } where
     -- a statement that comes is in the script that is made first, or after it
-    has_note : {code : ℕ} (comes : Comes m a.unit (a.place - 1) code) → HasNote m s.notes.items comes.before a.unit comes.statement
+    has_note : {code : ℕ} (comes : Comes m a.unit (a.place - 1) code) → HasNote m s.walk.notes.items comes.before a.unit comes.statement
     has_note {code} comes =
         let front = made_first m.first m.scripts in
         let order = comes.before ++ (a.unit, comes.statement) ∷ comes.rest in
@@ -316,11 +336,11 @@ module _ (m : Meeting) where
               let left_is = begun_left m.scripts front (length p) (front ++ p) middle.before in
               let more = next_left m.scripts (front ++ p) a.unit comes.statement middle.next.next in
               let all = first_left m.scripts m.first in
-              subst (λ (o : List (ℕ × Statement)). HasNote m s.notes.items o a.unit comes.statement) split.1
+              subst (λ (o : List (ℕ × Statement)). HasNote m s.walk.notes.items o a.unit comes.statement) split.1
               (at.all (length p) (omega arith) (front ++ p) a.unit comes.statement (in_contains (orders_after m.first m.scripts (length p)) (front ++ p) middle.before) (in_contains (units_of m) a.unit middle.next.unit) middle.next.next)
         ]
 
-    is_note : {code : ℕ} (comes : Comes m a.unit (a.place - 1) code) (has : HasNote m s.notes.items comes.before a.unit comes.statement) → has.note ≡ record { unit = a.unit; place = a.place - 1; status = code }
+    is_note : {code : ℕ} (comes : Comes m a.unit (a.place - 1) code) (has : HasNote m s.walk.notes.items comes.before a.unit comes.statement) → has.note ≡ record { unit = a.unit; place = a.place - 1; status = code }
     is_note {code} comes has =
         let outcomes : Some has.is.status.outcome ≡ Some comes.status.outcome = sym has.is.status.outcome_is ∙ comes.status.outcome_is in
         let same : has.is.status.outcome ≡ comes.status.outcome = cc in

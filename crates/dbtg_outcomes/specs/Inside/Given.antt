@@ -6,7 +6,7 @@ use Rattle.dbtg_outcomes.specs.Inside.Grouped.{sum_of}
 
 -- a group as a result
 abbrev pub one_result : Group → OneResult
-one_result g = record { turns = map (λ e. e.unit) g.history; orders = g.orders }
+one_result g = record { turns = map (λ t. t.unit) g.turns; orders = g.orders }
 
 -- this many orders, and those of groups
 abbrev pub all_orders : Option ℕ → List Group → Option ℕ

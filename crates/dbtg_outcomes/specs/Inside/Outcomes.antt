@@ -9,18 +9,7 @@ use Rattle.dbtg_step.specs.Core.Whole.{Making}
 use Rattle.dbtg_outcomes.specs.declared.notes.Note.{Note}
 use Rattle.dbtg_outcomes.specs.Results.{Meeting, state_of}
 use Rattle.dbtg_outcomes.specs.Inside.Search.{AreNotedOf}
-
--- the run to which an order of statements leads
-pub record IsRunOf (m : Meeting) (o : List (ℕ × Statement)) (run : Run) : Type 0 where
-  pub order_is : statements_of run.history ≡ o
-  pub history_of : IsHistoryOf m.schema m.capacity (length m.scripts) run.history
-  pub image_is : run.image ≡ image_of m.schema m.capacity (state_of m o).database
-  pub units_are : run.units ≡ (state_of m o).units
-
--- a database of this meeting, after these statements
-pub record IsMaking (m : Meeting) (o : List (ℕ × Statement)) (making : Making) : Type 0 where
-  pub same : making ≡ record { schema = m.schema; capacity = m.capacity; units = length m.scripts; history = making.history }
-  pub made : statements_of making.history ≡ o
+use Rattle.dbtg_outcomes.specs.Inside.Walks.{IsMaking}
 
 -- whatever statements were made and noted, one more is made and noted
 pub record MakesNoted (m : Meeting) (u : ℕ) (x : Statement) (old new : Making) (before after : List Note) : Type 0 where

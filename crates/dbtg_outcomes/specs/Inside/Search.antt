@@ -1,15 +1,14 @@
 -- What a search among orders knows once n statements are made.
 -- m is a meeting, o an order, u a unit, w a counted order, n the number of statements that are made.
-use Rattle.std.specs.Prelude.{ℕ, ◌≡◌, ◌<◌, ◌≤◌, ◌⊎◌, List, [], ◌∷◌, ◌++◌, ⊤, Some, length, map, Contains}
+use Rattle.std.specs.Prelude.{ℕ, ◌≡◌, ◌<◌, ◌≤◌, ◌⊎◌, true, List, [], ◌∷◌, ◌++◌, ⊤, Some, length, map, Contains}
 use Rattle.std.specs.List.{range_with_len}
 use Rattle.dbtg_unit.specs.declared.statement.Statement.{Statement}
-use Rattle.dbtg_unit.specs.Database.Laws.Replay.{IsHistoryOf}
-use Rattle.dbtg_unit.specs.Database.Laws.Replaying.{statements_of}
 use Rattle.dbtg_outcomes.specs.declared.groups.Group.{Group}
 use Rattle.dbtg_outcomes.specs.declared.notes.Note.{Note}
 use Rattle.dbtg_outcomes.specs.declared.search.Search as given
 use Rattle.dbtg_outcomes.specs.Counted.{counted}
 use Rattle.dbtg_outcomes.specs.Inside.Gathered.{gathered}
+use Rattle.dbtg_outcomes.specs.Inside.Walks.{LeadTo, Stands}
 use Rattle.dbtg_outcomes.specs.Groups.{groups}
 use Rattle.dbtg_outcomes.specs.Orders.{made, made_first, next_of, orders_after}
 use Rattle.dbtg_outcomes.specs.Outcomes.{Comes, HasStatus, states_within}
@@ -39,10 +38,9 @@ order_alone m script = made_first m.first m.scripts ++ map (λ x. (1, x)) script
 abbrev pub layer : Meeting → ℕ → List CountedOrder
 layer m n = groups (state_key m) (orders_after m.first m.scripts n)
 
--- group g has the history of order w.0, and counts w.1 orders
+-- group g has the turns of order w.0, and counts w.1 orders
 pub record IsHeld (m : Meeting) (g : Group) (w : CountedOrder) : Type 0 where
-  pub order_is : statements_of g.history ≡ w.0
-  pub history_of : IsHistoryOf m.schema m.capacity (length m.scripts) g.history
+  pub turns : LeadTo m g.turns w.0
   pub orders_are : g.orders ≡ counted w.1
 
 -- one after another, the groups are those of these orders
@@ -115,6 +113,7 @@ pub record IsAt (m : Meeting) (n : ℕ) (s : given.Search) : Type 0 where
   pub held : AreHeld m s.layer.items (layer m n)
   pub states_are : s.states ≡ states_within m n
   pub within : s.states ≤ s.limit
-  pub first : AllNoted m (made_first m.first m.scripts) s.notes.items
-  pub all : (k : ℕ) → k < n → (o : MadeOrder) (u : ℕ) (x : Statement) → Contains (orders_after m.first m.scripts k) o → Contains (range_with_len 1 (length m.scripts)) u → next_of m.scripts o u ≡ Some x → HasNote m s.notes.items o u x
-  pub only : (note : Note) → Contains s.notes.items note → Comes m note.unit note.place note.status
+  pub stands : Stands m s.walk
+  pub first : AllNoted m (made_first m.first m.scripts) s.walk.notes.items
+  pub all : (k : ℕ) → k < n → (o : MadeOrder) (u : ℕ) (x : Statement) → Contains (orders_after m.first m.scripts k) o → Contains (range_with_len 1 (length m.scripts)) u → next_of m.scripts o u ≡ Some x → HasNote m s.walk.notes.items o u x
+  pub only : (note : Note) → Contains s.walk.notes.items note → Comes m note.unit note.place note.status

@@ -1,21 +1,21 @@
 -- What the steps of a search do.
 -- m is a meeting, g a group, o an order, u a unit, w a counted order, n the number of statements that are made.
-use Rattle.std.specs.Prelude.{ℕ, ◌≡◌, ◌+◌, ◌<◌, List, [], ◌∷◌, ◌++◌, map, length}
+use Rattle.std.specs.Prelude.{ℕ, ◌≡◌, ◌+◌, ◌<◌, List, [], ◌∷◌, ◌++◌, Some, map, length, true}
 use Rattle.std.specs.List.{flat_map}
-use Rattle.dbtg_unit.specs.Database.Laws.Replay.{IsHistoryOf}
-use Rattle.dbtg_unit.specs.Database.Laws.Replaying.{statements_of}
 use Rattle.dbtg_outcomes.specs.declared.groups.Group.{Group}
 use Rattle.dbtg_outcomes.specs.declared.notes.Note.{Note}
 use Rattle.dbtg_outcomes.specs.declared.search.Search as given
+use Rattle.dbtg_outcomes.specs.declared.turns.Turn.{Turn}
 use Rattle.dbtg_outcomes.specs.Inside.Gathered.{each_of, gathered}
 use Rattle.dbtg_outcomes.specs.Orders.{extended}
 use Rattle.dbtg_outcomes.specs.Outcomes.{states_within}
 use Rattle.dbtg_outcomes.specs.Results.{Meeting, result_text, state_key, units_of}
+use Rattle.dbtg_outcomes.specs.Inside.Walks.{Stands, have_statements, order_of}
 use Rattle.dbtg_outcomes.specs.Inside.Search.{AreHeld, AreNoted, CountedOrder, Hold, IsAt, IsHeld, MadeOrder, OrderAndUnit}
 
--- the group has a history of the meeting's units
-abbrev pub HasHistory : Meeting → Group → Type 0
-HasHistory m g = IsHistoryOf m.schema m.capacity (length m.scripts) g.history
+-- each turn of the group has a statement
+abbrev pub HaveStatements : Meeting → Group → Type 0
+HaveStatements m g = have_statements m g.turns ≡ true
 
 -- ONE STATEMENT MORE
 
@@ -25,7 +25,7 @@ with_each o us = map (λ u. (o, u)) us
 
 -- the order of each group beside each unit: what can be asked for a next statement
 abbrev pub nexts : Meeting → List Group → List OrderAndUnit
-nexts m gs = flat_map (λ g. with_each (statements_of g.history) (units_of m)) gs
+nexts m gs = flat_map (λ g. with_each (order_of m g.turns) (units_of m)) gs
 
 -- the orders with one statement more; each counts as many orders as the one that it extends
 abbrev pub next_orders : Meeting → List CountedOrder → List CountedOrder
@@ -35,7 +35,7 @@ next_orders m ws = flat_map (λ w. each_of w.1 (extended m.scripts w.0 (units_of
 -- and of the longer ones, and the statuses of these statements are noted
 pub record Extends (m : Meeting) (g : Group) (us : List ℕ) (old new : List (List ℕ × Group)) (before after : List Note) : Type 0 where
   pub holds : (seen : List CountedOrder) (w : CountedOrder) → IsHeld m g w → Hold m (state_key m) old seen → Hold m (state_key m) new (seen ++ each_of w.1 (extended m.scripts w.0 us))
-  pub noted : AreNoted m (with_each (statements_of g.history) us) before after
+  pub noted : AreNoted m (with_each (order_of m g.turns) us) before after
 
 -- after the order of each of these groups, each unit that has a next statement makes it
 pub record ExtendsAll (m : Meeting) (gs : List Group) (new : List (List ℕ × Group)) (before after : List Note) : Type 0 where
@@ -47,6 +47,14 @@ abbrev pub LeadToMore : Meeting → List Group → ℕ → Type 0
 LeadToMore m gs most = (ws : List CountedOrder) → AreHeld m gs ws → most < length (gathered (state_key m) [] (next_orders m ws))
 
 -- THE SEARCH
+
+-- the search has one state, to which one order leads
+pub record IsAtState (m : Meeting) (ts : List Turn) (notes : List Note) (limit : ℕ) (s : given.Search) : Type 0 where
+  pub layer_is : s.layer.items ≡ record { turns = ts; orders = Some 1 } ∷ []
+  pub states_are : s.states ≡ 1
+  pub limit_is : s.limit ≡ limit
+  pub stands : Stands m s.walk
+  pub notes_are : s.walk.notes.items ≡ notes
 
 -- the search has made some number of statements
 pub record IsUnderWay (m : Meeting) (s : given.Search) : Type 0 where

@@ -2,7 +2,6 @@
 -- m is a meeting, w a wish, o an order, n how many statements are made.
 use Rattle.std.specs.Prelude.{ℕ, ◌≡◌, ◌<◌, ◌+◌, ◌-◌, ◌++◌, ◌∷◌, [], Bool, true, false, List, Option, Some, None, map, Contains}
 use Rattle.dbtg_unit.specs.declared.statement.Statement.{Statement}
-use Rattle.dbtg_unit.specs.Database.Laws.Replaying.{statements_of}
 use Rattle.dbtg_outcomes.specs.declared.groups.Group.{Group}
 use Rattle.dbtg_outcomes.specs.declared.wishes.Hunt.{Hunt}
 use Rattle.dbtg_outcomes.specs.declared.wishes.Wish.{Wish}
@@ -11,6 +10,7 @@ use Rattle.dbtg_outcomes.specs.Outcomes.{HasStatus, states_within}
 use Rattle.dbtg_outcomes.specs.Results.{Meeting}
 use Rattle.dbtg_outcomes.specs.Wishes.{IsJudged, breaks}
 use Rattle.dbtg_outcomes.specs.Inside.Search.{IsAt}
+use Rattle.dbtg_outcomes.specs.Inside.Walks.{order_of}
 
 -- after an order the statement of the wish comes next, with a status that breaks it
 pub record Breaks (m : Meeting) (w : Wish) (o : List (ℕ × Statement)) : Type 0 where
@@ -28,9 +28,9 @@ IsBroken m w o false = Breaks m w o → ⊥
 
 -- the turns of the order of a group after which it does, and then the turn of the wish; none if there is no such group
 abbrev pub IsBrokenIn : Meeting → Wish → List Group → Option (List ℕ) → Type 0
-IsBrokenIn m w gs None = (g : Group) → Contains gs g → Breaks m w (statements_of g.history) → ⊥
+IsBrokenIn m w gs None = (g : Group) → Contains gs g → Breaks m w (order_of m g.turns) → ⊥
 IsBrokenIn m w gs (Some turns) =
-    (g : Group) × Contains gs g × Breaks m w (statements_of g.history) × (turns ≡ map (λ e. e.unit) g.history ++ w.unit ∷ [])
+    (g : Group) × Contains gs g × Breaks m w (order_of m g.turns) × (turns ≡ map (λ t. t.unit) g.turns ++ w.unit ∷ [])
 
 -- no order of fewer statements than n does
 abbrev pub IsUnbroken : Meeting → Wish → ℕ → Type 0

@@ -1,11 +1,23 @@
+use Rattle.std.proofs.Common.{◌∙◌, ap, sym, subst}
+use Rattle.std.proofs.lemmas.Result.{on_ok_weaker}
+use Rattle.dbtg_unit.specs.Database.Laws.Replaying.{statements_of}
+use Rattle.dbtg_step.specs.Core.Whole.{Making}
+use Rattle.dbtg_outcomes.specs.declared.turns.Turn.{Turn}
+use Rattle.dbtg_outcomes.specs.Inside.Walks.{IsMaking, order_of}
+use Rattle.dbtg_outcomes.specs.Results.{result_text}
 use Rattle.dbtg_outcomes.proofs.States.Results.{joins_one}
-use Rattle.dbtg_outcomes.proofs.States.Runs.{own_run}
+use Rattle.dbtg_outcomes.proofs.States.Walks.{own_order}
 use Rattle.dbtg_outcomes.proofs.outcomes.join_result.Goals as goal
 
-pub result_key-requires-clause-run : goal.result_key-requires-clause-run
-result_key-requires-clause-run c = own_run c.args.meeting.now _ c.in_ok-run.run' c.in_ok-run.ensures
+pub result_key-requires-clause-making : goal.result_key-requires-clause-making
+result_key-requires-clause-making c = subst (λ (k : Making). IsMaking c.args.meeting.now (statements_of k.history) k) (sym c.database.ensures) (own_order c.args.meeting.now c.go_to.new.walk c.in_ok-go_to.ensures.stands)
 
-pub returns : goal.returns
-returns c =
-    joins_one c.args.meeting.now c.args.group.now c.as_slice.result.now c.in_ok-run.run' c.in_ok-key.key.items c.in_ok-key.history c.args.results.now c.add.new.self
-    c.as_slice.ensures c.in_ok-run.ensures c.in_ok-key.ensures.key c.in_ok-key.ensures.history c.in_ok-add.ensures
+pub returns-clause-joins : goal.returns-clause-joins
+returns-clause-joins c =
+    let m = c.args.meeting.now in
+    let stands = c.in_ok-go_to.ensures.stands in
+    let turns = c.in_ok-go_to.ensures.turns ∙ c.as_slice-turns.ensures in
+    let key = c.in_ok-key.ensures ∙ ap (λ (k : Making). result_text m (statements_of k.history)) c.database.ensures ∙ ap (result_text m) (stands.is_making.made ∙ ap (order_of m) turns) in
+    on_ok_weaker c.add.result
+    (λ added. joins_one m c.args.group.now c.of-turns.result c.in_ok-key.key.items c.args.results.now c.add.new.self c.requires.group (c.of-turns.ensures ∙ c.in_ok-from_slice.ensures.items ∙ c.as_slice-turns.ensures) key added)
+    c.add.ensures

@@ -20,27 +20,13 @@ returns-in_err-search-clause-stopped g c =
     let told = err_from_is_err_and c.from_residual.result c.from_residual.ensures.1 in
     rw (told.1, told.2) (λ e. over_first c.args.meeting.now c.args.limit (c.in_err-search.ensures.stopped e))
 
-pub returns-in_err-pass-clause-stopped : goal.returns-in_err-pass-clause-stopped
-returns-in_err-pass-clause-stopped g c =
-    let told = err_from_is_err_and c.from_residual-in_err-pass.result c.from_residual-in_err-pass.ensures.1 in
-    rw (told.1, told.2) (λ e. over_all c.args.meeting.now c.others-left.result.now c.in_ok-search.search c.args.limit c.others-left.ensures c.in_ok-search.ensures.limit c.in_ok-search.ensures.at (c.in_err-pass.ensures.stopped e))
-
-pub returns-clause-at : goal.returns-clause-at
-returns-clause-at g c =
-    let m = c.args.meeting.now in
-    let all : 0 + count_statements c.others-left.result.now ≡ count_statements (others m.first m.scripts) = omega (arith, ap count_statements c.others-left.ensures) in
-    subst (λ (n : ℕ). IsAt m n c.pass.new.self) all (c.in_ok-pass.ensures.advances.at 0 c.in_ok-search.ensures.at)
-
-pub returns-clause-limit : goal.returns-clause-limit
-returns-clause-limit g c = c.in_ok-pass.ensures.advances.limit_is ∙ c.in_ok-search.ensures.limit
-
 pub returns-in_err-search-clause-at_once : goal.returns-in_err-search-clause-at_once
 returns-in_err-search-clause-at_once g c = λ none.
     let told = err_from_is_err_and c.from_residual.result c.from_residual.ensures.1 in
     rw (told.1, told.2) (c.in_err-search.ensures.at_once none)
 
-pub returns-in_err-pass-clause-at_once : goal.returns-in_err-pass-clause-at_once
-returns-in_err-pass-clause-at_once g c = λ none. absurd (c.in_ok-search.ensures.at_once none)
-
-pub returns-clause-at_once : goal.returns-clause-at_once
-returns-clause-at_once g c = λ none. absurd (c.in_ok-search.ensures.at_once none)
+pub returns-in-Ok-clause-at : goal.returns-in-Ok-clause-at
+returns-in-Ok-clause-at g c =
+    let m = c.args.meeting.now in
+    let all : 0 + count_statements c.others-left.result.now ≡ count_statements (others m.first m.scripts) = omega (arith, ap count_statements c.others-left.ensures) in
+    subst (λ (n : ℕ). IsAt m n c.pass.new.self) all (c.in-Ok.ensures.advances.at 0 c.in_ok-search.ensures.at)

@@ -16,9 +16,9 @@ returns-after-get_index_mut c =
     elim c.match-get_index_mut.branch [
       | in-Some-get_index_mut w ↦
           let known = w.in-Some-get_index_mut.known.now in
-          let new : Group = record { history = known.history; orders = w.sum_of-known.result } in
+          let new : Group = record { turns = known.turns; orders = w.sum_of-known.result } in
           rw w.self-inside-is
           (subst (λ (l : List (List ℕ × Group)). IsAdded l c.args.key.items c.args.group (viewed (λ k. k.items) (set_value_at es c.in-Some.at new))) c.self.view_is
-          (inr (c.in-Some.at, added_more (λ k. k.items) es c.in-Some.at c.args.key.items c.args.group.orders known new at (sym c.get_index_mut.ensures.value ∙ ap option_copied_mut w.in-Some-get_index_mut.is) (λ i. record { history = known.history; orders = w.sum_of-known.ensures i }))))
+          (inr (c.in-Some.at, added_more (λ k. k.items) es c.in-Some.at c.args.key.items c.args.group.orders known new at (sym c.get_index_mut.ensures.value ∙ ap option_copied_mut w.in-Some-get_index_mut.is) (λ i. record { turns = known.turns; orders = w.sum_of-known.ensures i }))))
       | in_default w ↦ absurd (some_at (λ k. k.items) es c.in-Some.at c.args.key.items at (sym c.get_index_mut.ensures.value ∙ ap option_copied_mut w.in_default.is))
     ]

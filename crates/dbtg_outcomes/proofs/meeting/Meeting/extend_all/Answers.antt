@@ -2,25 +2,27 @@ use Rattle.std.proofs.Common.{◌≡◌, ◌≤◌, ℕ, sym, subst, List, [], l
 use Rattle.std.proofs.lemmas.List.{take_all}
 use Rattle.std.proofs.lemmas.Result.{err_from_is_err_and}
 use Rattle.dbtg_outcomes.specs.declared.groups.Group.{Group}
-use Rattle.dbtg_outcomes.specs.Inside.Steps.{ExtendsAll, HasHistory}
+use Rattle.dbtg_outcomes.specs.Inside.Steps.{ExtendsAll, HaveStatements}
 use Rattle.dbtg_outcomes.proofs.Orders.Extending.{extends_group, extends_nothing, lead_to_more}
 use Rattle.dbtg_outcomes.proofs.meeting.Meeting.extend_all.Goals as goal
 
 pub loop-group-init : goal.loop-group-init
 loop-group-init g c = record {
-  all = subst (λ (l : List (List ℕ × Group)). ExtendsAll c.args.self.now [] l c.args.notes.now.items c.args.notes.now.items) (sym c.none-next.ensures) (extends_nothing c.args.self.now c.args.notes.now.items);
+  stands = c.requires.stands;
+  all = subst (λ (l : List (List ℕ × Group)). ExtendsAll c.args.self.now [] l c.args.walk.now.notes.items c.args.walk.now.notes.items) (sym c.none-next.ensures) (extends_nothing c.args.self.now c.args.walk.now.notes.items);
   few = subst (λ (l : List (List ℕ × Group)). length l ≤ c.args.most) (sym c.none-next.ensures) (omega arith);
 }
 
-pub extend-requires-clause-history : goal.extend-requires-clause-history
-extend-requires-clause-history g c =
-    subst (λ (g : Group). HasHistory c.args.self.now g) (sym c.group-item.is) (c.requires.histories c.loop-group.group-index c.group-item.result (omega (arith, c.loop-group-test.true)))
+pub extend-requires-clause-group : goal.extend-requires-clause-group
+extend-requires-clause-group g c =
+    subst (λ (g : Group). HaveStatements c.args.self.now g) (sym c.group-item.is) (c.requires.groups c.loop-group.group-index c.group-item.result (omega (arith, c.loop-group-test.true)))
 
 pub loop-group-preserved : goal.loop-group-preserved
 loop-group-preserved g c = record {
+  stands = c.in_ok-extend.ensures.stands;
   all =
-      extends_group c.args.self.now c.args.layer.now c.loop-group.group-index c.group-item.result c.loop-group.next c.extend.new.next c.args.notes.now.items c.loop-group.notes.items c.extend.new.notes.items
-      (omega (arith, c.loop-group-test.true)) c.group-item.is c.loop-group.invariant.all c.in_ok-extend.ensures;
+      extends_group c.args.self.now c.args.layer.now c.loop-group.group-index c.group-item.result c.loop-group.next c.extend.new.next c.args.walk.now.notes.items c.loop-group.walk.notes.items c.extend.new.walk.notes.items
+      (omega (arith, c.loop-group-test.true)) c.group-item.is c.loop-group.invariant.all c.in_ok-extend.ensures.extends;
   few = omega (arith, c.len.ensures);
 }
 
@@ -31,10 +33,10 @@ returns-in_err-extend-clause-stopped g c =
 
 pub returns-then-most-len-clause-stopped : goal.returns-then-most-len-clause-stopped
 returns-then-most-len-clause-stopped g c = λ e.
-    lead_to_more c.args.self.now c.args.layer.now c.loop-group.group-index c.group-item.result c.loop-group.next c.extend.new.next c.args.notes.now.items c.loop-group.notes.items c.extend.new.notes.items c.args.most
-    (omega (arith, c.loop-group-test.true)) c.group-item.is c.loop-group.invariant.all c.in_ok-extend.ensures (omega (arith, c.len.ensures))
+    lead_to_more c.args.self.now c.args.layer.now c.loop-group.group-index c.group-item.result c.loop-group.next c.extend.new.next c.args.walk.now.notes.items c.loop-group.walk.notes.items c.extend.new.walk.notes.items c.args.most
+    (omega (arith, c.loop-group-test.true)) c.group-item.is c.loop-group.invariant.all c.in_ok-extend.ensures.extends (omega (arith, c.len.ensures))
 
 pub returns-clause-all : goal.returns-clause-all
 returns-clause-all g c =
     let whole : take c.loop-group.group-index c.args.layer.now ≡ c.args.layer.now = take_all c.loop-group.group-index c.args.layer.now (omega (arith, c.loop-group-test.false)) in
-    subst (λ (gs : List Group). ExtendsAll c.args.self.now gs c.loop-group.next c.args.notes.now.items c.loop-group.notes.items) whole c.loop-group.invariant.all
+    subst (λ (gs : List Group). ExtendsAll c.args.self.now gs c.loop-group.next c.args.walk.now.notes.items c.loop-group.walk.notes.items) whole c.loop-group.invariant.all

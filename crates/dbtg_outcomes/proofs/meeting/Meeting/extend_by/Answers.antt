@@ -1,15 +1,20 @@
-use Rattle.std.proofs.Common.{◌∙◌, ap, sym, List}
-use Rattle.std.specs.Prelude.{option_map}
-use Rattle.dbtg_unit.specs.declared.unit.Entry.{Entry}
-use Rattle.dbtg_unit.specs.Database.Laws.Replaying.{statements_of}
-use Rattle.dbtg_outcomes.specs.Orders.{next_of}
-use Rattle.dbtg_outcomes.proofs.Orders.Extending.{extends_ended}
+use Rattle.std.proofs.Common.{◌≡◌, ◌∙◌, ap, sym, ℕ}
+use Rattle.std.specs.Prelude.{is_some, option_map}
+use Rattle.dbtg_outcomes.specs.declared.turns.Turn.{Turn}
+use Rattle.dbtg_outcomes.specs.Inside.Walks.{next_turn, statement_at}
+use Rattle.dbtg_outcomes.proofs.Orders.Extending.{extends_no_turn}
 use Rattle.dbtg_outcomes.proofs.meeting.Meeting.extend_by.Goals as goal
 
-pub extend_with-requires-clause-next : goal.extend_with-requires-clause-next
-extend_with-requires-clause-next c =
-    ap (λ (es : List Entry). next_of c.args.self.now.scripts (statements_of es) c.args.unit) (sym c.as_slice.ensures) ∙ sym c.next_statement.ensures ∙ ap (option_map (λ x. x.now)) c.in-Some.is
+pub extend_with-requires-clause-turn : goal.extend_with-requires-clause-turn
+extend_with-requires-clause-turn c =
+    let is = c.next_turn-turn.ensures ∙ ap (next_turn c.args.unit) c.as_slice.ensures in
+    is ∙ ap (λ (u : ℕ). next_turn u c.args.group.now.turns) (sym (ap (λ (t : Turn). t.unit) is))
 
-pub returns-in-None : goal.returns-in-None
-returns-in-None c =
-    extends_ended c.args.self.now c.args.group.now c.as_slice.result.now c.args.unit c.args.next.now c.args.notes.now.items c.as_slice.ensures (sym c.next_statement.ensures ∙ ap (option_map (λ x. x.now)) c.in-None.is)
+pub extend_with-requires-clause-there : goal.extend_with-requires-clause-there
+extend_with-requires-clause-there c = ap is_some (sym c.statement_at.ensures ∙ ap (option_map (λ x. (c.next_turn-turn.result.unit, x.now))) c.in-Some.is)
+
+pub returns-in-None-clause-extends : goal.returns-in-None-clause-extends
+returns-in-None-clause-extends c =
+    let is = c.next_turn-turn.ensures ∙ ap (next_turn c.args.unit) c.as_slice.ensures in
+    extends_no_turn c.args.self.now c.args.group.now c.next_turn-turn.result c.args.unit c.args.next.now c.args.walk.now.notes.items c.requires.group is
+    (sym c.statement_at.ensures ∙ ap (option_map (λ x. (c.next_turn-turn.result.unit, x.now))) c.in-None.is)

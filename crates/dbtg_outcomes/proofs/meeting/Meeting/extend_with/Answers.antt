@@ -1,16 +1,22 @@
-use Rattle.dbtg_unit.specs.Database.Laws.Replaying.{statements_of}
-use Rattle.dbtg_outcomes.proofs.Orders.Extending.{extends_one}
-use Rattle.dbtg_outcomes.proofs.Orders.Nexts.{next_fitting}
-use Rattle.dbtg_outcomes.proofs.States.Runs.{own_run}
+use Rattle.std.proofs.Common.{◌∙◌, ◌++◌, ◌∷◌, [], List, ap, refl, subst}
+use Rattle.std.proofs.lemmas.Result.{on_ok_weaker}
+use Rattle.dbtg_outcomes.specs.declared.turns.Turn.{Turn}
+use Rattle.dbtg_outcomes.specs.Inside.Statuses.{HasNoted}
+use Rattle.dbtg_outcomes.specs.Inside.Walks.{HasStatusIn, order_of}
+use Rattle.dbtg_outcomes.proofs.Orders.Extending.{extends_turn}
+use Rattle.dbtg_outcomes.proofs.States.Walks.{stands_noted}
 use Rattle.dbtg_outcomes.proofs.meeting.Meeting.extend_with.Goals as goal
 
-pub extended-requires-clause-fitting : goal.extended-requires-clause-fitting
-extended-requires-clause-fitting c = next_fitting c.args.self.now c.requires.meeting (statements_of c.args.group.now.history) c.args.unit c.args.statement.now c.requires.numbered c.requires.within c.requires.next
+pub add_state-requires-clause-stands : goal.add_state-requires-clause-stands
+add_state-requires-clause-stands c = c.in_ok-status.ensures.stands
 
-pub add_state-requires-clause-run : goal.add_state-requires-clause-run
-add_state-requires-clause-run c = own_run c.args.self.now _ c.in_ok-run.run' c.in_ok-run.ensures.run
+pub returns-clause-stands : goal.returns-clause-stands
+returns-clause-stands c = on_ok_weaker c.enter_note.result (λ _. stands_noted c.args.self.now (record c.turned.new.walk { notes = c.enter_note.new.notes }) c.turned.new.walk c.in_ok-status.ensures.stands refl refl) c.enter_note.ensures
 
-pub returns : goal.returns
-returns c =
-    extends_one c.args.self.now c.args.group.now c.as_slice-history.result.now c.args.unit c.args.statement.now c.in_ok-run.run' c.made_by.result c.in_ok-run.status c.args.next.now c.add_state.new.next c.args.notes.now.items c.enter_note.new.notes.items
-    c.as_slice-history.ensures c.requires.next c.in_ok-run.ensures.run c.in_ok-run.ensures.status c.made_by.ensures c.in_ok-add_state.ensures c.in_ok-enter_note.ensures
+pub returns-clause-extends : goal.returns-clause-extends
+returns-clause-extends c =
+    on_ok_weaker c.enter_note.result
+    (λ noted. extends_turn c.args.self.now c.args.group.now c.args.turn c.turned.new.walk.turns.items c.in_ok-status.status c.args.next.now c.add_state.new.next c.args.walk.now.notes.items c.enter_note.new.notes.items
+    c.requires.group c.requires.turn c.requires.there (c.in_ok-status.ensures.turns ∙ ap (λ (us : List Turn). us ++ c.args.turn ∷ []) c.as_slice.ensures) (subst (λ (us : List Turn). HasStatusIn c.args.self.now (order_of c.args.self.now us) c.args.turn c.in_ok-status.status) c.as_slice.ensures c.in_ok-status.ensures.status) c.in_ok-add_state.ensures
+    (subst (λ ns. HasNoted ns (record { unit = c.args.turn.unit; place = c.args.turn.place; status = c.in_ok-status.status }) c.enter_note.new.notes.items) c.in_ok-status.ensures.notes noted))
+    c.enter_note.ensures

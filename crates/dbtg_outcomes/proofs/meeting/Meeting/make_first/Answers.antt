@@ -4,7 +4,7 @@ use Rattle.std.proofs.lemmas.Result.{on_ok_weaker}
 use Rattle.dbtg_unit.specs.declared.statement.Statement.{Statement}
 use Rattle.dbtg_unit.specs.Database.Statements.Fits.{fits}
 use Rattle.dbtg_outcomes.specs.declared.notes.Note.{Note}
-use Rattle.dbtg_outcomes.specs.Inside.Outcomes.{IsMaking}
+use Rattle.dbtg_outcomes.specs.Inside.Walks.{IsMaking}
 use Rattle.dbtg_outcomes.specs.Inside.Search.{AreNotedOf}
 use Rattle.dbtg_outcomes.specs.Orders.{first_script, made, made_first}
 use Rattle.dbtg_outcomes.specs.Results.{Meeting}

@@ -1,7 +1,7 @@
-use Rattle.std.proofs.Common.{rules, arith, refl, ◌∙◌, ap, sym, subst, length, List}
-use Rattle.dbtg_unit.specs.declared.unit.Entry.{Entry}
-use Rattle.dbtg_unit.specs.Database.Laws.Replay.{IsHistoryOf}
-use Rattle.dbtg_unit.specs.Database.Laws.Replaying.{statements_of}
+use Rattle.std.proofs.Common.{arith, refl, sym, subst, List}
+use Rattle.dbtg_outcomes.specs.declared.turns.Turn.{Turn}
+use Rattle.dbtg_outcomes.specs.Inside.Search.{order_alone}
+use Rattle.dbtg_outcomes.specs.Inside.Walks.{LeadTo}
 use Rattle.dbtg_outcomes.proofs.States.Alone.{at_alone, over_alone}
 use Rattle.dbtg_outcomes.proofs.search.Search.alone.Goals as goal
 
@@ -11,7 +11,9 @@ returns-then-limit-script-clause-stopped g c = λ _. over_alone c.args.meeting.n
 pub returns-clause-at : goal.returns-clause-at
 returns-clause-at g c =
     let m = c.args.meeting.now in
-    let run = c.in_ok-run_alone.ensures.run in
-    let same = c.into_history-history.ensures in
-    at_alone m c.args.script.now c.requires.alone _ c.into_history-history.result (search rules) refl (omega (arith, c.if-limit-script.false)) (ap statements_of same ∙ run.order_is)
-    (subst (λ (es : List Entry). IsHistoryOf m.schema m.capacity (length m.scripts) es) (sym same) run.history_of) c.in_ok-run_alone.ensures.noted
+    let script = c.args.script.now in
+    at_alone m script c.requires.alone c.in_ok-search.search c.of-turns.result c.note_alone.new.notes.items c.args.limit _ c.in_ok-search.ensures (omega (arith, c.if-limit-script.false)) refl
+    (subst (λ (ts : List Turn). LeadTo m ts (order_alone m script)) (sym c.of-turns.ensures) c.in_ok-turns_alone.ensures) c.in_ok-note_alone.ensures
+
+pub returns-clause-limit : goal.returns-clause-limit
+returns-clause-limit g c = c.in_ok-search.ensures.limit_is

@@ -1,7 +1,7 @@
-use Rattle.std.proofs.Common.{rules, arith, refl, ◌∙◌, ap, sym, subst, length, List}
-use Rattle.dbtg_unit.specs.declared.unit.Entry.{Entry}
-use Rattle.dbtg_unit.specs.Database.Laws.Replay.{IsHistoryOf}
-use Rattle.dbtg_unit.specs.Database.Laws.Replaying.{statements_of}
+use Rattle.std.proofs.Common.{arith, sym, subst, List}
+use Rattle.dbtg_outcomes.specs.declared.turns.Turn.{Turn}
+use Rattle.dbtg_outcomes.specs.Inside.Walks.{LeadTo}
+use Rattle.dbtg_outcomes.specs.Orders.{made_first}
 use Rattle.dbtg_outcomes.proofs.States.Searched.{at_first, first_states}
 use Rattle.dbtg_outcomes.proofs.search.Search.begin.Goals as goal
 
@@ -11,7 +11,8 @@ returns-then-limit-eq0-clause-stopped c = λ e. let one = first_states c.args.me
 pub returns-clause-at : goal.returns-clause-at
 returns-clause-at c =
     let m = c.args.meeting.now in
-    let run = c.in_ok-first_run.ensures.run in
-    let same = c.into_history-history.ensures in
-    at_first m _ c.into_history-history.result (search rules) refl (omega arith) (ap statements_of same ∙ run.order_is)
-    (subst (λ (es : List Entry). IsHistoryOf m.schema m.capacity (length m.scripts) es) (sym same) run.history_of) c.in_ok-first_run.ensures.noted
+    at_first m c.in_ok-at_state.field-0 c.of-turns.result c.note_first.new.notes.items c.args.limit c.in_ok-at_state.ensures (omega (arith, c.if-limit-eq0.false))
+    (subst (λ (ts : List Turn). LeadTo m ts (made_first m.first m.scripts)) (sym c.of-turns.ensures) c.in_ok-first_turns.ensures) c.in_ok-note_first.ensures
+
+pub returns-clause-limit : goal.returns-clause-limit
+returns-clause-limit c = c.in_ok-at_state.ensures.limit_is

@@ -4,18 +4,18 @@ use Rattle.std.proofs.lemmas.List.Elements.{All-from_recursion}
 use Rattle.std.proofs.lemmas.Result.{err_from_is_err_and}
 use Rattle.dbtg_outcomes.specs.declared.groups.Group.{Group}
 use Rattle.dbtg_outcomes.specs.Inside.Search.{layer}
-use Rattle.dbtg_outcomes.specs.Inside.Steps.{HasHistory}
-use Rattle.dbtg_outcomes.proofs.States.Searched.{advances_one, held_histories, over_one}
+use Rattle.dbtg_outcomes.specs.Inside.Steps.{HaveStatements}
+use Rattle.dbtg_outcomes.proofs.States.Searched.{advances_one, held_there, over_one}
 use Rattle.dbtg_outcomes.proofs.search.Search.step.Goals as goal
 
 pub overflow_sub-most : goal.overflow_sub-most
 overflow_sub-most g c = omega (arith, c.requires.at.at.within)
 
-pub extend_all-requires-clause-histories : goal.extend_all-requires-clause-histories
-extend_all-requires-clause-histories g c =
+pub extend_all-requires-clause-groups : goal.extend_all-requires-clause-groups
+extend_all-requires-clause-groups g c =
     let m = c.args.meeting.now in
-    All-from_recursion (HasHistory m) c.as_slice-layer.result.now
-    (subst (λ (gs : List Group). AllByRecursion (HasHistory m) gs) (sym c.as_slice-layer.ensures.value) (held_histories m c.args.self.now.layer.items (layer m c.requires.at.made) c.requires.at.at.held))
+    All-from_recursion (HaveStatements m) c.as_slice-layer.result.now
+    (subst (λ (gs : List Group). AllByRecursion (HaveStatements m) gs) (sym c.as_slice-layer.ensures.value) (held_there m c.args.self.now.layer.items (layer m c.requires.at.made) c.requires.at.at.held))
 
 pub returns-in_err-next-clause-stopped : goal.returns-in_err-next-clause-stopped
 returns-in_err-next-clause-stopped g c =
@@ -25,4 +25,4 @@ returns-in_err-next-clause-stopped g c =
 pub returns-clause-advances : goal.returns-clause-advances
 returns-clause-advances g c =
     advances_one c.args.meeting.now c.requires.meeting c.args.self.now _ c.as_slice-layer.result.now c.in_ok-next.next c.len.result c.as_slice-layer.ensures.value
-    c.in_ok-next.ensures.all c.in_ok-next.ensures.few c.len.ensures c.in_ok-self.ensures refl refl
+    c.in_ok-next.ensures.all c.in_ok-next.ensures.few c.len.ensures c.in_ok-self.ensures refl refl c.in_ok-next.ensures.stands

@@ -1,0 +1,30 @@
+use Rattle.std.proofs.Common.{◌≡◌, ◌∙◌, ◌++◌, ◌-◌, List, ap, sym, take, drop, length}
+use Rattle.std.proofs.lemmas.List.{take-append-drop, take_rest}
+use Rattle.std.proofs.lemmas.Result.{on_ok_weaker}
+use Rattle.dbtg_outcomes.specs.declared.turns.Turn.{Turn}
+use Rattle.dbtg_outcomes.specs.Inside.Walks.{have_statements}
+use Rattle.dbtg_outcomes.proofs.Orders.Turns.{there_parts}
+use Rattle.dbtg_outcomes.proofs.States.Walks.{stands_back}
+use Rattle.dbtg_outcomes.proofs.meeting.Meeting.go_to.Goals as goal
+
+pub take_turns-requires-clause-stands : goal.take_turns-requires-clause-stands
+take_turns-requires-clause-stands c = stands_back c.args.self.now c.shared_by-shared.result c.args.walk.now c.take_back_to.new.self c.requires.stands c.take_back_to.ensures
+
+pub take_turns-requires-clause-there : goal.take_turns-requires-clause-there
+take_turns-requires-clause-there c =
+    let ts = c.args.turns.now in
+    ap (have_statements c.args.self.now) (take_rest ts c.shared_by-shared.result) ∙ (there_parts c.args.self.now c.shared_by-shared.result ts c.requires.there).1
+
+pub returns-clause-stands : goal.returns-clause-stands
+returns-clause-stands c = on_ok_weaker c.take_turns.result (λ taken. taken.stands) c.take_turns.ensures
+
+pub returns-clause-turns : goal.returns-clause-turns
+returns-clause-turns c =
+    let n = c.shared_by-shared.result in
+    let ts = c.args.turns.now in
+    on_ok_weaker c.take_turns.result
+    (λ taken. taken.turns_are ∙ (λ i. (c.take_back_to.ensures.turns_are ∙ ap (take n) (sym c.as_slice.ensures.value) ∙ c.shared_by-shared.ensures.same) i ++ take_rest ts n i) ∙ take-append-drop n ts)
+    c.take_turns.ensures
+
+pub returns-clause-notes : goal.returns-clause-notes
+returns-clause-notes c = on_ok_weaker c.take_turns.result (λ taken. taken.notes_are ∙ c.take_back_to.ensures.notes_are) c.take_turns.ensures

@@ -1,0 +1,137 @@
+//! A walk from state to state: a database that stands after some turns, and goes to others by way of the turns that both begin with.
+ghost use Rattle.std.specs.Prelude.{◌≡◌, ◌∷◌, ◌++◌, [], true, is_some, option_map, IfOk, OnOk};
+ghost use Rattle.dbtg_outcomes.specs.Outcomes.{IsMeeting};
+ghost use Rattle.dbtg_outcomes.specs.Inside.Walks.{AreTaken, HasStatusIn, HasTaken, IsTakenBack, Stands, have_statements, order_of, statement_at};
+
+use crate::meeting::Meeting;
+use crate::notes::Note;
+use crate::turns::{Turn, shared_by};
+use dbtg_step::{ReversibleDatabase, WholeDatabase};
+use dbtg_unit::Statement;
+use std::alloc::{AllocError, Global};
+
+/// A database that stands after these turns, and the statuses that were noted on the way.
+#[derive(Drop)]
+pub struct Walk<'a> {
+    pub database: ReversibleDatabase<'a>,
+    pub turns: Vec<Turn>,
+    pub notes: Vec<Note>,
+}
+
+impl<'a> Walk<'a> {
+    // Takes back the turns behind the first, which are this many.
+    fn take_back_to(&mut self, count: usize)
+        requires stays { self.old.database.stays ≡ 0 }
+        ensures { IsTakenBack count self.old self.new }
+    {
+        self.database.take_back_to(count);
+        self.turns.truncate(count);
+    }
+}
+
+impl<'a> Meeting<'a> {
+    /// A walk that begins at the opening database, with these notes.
+    pub(crate) fn walk(&self, alloc: Global, notes: Vec<Note>) -> Result<Walk<'a>, AllocError>
+        requires meeting { IsMeeting self.now }
+        ensures stands { IfOk result (Stands self.now) }
+        ensures notes { IfOk result (λ walk. walk.notes.items ≡ notes.items) }
+    {
+        let database = WholeDatabase::opening(alloc, self.schema, self.capacity, self.units())?;
+        Ok(Walk {
+            database: ReversibleDatabase::of(alloc, database),
+            turns: Vec::new(alloc),
+            notes,
+        })
+    }
+
+    /// The statement that is made in a turn, if there is one.
+    pub(crate) fn statement_at(&self, turn: Turn) -> Option<&Statement>
+        ensures { option_map (λ x. (turn.unit, x.now)) result ≡ statement_at self.now.scripts turn }
+    {
+        if turn.unit == 0 {
+            return None;
+        }
+        match self.scripts.get(turn.unit as usize - 1) {
+            Some(script) => script.get(turn.place),
+            None => None,
+        }
+    }
+
+    // The unit makes the statement of its turn.
+    fn take_turn(&self, alloc: Global, walk: &mut Walk<'a>, turn: Turn) -> Result<(), AllocError>
+        requires meeting { IsMeeting self.now }
+        requires stands { Stands self.now walk.old }
+        requires there { is_some (statement_at self.now.scripts turn) ≡ true }
+        ensures { OnOk result (HasTaken self.now turn walk.old walk.new) }
+    {
+        match self.statement_at(turn) {
+            Some(statement) => {
+                let statement = statement.copy(alloc)?;
+                walk.turns.push(turn)?;
+                walk.database.make(turn.unit, statement)
+            }
+            None => Ok(()),
+        }
+    }
+
+    // The units make the statements of these turns.
+    fn take_turns(
+        &self,
+        alloc: Global,
+        walk: &mut Walk<'a>,
+        turns: &[Turn],
+    ) -> Result<(), AllocError>
+        requires meeting { IsMeeting self.now }
+        requires stands { Stands self.now walk.old }
+        requires there { have_statements self.now turns.now ≡ true }
+        ensures { OnOk result (AreTaken self.now turns.now walk.old walk.new) }
+    {
+        for turn in turns {
+            self.take_turn(alloc, walk, *turn)?;
+        }
+        Ok(())
+    }
+
+    /// Goes to where these turns lead.
+    pub(crate) fn go_to(
+        &self,
+        alloc: Global,
+        walk: &mut Walk<'a>,
+        turns: &[Turn],
+    ) -> Result<(), AllocError>
+        requires meeting { IsMeeting self.now }
+        requires stands { Stands self.now walk.old }
+        requires there { have_statements self.now turns.now ≡ true }
+        ensures stands { OnOk result (Stands self.now walk.new) }
+        ensures turns { OnOk result (walk.new.turns.items ≡ turns.now) }
+        ensures notes { OnOk result (walk.new.notes.items ≡ walk.old.notes.items) }
+    {
+        let shared = shared_by(walk.turns.as_slice(), turns);
+        walk.take_back_to(shared);
+        self.take_turns(alloc, walk, &turns[shared..])
+    }
+
+    /// Goes to where these turns lead and takes one turn more; gives the status of its statement.
+    pub(crate) fn turned(
+        &self,
+        alloc: Global,
+        walk: &mut Walk<'a>,
+        turns: &[Turn],
+        turn: Turn,
+    ) -> Result<u16, AllocError>
+        requires meeting { IsMeeting self.now }
+        requires stands { Stands self.now walk.old }
+        requires there { have_statements self.now turns.now ≡ true }
+        requires next { is_some (statement_at self.now.scripts turn) ≡ true }
+        ensures stands { OnOk result (Stands self.now walk.new) }
+        ensures turns { OnOk result (walk.new.turns.items ≡ turns.now ++ turn ∷ []) }
+        ensures notes { OnOk result (walk.new.notes.items ≡ walk.old.notes.items) }
+        ensures status { IfOk result (HasStatusIn self.now (order_of self.now turns.now) turn) }
+    {
+        self.go_to(alloc, walk, turns)?;
+        let before = walk.database.database().history().len();
+        self.take_turn(alloc, walk, turn)?;
+        let made = &walk.database.database().history()[before];
+        Ok(made.answer.status.code(&made.statement))
+    }
+}
