@@ -62,6 +62,8 @@ impl Groups {
         requires { among (keys_of self.old) key.items ≡ false }
         ensures { OnOk result (self.new ≡ self.old ++ (key.items, group) ∷ []) }
     {
+        let mut key = key;
+        key.shrink_to_fit();
         self.groups.insert(key, group)?;
         Ok(())
     }
