@@ -32,7 +32,7 @@ in_every_place : played shop (of_lines shop (
           store items (text "NUT " ∷ Num 12 ∷ [])
           ∷ Modify items (record { item = 1; value = Num 13 } ∷ record { item = 0; value = text "NUT " } ∷ [])
           ∷ find (Calc items (text "NUT " ∷ []))
-          ∷ find (Sorted (Num 13) lines)
+          ∷ find (Sorted lines (Num 13))
           ∷ [];
       values = Num 0 ∷ text "" ∷ Num 0 ∷ text "" ∷ Num 13 ∷ text "NUT" ∷ Num 12 ∷ [];
       end = Some Stop;
