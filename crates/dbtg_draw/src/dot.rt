@@ -8,7 +8,7 @@ ghost use Rattle.std.specs.List.{flat_map};
 ghost use Rattle.std.specs.Prelude.{◌≡◌, ◌++◌, ◌≤◌, IfOk, OnOk, length, option_map};
 
 use crate::lines::{area_name, push_calc, push_item, push_member, push_order, type_name};
-use crate::print::push_number;
+use crate::print::{push_all, push_number};
 use dbtg_schema::{Area, AreaNo, Calc, Item, Member, RecordNo, RecordType, Schema, SetType};
 use std::alloc::{AllocError, Global};
 
@@ -16,10 +16,7 @@ use std::alloc::{AllocError, Global};
 fn push_quoted(out: &mut Vec<u8>, name: &[u8]) -> Result<(), AllocError>
     ensures { OnOk result (out.new.items ≡ out.old.items ++ quoted name.now) }
 {
-    out.push(b'"')?;
-    out.extend_from_slice(name)?;
-    out.push(b'"')?;
-    Ok(())
+    push_all(out, &[b"\"", name, b"\""])
 }
 
 #[tactic(auto, unfolding(crate::specs::Dot::front_text))]
@@ -76,9 +73,7 @@ fn push_area(out: &mut Vec<u8>, name: &[u8], area: u8) -> Result<(), AllocError>
 {
     push_cell(out)?;
     push_colour(out, area)?;
-    out.extend_from_slice(b"\">")?;
-    out.extend_from_slice(name)?;
-    out.extend_from_slice(b"</td>\n")
+    push_all(out, &[b"\">", name, b"</td>\n"])
 }
 
 fn push_each_area(out: &mut Vec<u8>, areas: &[Area]) -> Result<(), AllocError>
@@ -111,9 +106,7 @@ fn push_row(out: &mut Vec<u8>) -> Result<(), AllocError>
 fn push_heading(out: &mut Vec<u8>, name: &[u8]) -> Result<(), AllocError>
     ensures { OnOk result (out.new.items ≡ out.old.items ++ heading_text name.now) }
 {
-    out.extend_from_slice(b"\"><b>SCHEMA ")?;
-    out.extend_from_slice(name)?;
-    Ok(())
+    push_all(out, &[b"\"><b>SCHEMA ", name])
 }
 
 #[tactic(auto, unfolding(crate::specs::Dot::title_text))]
@@ -152,8 +145,7 @@ fn push_location(out: &mut Vec<u8>, items: &[Item], calc: Option<&Calc>) -> Resu
 fn push_area_line(out: &mut Vec<u8>, schema: &Schema, area: AreaNo) -> Result<(), AllocError>
     ensures { OnOk result (out.new.items ≡ out.old.items ++ left_line (area_name schema.now area)) }
 {
-    out.extend_from_slice(area_name(schema, area))?;
-    out.extend_from_slice(b"\\l")
+    push_all(out, &[area_name(schema, area), b"\\l"])
 }
 
 #[tactic(auto, unfolding(crate::specs::Dot::item_line, crate::specs::Dot::left_line))]
@@ -181,12 +173,10 @@ fn push_record_label(
 ) -> Result<(), AllocError>
     ensures { OnOk result (out.new.items ≡ out.old.items ++ record_label schema.now record.now) }
 {
-    out.extend_from_slice(b"\"{")?;
-    out.extend_from_slice(record.name.as_slice())?;
-    out.push(b'|')?;
+    push_all(out, &[b"\"{", record.name.as_slice(), b"|"])?;
     push_location(out, record.items.as_slice(), record.calc.as_ref())?;
     push_area_line(out, schema, record.area)?;
-    out.push(b'|')?;
+    out.extend_from_slice(b"|")?;
     push_each_item(out, record.items.as_slice())?;
     out.extend_from_slice(b"}\"")
 }
@@ -227,10 +217,7 @@ fn push_each_record(
 fn push_quoted_system(out: &mut Vec<u8>, set: &SetType) -> Result<(), AllocError>
     ensures { OnOk result (out.new.items ≡ out.old.items ++ quoted (system_name set.now)) }
 {
-    out.extend_from_slice(b"\"SYSTEM ")?;
-    out.extend_from_slice(set.name.as_slice())?;
-    out.push(b'"')?;
-    Ok(())
+    push_all(out, &[b"\"SYSTEM ", set.name.as_slice(), b"\""])
 }
 
 fn push_system(out: &mut Vec<u8>, set: &SetType, owner: Option<RecordNo>) -> Result<(), AllocError>

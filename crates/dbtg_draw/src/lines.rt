@@ -4,7 +4,7 @@ ghost use Rattle.dbtg_draw.specs.Lines.{allowed_text, area_name, calc_text, clas
 ghost use Rattle.std.specs.List.{flat_map};
 ghost use Rattle.std.specs.Prelude.{◌≡◌, ◌++◌, OnOk};
 
-use crate::print::push_number;
+use crate::print::{push_all, push_number};
 use dbtg_schema::{
     AreaNo, Calc, Class, Duplicates, Item, ItemNo, Member, Order, Picture, RecordNo, Schema,
     SetType,
@@ -45,27 +45,23 @@ fn push_picture(out: &mut Vec<u8>, picture: Picture) -> Result<(), AllocError>
         Picture::Number(digits) => (b'9', digits),
         Picture::Text(bytes) => (b'X', bytes),
     };
-    out.push(kind)?;
-    out.push(b'(')?;
+    out.extend_from_slice(&[kind, b'('])?;
     push_number(out, length as u64)?;
-    out.push(b')')?;
-    Ok(())
+    out.extend_from_slice(b")")
 }
 
 /// An item with its picture.
 pub fn push_item(out: &mut Vec<u8>, item: &Item) -> Result<(), AllocError>
     ensures { OnOk result (out.new.items ≡ out.old.items ++ item_text item.now) }
 {
-    out.extend_from_slice(item.name.as_slice())?;
-    out.push(b' ')?;
+    push_all(out, &[item.name.as_slice(), b" "])?;
     push_picture(out, item.picture)
 }
 
 fn push_further_item(out: &mut Vec<u8>, items: &[Item], item: ItemNo) -> Result<(), AllocError>
     ensures { OnOk result (out.new.items ≡ out.old.items ++ further_item items.now item) }
 {
-    out.extend_from_slice(b", ")?;
-    out.extend_from_slice(item_name(items, item))
+    push_all(out, &[b", ", item_name(items, item)])
 }
 
 fn push_each_further_item(
@@ -151,10 +147,7 @@ fn duplicates_text(duplicates: Duplicates) -> &'static [u8]
 fn push_key_name(out: &mut Vec<u8>, items: &[Item], item: ItemNo) -> Result<(), AllocError>
     ensures { OnOk result (out.new.items ≡ out.old.items ++ key_name items.now item) }
 {
-    out.extend_from_slice(b" (")?;
-    out.extend_from_slice(item_name(items, item))?;
-    out.push(b')')?;
-    Ok(())
+    push_all(out, &[b" (", item_name(items, item), b")"])
 }
 
 fn push_key(out: &mut Vec<u8>, schema: &Schema, member: &Member) -> Result<(), AllocError>

@@ -5,16 +5,14 @@ ghost use Rattle.std.specs.List.{flat_map};
 ghost use Rattle.std.specs.Prelude.{◌≡◌, ◌++◌, IfOk, OnOk, option_map};
 
 use crate::lines::{area_name, class_text, push_calc, push_item, push_order, type_name};
+use crate::print::push_all;
 use dbtg_schema::{Area, Calc, Item, Member, RecordNo, RecordType, Schema, SetType};
 use std::alloc::{AllocError, Global};
 
 fn push_named(out: &mut Vec<u8>, word: &[u8], name: &[u8]) -> Result<(), AllocError>
     ensures { OnOk result (out.new.items ≡ out.old.items ++ named_line word.now name.now) }
 {
-    out.extend_from_slice(word)?;
-    out.extend_from_slice(name)?;
-    out.push(b'\n')?;
-    Ok(())
+    push_all(out, &[word, name, b"\n"])
 }
 
 fn push_each_area(out: &mut Vec<u8>, areas: &[Area]) -> Result<(), AllocError>
@@ -61,14 +59,14 @@ fn push_listed_calc(
 fn push_record(out: &mut Vec<u8>, schema: &Schema, record: &RecordType) -> Result<(), AllocError>
     ensures { OnOk result (out.new.items ≡ out.old.items ++ record_line schema.now record.now) }
 {
-    out.extend_from_slice(b"RECORD ")?;
-    out.extend_from_slice(record.name.as_slice())?;
-    out.extend_from_slice(b" WITHIN ")?;
-    out.extend_from_slice(area_name(schema, record.area))?;
+    let area = area_name(schema, record.area);
+    push_all(
+        out,
+        &[b"RECORD ", record.name.as_slice(), b" WITHIN ", area],
+    )?;
     push_each_item(out, record.items.as_slice())?;
     push_listed_calc(out, record.items.as_slice(), record.calc.as_ref())?;
-    out.push(b'\n')?;
-    Ok(())
+    out.extend_from_slice(b"\n")
 }
 
 fn push_each_record(
@@ -101,10 +99,9 @@ fn push_listed_member(
 ) -> Result<(), AllocError>
     ensures { OnOk result (out.new.items ≡ out.old.items ++ listed_member schema.now set.now member.now) }
 {
-    out.extend_from_slice(b", MEMBER ")?;
-    out.extend_from_slice(type_name(schema, member.rtype))?;
+    push_all(out, &[b", MEMBER ", type_name(schema, member.rtype)])?;
     out.extend_from_slice(class_text(member.class))?;
-    out.push(b' ')?;
+    out.extend_from_slice(b" ")?;
     push_order(out, schema, set.order, member)
 }
 
@@ -125,13 +122,10 @@ fn push_each_member(
 fn push_set(out: &mut Vec<u8>, schema: &Schema, set: &SetType) -> Result<(), AllocError>
     ensures { OnOk result (out.new.items ≡ out.old.items ++ set_line schema.now set.now) }
 {
-    out.extend_from_slice(b"SET ")?;
-    out.extend_from_slice(set.name.as_slice())?;
-    out.extend_from_slice(b" OWNER ")?;
-    out.extend_from_slice(listed_owner(schema, set.owner))?;
+    let owner = listed_owner(schema, set.owner);
+    push_all(out, &[b"SET ", set.name.as_slice(), b" OWNER ", owner])?;
     push_each_member(out, schema, set, set.members.as_slice())?;
-    out.push(b'\n')?;
-    Ok(())
+    out.extend_from_slice(b"\n")
 }
 
 fn push_each_set(out: &mut Vec<u8>, schema: &Schema, sets: &[SetType]) -> Result<(), AllocError>
