@@ -72,7 +72,7 @@ impl ProgramCause {
 }
 
 /// Why a line was not read.
-#[derive(Debug, Drop)]
+#[derive(Drop)]
 pub enum LineFault {
     Refused(ProgramCause),
     Memory,

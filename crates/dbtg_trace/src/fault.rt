@@ -54,7 +54,7 @@ pub enum TraceFault {
 }
 
 /// Why a line was not read.
-#[derive(Debug, Drop)]
+#[derive(Drop)]
 pub enum EntryFault {
     Refused(TraceCause),
     Memory,
