@@ -1,4 +1,5 @@
 //! Texts and numbers in columns.
+ghost use Rattle.std.specs.List.{flat_map};
 ghost use Rattle.std.specs.Prelude.{◌≡◌, ◌++◌, OnOk, decimal, replicate};
 ghost use Rattle.dbtg_timeline.specs.Columns.{left, right};
 
@@ -28,6 +29,16 @@ pub fn push_left(out: &mut Vec<u8>, width: usize, text: &[u8]) -> Result<(), All
 {
     out.extend_from_slice(text)?;
     push_fill(out, b' ', width.saturating_sub(text.len()))
+}
+
+/// Appends these texts, one after another.
+pub fn push_all(out: &mut Vec<u8>, texts: &[&[u8]]) -> Result<(), AllocError>
+    ensures { OnOk result (out.new.items ≡ out.old.items ++ flat_map (λ text. text.now) texts.now) }
+{
+    for text in texts {
+        out.extend_from_slice(*text)?;
+    }
+    Ok(())
 }
 
 pub fn push_number(out: &mut Vec<u8>, number: u128) -> Result<(), AllocError>

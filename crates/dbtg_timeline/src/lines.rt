@@ -15,7 +15,7 @@ pub struct Line {
 }
 
 /// A ticket, and the status of its statement.
-#[derive(Clone, Copy, Debug, PartialEq, Eq)]
+#[derive(Clone, Copy)]
 pub struct Drawn {
     pub ticket: u64,
     pub status: u16,

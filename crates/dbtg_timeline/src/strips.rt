@@ -8,7 +8,7 @@ use dbtg_schema::Row;
 use std::alloc::{AllocError, Global};
 
 /// What only the first strip of a line shows: the number of its first move, and what it draws.
-#[derive(Clone, Copy, Debug, PartialEq, Eq)]
+#[derive(Clone, Copy)]
 pub struct Front {
     pub first: usize,
     pub drawn: Option<Drawn>,

@@ -3,7 +3,7 @@ ghost use Rattle.std.specs.Prelude.{◌≡◌, ◌++◌, ◌+◌, ◌*◌, ◌^�
 ghost use Rattle.std.specs.List.{flat_map};
 ghost use Rattle.dbtg_timeline.specs.Svg.{back_heads, begun_lane, dark_text, drawn_strips, drawn_text, end_text, escaped, front_heads, front_text, lane_heads, lane_text, lanes_text, letters_left, letters_text, measures, open_lane, open_text, own_lane, place_text, size_text, strip_text, strips_text, style_text, timeline_svg, title_text, top_text, words_text};
 
-use crate::columns::{push_number, push_right_number};
+use crate::columns::{push_all, push_number, push_right_number};
 use crate::event::{Event, ticket_letter};
 use crate::lanes::{opening_lanes, pass};
 use crate::lines::{Drawn, lines_of};
@@ -21,8 +21,7 @@ fn push_place(out: &mut Vec<u8>, x: u128, y: u128) -> Result<(), AllocError>
     push_number(out, x)?;
     out.extend_from_slice(b"' y='")?;
     push_number(out, y)?;
-    out.push(b'\'')?;
-    Ok(())
+    out.extend_from_slice(b"'")
 }
 
 fn push_escaped(out: &mut Vec<u8>, byte: u8) -> Result<(), AllocError>
@@ -35,8 +34,7 @@ fn push_escaped(out: &mut Vec<u8>, byte: u8) -> Result<(), AllocError>
     } else if byte == b'>' {
         out.extend_from_slice(b"&gt;")
     } else {
-        out.push(byte)?;
-        Ok(())
+        out.extend_from_slice(&[byte])
     }
 }
 
@@ -59,11 +57,9 @@ fn push_words(
 ) -> Result<(), AllocError>
     ensures { OnOk result (out.new.items ≡ out.old.items ++ words_text kind.now x y words.now) }
 {
-    out.extend_from_slice(b"<text class='")?;
-    out.extend_from_slice(kind)?;
-    out.push(b'\'')?;
+    push_all(out, &[b"<text class='", kind, b"'"])?;
     push_place(out, x, y)?;
-    out.push(b'>')?;
+    out.extend_from_slice(b">")?;
     push_each_escaped(out, words)?;
     out.extend_from_slice(b"</text>\n")
 }

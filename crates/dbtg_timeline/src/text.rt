@@ -1,5 +1,5 @@
 //! The picture as plain text. Its lines have at most 120 columns as long as moves have no more than 8 digits.
-ghost use Rattle.std.specs.Prelude.{◌≡◌, ◌++◌, ◌+◌, ◌<◌, IfOk, OnOk, length};
+ghost use Rattle.std.specs.Prelude.{◌≡◌, ◌++◌, ◌+◌, ◌<◌, IfOk, OnOk, codes, false, length, replicate};
 ghost use Rattle.dbtg_timeline.specs.Text.{columns_text, drawn_of, drawn_text, events_head, front_head, front_text, head_text, lane_heads, lane_mark, lanes_text, legend, rest_text, second_legend, strip_text, strips_text, timeline_text};
 
 use crate::columns::{push_left, push_number, push_right_number};
@@ -152,8 +152,7 @@ fn push_strip(out: &mut Vec<u8>, lanes: &[bool], strip: &Strip) -> Result<(), Al
         strip.front,
         strip.words.as_slice(),
     )?;
-    out.push(b'\n')?;
-    Ok(())
+    out.extend_from_slice(b"\n")
 }
 
 fn push_each_strip(
@@ -187,6 +186,29 @@ pub fn push_second_legend(out: &mut Vec<u8>) -> Result<(), AllocError>
     out.extend_from_slice(b"R turn back, r put back in turning back, Q quit, B blocked, I idle")
 }
 
+fn push_legends(out: &mut Vec<u8>) -> Result<(), AllocError>
+    ensures { OnOk result (out.new.items ≡ out.old.items ++ legend ++ codes "\n" ++ second_legend ++ codes "\n") }
+{
+    push_legend(out)?;
+    out.extend_from_slice(b"\n")?;
+    push_second_legend(out)?;
+    out.extend_from_slice(b"\n")
+}
+
+fn push_drawn_strips(
+    alloc: Global,
+    out: &mut Vec<u8>,
+    scripts: &[Row<Row<u8>>],
+    strips: &[Strip],
+) -> Result<(), AllocError>
+    ensures { OnOk result (out.new.items ≡ out.old.items ++ head_text scripts.now ++ strips_text (replicate (length scripts.now) false) strips.now ++ legend ++ codes "\n" ++ second_legend ++ codes "\n") }
+{
+    let lanes = opening_lanes(alloc, scripts.len())?;
+    push_head(out, scripts)?;
+    push_each_strip(out, lanes, strips)?;
+    push_legends(out)
+}
+
 #[tactic(auto, unfolding(crate::specs::Text::timeline_text))]
 /// The picture of these events as plain text, with a lane for each script. `scripts` has the text of each statement.
 pub fn timeline_text(
@@ -199,12 +221,6 @@ pub fn timeline_text(
     let mut out = Vec::new(alloc);
     let lines = lines_of(alloc, events)?;
     let strips = strips_of(alloc, scripts, lines.as_slice())?;
-    let lanes = opening_lanes(alloc, scripts.len())?;
-    push_head(&mut out, scripts)?;
-    push_each_strip(&mut out, lanes, strips.as_slice())?;
-    push_legend(&mut out)?;
-    out.push(b'\n')?;
-    push_second_legend(&mut out)?;
-    out.push(b'\n')?;
+    push_drawn_strips(alloc, &mut out, scripts, strips.as_slice())?;
     Ok(out)
 }

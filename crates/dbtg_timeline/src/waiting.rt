@@ -3,7 +3,7 @@ ghost use Rattle.std.specs.Prelude.{◌≡◌, ◌++◌, IfOk, OnOk};
 ghost use Rattle.std.specs.List.{flat_map};
 ghost use Rattle.dbtg_timeline.specs.Waiting.{area_name, awaited_text, cell_text, holders_text, next_holder, owner_text, record_text, set_name, type_name, waiting_text};
 
-use crate::columns::push_number;
+use crate::columns::{push_all, push_number};
 use dbtg_cells::CellName;
 use dbtg_schema::{AreaNo, RecordNo, Schema, SetNo};
 use dbtg_step::{Awaited, Blocking};
@@ -46,8 +46,7 @@ fn push_record(
 ) -> Result<(), AllocError>
     ensures { OnOk result (out.new.items ≡ out.old.items ++ record_text schema.now rtype number) }
 {
-    out.extend_from_slice(type_name(schema, rtype))?;
-    out.push(b':')?;
+    push_all(out, &[type_name(schema, rtype), b":"])?;
     push_number(out, number as u128)
 }
 
@@ -71,27 +70,19 @@ pub fn push_cell(out: &mut Vec<u8>, schema: &Schema, cell: CellName) -> Result<(
     ensures { OnOk result (out.new.items ≡ out.old.items ++ cell_text schema.now cell) }
 {
     match cell {
-        CellName::Usage(area) => {
-            out.extend_from_slice(b"Usage(")?;
-            out.extend_from_slice(area_name(schema, area))?;
-        }
-        CellName::Extent(rtype) => {
-            out.extend_from_slice(b"Extent(")?;
-            out.extend_from_slice(type_name(schema, rtype))?;
-        }
+        CellName::Usage(area) => push_all(out, &[b"Usage(", area_name(schema, area), b")"]),
+        CellName::Extent(rtype) => push_all(out, &[b"Extent(", type_name(schema, rtype), b")"]),
         CellName::Ring(set, owner) => {
-            out.extend_from_slice(b"Ring(")?;
-            out.extend_from_slice(set_name(schema, set))?;
-            out.extend_from_slice(b", ")?;
+            push_all(out, &[b"Ring(", set_name(schema, set), b", "])?;
             push_owner(out, schema, owner)?;
+            out.extend_from_slice(b")")
         }
         CellName::Slot(rtype, number) => {
             out.extend_from_slice(b"Slot(")?;
             push_record(out, schema, rtype, number)?;
+            out.extend_from_slice(b")")
         }
     }
-    out.push(b')')?;
-    Ok(())
 }
 
 #[tactic(auto, unfolding(crate::specs::Waiting::awaited_text))]
