@@ -34,7 +34,7 @@ pub struct Start {
 }
 
 /// How far a statement has been read.
-#[derive(Clone, Copy, PartialEq, Eq)]
+#[derive(Clone, Copy)]
 pub enum State {
     Opening,
     OpenArea,

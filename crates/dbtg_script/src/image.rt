@@ -19,8 +19,7 @@ fn push_record(
 {
     push_key(out, schema, &entry.0)?;
     push_each_item(out, entry.1.as_slice(), schema.items(entry.0.rtype))?;
-    out.push(b'\n')?;
-    Ok(())
+    out.extend_from_slice(b"\n")
 }
 
 fn push_each_record(
@@ -49,8 +48,7 @@ fn push_list(
     push_owner(out, schema, &list.0)?;
     out.push(b':')?;
     push_each_key(out, schema, list.1.as_slice())?;
-    out.push(b'\n')?;
-    Ok(())
+    out.extend_from_slice(b"\n")
 }
 
 fn push_lists_of(
@@ -88,8 +86,7 @@ fn push_spaced_number(out: &mut Vec<u8>, number: u32) -> Result<(), AllocError>
     ensures { OnOk result (out.new.items ≡ out.old.items ++ spaced_number number) }
 {
     out.push(b' ')?;
-    push_number(out, number as u64)?;
-    Ok(())
+    push_number(out, number as u64)
 }
 
 fn push_each_spaced_number(out: &mut Vec<u8>, numbers: &[u32]) -> Result<(), AllocError>
@@ -106,8 +103,7 @@ fn push_next(out: &mut Vec<u8>, next: &[u32]) -> Result<(), AllocError>
 {
     out.extend_from_slice(b"NEXT")?;
     push_each_spaced_number(out, next)?;
-    out.push(b'\n')?;
-    Ok(())
+    out.extend_from_slice(b"\n")
 }
 
 fn push_opened(out: &mut Vec<u8>, user: &(u8, Mode)) -> Result<(), AllocError>
@@ -116,8 +112,7 @@ fn push_opened(out: &mut Vec<u8>, user: &(u8, Mode)) -> Result<(), AllocError>
     out.push(b' ')?;
     push_number(out, user.0 as u64)?;
     out.push(b':')?;
-    push_mode(out, user.1)?;
-    Ok(())
+    push_mode(out, user.1)
 }
 
 fn push_users(out: &mut Vec<u8>, users: &[(u8, Mode)]) -> Result<(), AllocError>
@@ -135,8 +130,7 @@ fn push_area(out: &mut Vec<u8>, name: &[u8], users: &[(u8, Mode)]) -> Result<(),
     out.extend_from_slice(b"AREA ")?;
     out.extend_from_slice(name)?;
     push_users(out, users)?;
-    out.push(b'\n')?;
-    Ok(())
+    out.extend_from_slice(b"\n")
 }
 
 fn push_each_area(
@@ -195,8 +189,7 @@ fn push_spaced_letters(out: &mut Vec<u8>, steps: &[Stepped]) -> Result<(), Alloc
         None => Ok(()),
         Some(_) => {
             out.push(b' ')?;
-            push_letters(out, steps)?;
-            Ok(())
+            push_letters(out, steps)
         }
     }
 }

@@ -113,8 +113,7 @@ fn push_generation(out: &mut Vec<u8>, generation: u8) -> Result<(), AllocError>
         return Ok(());
     }
     out.push(b'.')?;
-    push_number(out, generation as u64)?;
-    Ok(())
+    push_number(out, generation as u64)
 }
 
 /// The name of the record type, the number, and the generation if it is above the first.
@@ -124,16 +123,14 @@ pub fn push_key(out: &mut Vec<u8>, schema: &Schema, key: &DbKey) -> Result<(), A
     out.extend_from_slice(type_name(schema, key.rtype))?;
     out.push(b':')?;
     push_number(out, key.number as u64)?;
-    push_generation(out, key.generation)?;
-    Ok(())
+    push_generation(out, key.generation)
 }
 
 pub fn push_spaced_key(out: &mut Vec<u8>, schema: &Schema, key: &DbKey) -> Result<(), AllocError>
     ensures { OnOk result (out.new.items ≡ out.old.items ++ spaced_key schema.now key.now) }
 {
     out.push(b' ')?;
-    push_key(out, schema, key)?;
-    Ok(())
+    push_key(out, schema, key)
 }
 
 pub fn push_each_key(out: &mut Vec<u8>, schema: &Schema, keys: &[DbKey]) -> Result<(), AllocError>
@@ -153,8 +150,7 @@ fn push_value(out: &mut Vec<u8>, value: &Value) -> Result<(), AllocError>
         Value::Text(text) => {
             out.push(b'"')?;
             out.extend_from_slice(text.as_slice())?;
-            out.push(b'"')?;
-            Ok(())
+            out.extend_from_slice(b"\"")
         }
     }
 }
@@ -165,8 +161,7 @@ fn push_item(out: &mut Vec<u8>, name: &[u8], value: &Value) -> Result<(), AllocE
     out.push(b' ')?;
     out.extend_from_slice(name)?;
     out.push(b'=')?;
-    push_value(out, value)?;
-    Ok(())
+    push_value(out, value)
 }
 
 /// Each value after the name of its item.
@@ -251,8 +246,7 @@ fn push_place(out: &mut Vec<u8>, schema: &Schema, place: Option<Place>) -> Resul
             out.push(b' ')?;
             push_owner(out, schema, &place.owner)?;
             out.push(b'/')?;
-            push_at(out, schema, place.at)?;
-            Ok(())
+            push_at(out, schema, place.at)
         }
     }
 }
@@ -279,8 +273,7 @@ fn push_kept_entry(
 {
     push_spaced_key(out, schema, &entry.0)?;
     out.push(b'/')?;
-    push_number(out, entry.1)?;
-    Ok(())
+    push_number(out, entry.1)
 }
 
 fn push_kept_entries(
@@ -308,8 +301,7 @@ pub fn push_kept(
         None => Ok(()),
         Some(_) => {
             out.extend_from_slice(b" KEPT")?;
-            push_kept_entries(out, schema, kept)?;
-            Ok(())
+            push_kept_entries(out, schema, kept)
         }
     }
 }

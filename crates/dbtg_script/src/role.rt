@@ -1,7 +1,7 @@
 //! The roles of the words of a statement.
 
 /// The role of a word of a statement.
-#[derive(Clone, Copy, PartialEq, Eq)]
+#[derive(Clone, Copy)]
 pub enum Role {
     Plain,
     Open,

@@ -1,6 +1,7 @@
 //! The printed texts: answers and units.
 
-ghost use Rattle.dbtg_script.specs.Printing.Texts.{answer_front, answer_text, answered_text, answers_text, current_text, found_text, named_answer_text, unit_text, units_text};
+ghost use Rattle.dbtg_script.specs.Printing.Texts.{answer_front, answer_text, answered_text, answers_text, current_text, found_text, named_answer_text, place_text, unit_text, units_text};
+ghost use Rattle.std.specs.List.{flat_map};
 ghost use Rattle.std.specs.Prelude.{◌≡◌, ◌++◌, IfOk, OnOk, codes, decimal, option_map};
 
 use crate::print::{
@@ -9,7 +10,7 @@ use crate::print::{
 };
 use dbtg_cells::{DbKey, Value};
 use dbtg_schema::{Row, Schema};
-use dbtg_unit::{Entry, Unit};
+use dbtg_unit::{Entry, Place, Unit};
 use std::alloc::{AllocError, Global};
 
 /// More bytes than most lines of a history have.
@@ -64,8 +65,7 @@ pub fn push_answer(out: &mut Vec<u8>, schema: &Schema, entry: &Entry) -> Result<
     ensures { OnOk result (out.new.items ≡ out.old.items ++ answer_text schema.now entry.now) }
 {
     push_answer_front(out, schema, entry)?;
-    out.push(b'\n')?;
-    Ok(())
+    out.extend_from_slice(b"\n")
 }
 
 /// The same line with a name after the answer.
@@ -80,8 +80,7 @@ pub fn push_named_answer(
     push_answer_front(out, schema, entry)?;
     out.push(b' ')?;
     out.extend_from_slice(name)?;
-    out.push(b'\n')?;
-    Ok(())
+    out.extend_from_slice(b"\n")
 }
 
 /// Appends the lines of a history. Room for lines of usual length is made at once.
@@ -118,8 +117,30 @@ fn push_unit_front(out: &mut Vec<u8>, schema: &Schema, unit: &Unit) -> Result<()
     out.extend_from_slice(b"UNIT ")?;
     push_number(out, unit.number as u64)?;
     out.extend_from_slice(b" RUN")?;
-    push_current(out, schema, unit.currency.run_unit)?;
-    Ok(())
+    push_current(out, schema, unit.currency.run_unit)
+}
+
+fn push_currents(
+    out: &mut Vec<u8>,
+    schema: &Schema,
+    word: &[u8],
+    currents: &[Option<DbKey>],
+) -> Result<(), AllocError>
+    ensures { OnOk result (out.new.items ≡ out.old.items ++ word.now ++ flat_map (current_text schema.now) currents.now) }
+{
+    out.extend_from_slice(word)?;
+    push_each_current(out, schema, currents)
+}
+
+fn push_places(
+    out: &mut Vec<u8>,
+    schema: &Schema,
+    places: &[Option<Place>],
+) -> Result<(), AllocError>
+    ensures { OnOk result (out.new.items ≡ out.old.items ++ codes " SET" ++ flat_map (place_text schema.now) places.now) }
+{
+    out.extend_from_slice(b" SET")?;
+    push_each_place(out, schema, places)
 }
 
 /// Appends the line of a unit: its currents, and what it keeps.
@@ -127,15 +148,11 @@ pub fn push_unit(out: &mut Vec<u8>, schema: &Schema, unit: &Unit) -> Result<(), 
     ensures { OnOk result (out.new.items ≡ out.old.items ++ unit_text schema.now unit.now) }
 {
     push_unit_front(out, schema, unit)?;
-    out.extend_from_slice(b" RECORD")?;
-    push_each_current(out, schema, unit.currency.types.as_slice())?;
-    out.extend_from_slice(b" SET")?;
-    push_each_place(out, schema, unit.currency.sets.as_slice())?;
-    out.extend_from_slice(b" AREA")?;
-    push_each_current(out, schema, unit.currency.areas.as_slice())?;
+    push_currents(out, schema, b" RECORD", unit.currency.types.as_slice())?;
+    push_places(out, schema, unit.currency.sets.as_slice())?;
+    push_currents(out, schema, b" AREA", unit.currency.areas.as_slice())?;
     push_kept(out, schema, unit.kept.as_slice())?;
-    out.push(b'\n')?;
-    Ok(())
+    out.extend_from_slice(b"\n")
 }
 
 /// A line for each unit: its currents, and what it keeps.
