@@ -51,8 +51,7 @@ fn push_quoted(out: &mut Vec<u8>, text: &[u8]) -> Result<(), AllocError>
 {
     out.push(b'"')?;
     push_each_byte(out, text)?;
-    out.push(b'"')?;
-    Ok(())
+    out.extend_from_slice(b"\"")
 }
 
 /// Appends a string to its row.

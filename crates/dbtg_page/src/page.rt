@@ -73,6 +73,27 @@ fn names_of_areas(alloc: Global, areas: &[Area]) -> Result<Vec<Row<u8>>, AllocEr
     Ok(names)
 }
 
+fn push_types(alloc: Global, out: &mut Vec<u8>, types: &[RecordType]) -> Result<(), AllocError>
+    ensures { OnOk result (out.new.items ≡ out.old.items ++ row (codes "TYPES") (map (λ t. t.name) types.now)) }
+{
+    let names = names_of_types(alloc, types)?;
+    push_row(out, b"TYPES", names.as_slice())
+}
+
+fn push_sets(alloc: Global, out: &mut Vec<u8>, sets: &[SetType]) -> Result<(), AllocError>
+    ensures { OnOk result (out.new.items ≡ out.old.items ++ row (codes "SETS") (map (λ s. s.name) sets.now)) }
+{
+    let names = names_of_sets(alloc, sets)?;
+    push_row(out, b"SETS", names.as_slice())
+}
+
+fn push_areas(alloc: Global, out: &mut Vec<u8>, areas: &[Area]) -> Result<(), AllocError>
+    ensures { OnOk result (out.new.items ≡ out.old.items ++ row (codes "AREAS") (map (λ a. a.name) areas.now)) }
+{
+    let names = names_of_areas(alloc, areas)?;
+    push_row(out, b"AREAS", names.as_slice())
+}
+
 fn push_scripts(out: &mut Vec<u8>, scripts: &[Row<Row<u8>>]) -> Result<(), AllocError>
     ensures { OnOk result (out.new.items ≡ out.old.items ++ flat_map (row (codes "SCRIPT")) scripts.now) }
 {
@@ -99,12 +120,9 @@ fn push_front(
 ) -> Result<(), AllocError>
     ensures { OnOk result (out.new.items ≡ out.old.items ++ front_rows schema.now told.now.causes.now told.now.scripts.now) }
 {
-    let types = names_of_types(alloc, schema.types())?;
-    let sets = names_of_sets(alloc, schema.sets())?;
-    let areas = names_of_areas(alloc, schema.areas())?;
-    push_row(out, b"TYPES", types.as_slice())?;
-    push_row(out, b"SETS", sets.as_slice())?;
-    push_row(out, b"AREAS", areas.as_slice())?;
+    push_types(alloc, out, schema.types())?;
+    push_sets(alloc, out, schema.sets())?;
+    push_areas(alloc, out, schema.areas())?;
     push_causes(alloc, out, told.causes)?;
     push_scripts(out, told.scripts)
 }
