@@ -77,57 +77,57 @@ module _ (schema : Lists) (capacity : ℕ) (db : Database) (unit : Unit) where
   in_vain x why none key there h = elim (unless None key none why h) [ inl p ↦ absurd (cc (p)) | inr same ↦ has x why same there ]
 
   run_unit_has : (suppress : Suppress) (why : Cause) (o : Option DbKey) → unit.currency.run_unit ≡ o → is_none unit.currency.run_unit ≡ false → with_current o (λ k. cond (is_live db k) (Ok k) (Err cause.Deleted)) ≡ Err why
-      → Has (Find CurrentOfUnit suppress) why
+      → Has (Find suppress CurrentOfUnit) why
   run_unit_has suppress why None is some h = absurd (false≢true (sym some ∙ ap is_none is))
-  run_unit_has suppress why (Some k) is some h = has (Find CurrentOfUnit suppress) why (not_live (is_live db k) k cause.Deleted why h) (map_some obstacle.Record unit.currency.run_unit ∙ ap is_some is)
+  run_unit_has suppress why (Some k) is some h = has (Find suppress CurrentOfUnit) why (not_live (is_live db k) k cause.Deleted why h) (map_some obstacle.Record unit.currency.run_unit ∙ ap is_some is)
 
-  find_has : (form : Form) (suppress : Suppress) (why : Cause) → refused_at_once schema capacity unit (Find form suppress) ≡ None → found schema capacity db unit form ≡ Err why → Has (Find form suppress) why
-  find_has (Key k) suppress why passed h = has (Find (Key k) suppress) why (not_live (is_live db k) k cause.NoneSatisfies why h) refl
-  find_has CurrentOfUnit suppress why passed h = run_unit_has suppress why unit.currency.run_unit refl (none_holds (checks_at_once schema capacity unit (Find CurrentOfUnit suppress)) passed).0 h
-  find_has (CurrentOfType r) suppress why passed h = of_current (Find (CurrentOfType r) suppress) why (at unit.currency.types r) refl (λ there. map_some obstacle.Record (at unit.currency.types r) ∙ there) h
+  find_has : (form : Form) (suppress : Suppress) (why : Cause) → refused_at_once schema capacity unit (Find suppress form) ≡ None → found schema capacity db unit form ≡ Err why → Has (Find suppress form) why
+  find_has (Key k) suppress why passed h = has (Find suppress (Key k)) why (not_live (is_live db k) k cause.NoneSatisfies why h) refl
+  find_has CurrentOfUnit suppress why passed h = run_unit_has suppress why unit.currency.run_unit refl (none_holds (checks_at_once schema capacity unit (Find suppress CurrentOfUnit)) passed).0 h
+  find_has (CurrentOfType r) suppress why passed h = of_current (Find suppress (CurrentOfType r)) why (at unit.currency.types r) refl (λ there. map_some obstacle.Record (at unit.currency.types r) ∙ there) h
   find_has (CurrentOfSet s) suppress why passed h =
-      of_current (Find (CurrentOfSet s) suppress) why (option_and_then key_of_place (place_in schema unit s)) refl (λ there. map_some obstacle.Record (option_and_then key_of_place (place_in schema unit s)) ∙ there) h
-  find_has (CurrentOfArea a) suppress why passed h = of_current (Find (CurrentOfArea a) suppress) why (at unit.currency.areas a) refl (λ there. map_some obstacle.Record (at unit.currency.areas a) ∙ there) h
+      of_current (Find suppress (CurrentOfSet s)) why (option_and_then key_of_place (place_in schema unit s)) refl (λ there. map_some obstacle.Record (option_and_then key_of_place (place_in schema unit s)) ∙ there) h
+  find_has (CurrentOfArea a) suppress why passed h = of_current (Find suppress (CurrentOfArea a)) why (at unit.currency.areas a) refl (λ there. map_some obstacle.Record (at unit.currency.areas a) ∙ there) h
   find_has (InSet which r s) suppress why passed h =
-      of_search (Find (InSet which r s) suppress) why cause.End
+      of_search (Find suppress (InSet which r s)) why cause.End
       (λ (place : Place). chosen which (has_type r) place.at (members_of db s place.owner))
       (λ (place : Place). (is_none (db.lists s place.owner), cause.Deleted) ∷ (needs_position which && is_lost place.at (members_of db s place.owner), cause.PositionLost) ∷ [])
       (place_in schema unit s) refl refl
       (λ place is p. elim (first_in ((is_none (db.lists s place.owner), cause.Deleted) ∷ (needs_position which && is_lost place.at (members_of db s place.owner), cause.PositionLost) ∷ []) why p) [
-        | inl q ↦ has (Find (InSet which r s) suppress) why q.1 refl
+        | inl q ↦ has (Find suppress (InSet which r s)) why q.1 refl
         | inr q ↦ elim q.1 [
-          | inl w ↦ has (Find (InSet which r s) suppress) why w.1
+          | inl w ↦ has (Find suppress (InSet which r s)) why w.1
               (map_some _ _ ∙ ap (λ (o : Option Place). is_some (unwrap_or o (record { owner = System; at = None })).at) is ∙ lost_at place.at (members_of db s place.owner) (and_parts _ _ w.0).1)
           | inr w ↦ absurd w.1
         ]
       ]) h
-  find_has (InArea which r a) suppress why passed h = in_vain (Find (InArea which r a) suppress) why cause.End (chosen_by_key which (at unit.currency.areas a) (keys_in_area schema capacity db r a)) refl h
+  find_has (InArea which r a) suppress why passed h = in_vain (Find suppress (InArea which r a)) why cause.End (chosen_by_key which (at unit.currency.areas a) (keys_in_area schema capacity db r a)) refl h
   find_has (OwnerOf s) suppress why passed h =
-      of_current (Find (OwnerOf s) suppress) why (option_and_then (λ (place : Place). key_of_place (record place { at = None })) (place_in schema unit s)) refl (λ there. refl) h
-  find_has (Calc r values) suppress why passed h = in_vain (Find (Calc r values) suppress) why cause.NoneSatisfies (first (with_calc schema capacity db r values)) refl h
+      of_current (Find suppress (OwnerOf s)) why (option_and_then (λ (place : Place). key_of_place (record place { at = None })) (place_in schema unit s)) refl (λ there. refl) h
+  find_has (Calc r values) suppress why passed h = in_vain (Find suppress (Calc r values)) why cause.NoneSatisfies (first (with_calc schema capacity db r values)) refl h
   find_has (NextDuplicate r) suppress why passed h =
-      of_search (Find (NextDuplicate r) suppress) why cause.End
+      of_search (Find suppress (NextDuplicate r)) why cause.End
       (λ k. first (filter (key_below k) (with_calc schema capacity db r (calc_items schema r (items_of db k)))))
       (λ k. (not (is_live db k), cause.Deleted) ∷ [])
       (at unit.currency.types r) refl refl
       (λ k is p. elim (first_in ((not (is_live db k), cause.Deleted) ∷ []) why p) [
-        | inl q ↦ has (Find (NextDuplicate r) suppress) why q.1 (map_some obstacle.Record (at unit.currency.types r) ∙ ap is_some is)
+        | inl q ↦ has (Find suppress (NextDuplicate r)) why q.1 (map_some obstacle.Record (at unit.currency.types r) ∙ ap is_some is)
         | inr q ↦ absurd q.1
       ]) h
-  find_has (Sorted value s) suppress why passed h =
-      of_search (Find (Sorted value s) suppress) why cause.NoneSatisfies
+  find_has (Sorted s value) suppress why passed h =
+      of_search (Find suppress (Sorted s value)) why cause.NoneSatisfies
       (λ (place : Place). find (λ k. some_and (value_eq value) (sort_key schema db s k)) (members_of db s place.owner))
       (λ (place : Place). (is_none (db.lists s place.owner), cause.Deleted) ∷ [])
       (place_in schema unit s) refl refl
       (λ place is p. elim (first_in ((is_none (db.lists s place.owner), cause.Deleted) ∷ []) why p) [
-        | inl q ↦ has (Find (Sorted value s) suppress) why q.1 refl
+        | inl q ↦ has (Find suppress (Sorted s value)) why q.1 refl
         | inr q ↦ absurd q.1
       ]) h
 
   -- WHAT NO CHECK REFUSES
 
-  finding_has : (form : Form) (suppress : Suppress) (why : Cause) (after : DbKey → Unit) → refused_at_once schema capacity unit (Find form suppress) ≡ None → (r : Result DbKey Cause) → found schema capacity db unit form ≡ r
-      → (finding db unit r after).answer.status ≡ Refused why → Has (Find form suppress) why
+  finding_has : (form : Form) (suppress : Suppress) (why : Cause) (after : DbKey → Unit) → refused_at_once schema capacity unit (Find suppress form) ≡ None → (r : Result DbKey Cause) → found schema capacity db unit form ≡ r
+      → (finding db unit r after).answer.status ≡ Refused why → Has (Find suppress form) why
   finding_has form suppress why after passed (Ok k) is h = absurd (cc (h))
   finding_has form suppress why after passed (Err c) is h = let same : c ≡ why = cc (h) in find_has form suppress why passed (is ∙ ap Err same)
 
@@ -138,7 +138,7 @@ module _ (schema : Lists) (capacity : ℕ) (db : Database) (unit : Unit) where
   not_done : (x : Statement) (why : Cause) → refused_at_once schema capacity unit x ≡ None → (done_on_cells schema capacity db unit x).answer.status ≡ Refused why → Has x why
   not_done (OpenArea a mode) why passed h = absurd (done_not_refused why h)
   not_done (CloseArea a) why passed h = absurd (done_not_refused why h)
-  not_done (Find form suppress) why passed h = finding_has form suppress why _ passed (found schema capacity db unit form) refl h
+  not_done (Find suppress form) why passed h = finding_has form suppress why _ passed (found schema capacity db unit form) refl h
   not_done (Get r) why passed h = on_current (Get r) why unit.currency.run_unit _ (λ k. refl) h
   not_done (Store t items suppress) why passed h = absurd (done_not_refused why h)
   not_done (Insert s) why passed h = on_current (Insert s) why unit.currency.run_unit _ (λ k. refl) h

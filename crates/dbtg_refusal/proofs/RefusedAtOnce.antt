@@ -90,7 +90,7 @@ module _ (schema : Lists) (sound : IsSound schema) (unit : Unit) where
   inserting : (x : Statement) → is_inserting_mandatory_automatic schema unit x ≡ true → is_some (class_of unit x) ≡ true
   inserting (OpenArea a mode) h = absurd (false≢true h)
   inserting (CloseArea a) h = absurd (false≢true h)
-  inserting (Find form suppress) h = absurd (false≢true h)
+  inserting (Find suppress form) h = absurd (false≢true h)
   inserting (Get r) h = absurd (false≢true h)
   inserting (Store t items suppress) h = absurd (false≢true h)
   inserting (Insert s) h = of_class s _ h
@@ -103,7 +103,7 @@ module _ (schema : Lists) (sound : IsSound schema) (unit : Unit) where
   removing : (x : Statement) → is_removing_mandatory schema unit x ≡ true → is_some (class_of unit x) ≡ true
   removing (OpenArea a mode) h = absurd (false≢true h)
   removing (CloseArea a) h = absurd (false≢true h)
-  removing (Find form suppress) h = absurd (false≢true h)
+  removing (Find suppress form) h = absurd (false≢true h)
   removing (Get r) h = absurd (false≢true h)
   removing (Store t items suppress) h = absurd (false≢true h)
   removing (Insert s) h = absurd (false≢true h)
@@ -125,7 +125,7 @@ module _ (schema : Lists) (sound : IsSound schema) (unit : Unit) where
   opening_again : (x : Statement) → fits schema x ≡ true → is_opening_again unit x ≡ true → is_some (option_and_then (opened_by unit) (area_with is_some schema unit x)) ≡ true
   opening_again (OpenArea a mode) fit h = let f = area_found is_some (OpenArea a mode) fit (or_left _ _ h) in opened is_some (OpenArea a mode) f.0 f.1 f.2
   opening_again (CloseArea a) fit h = absurd (false≢true h)
-  opening_again (Find form suppress) fit h = absurd (false≢true h)
+  opening_again (Find suppress form) fit h = absurd (false≢true h)
   opening_again (Get r) fit h = absurd (false≢true h)
   opening_again (Store t items suppress) fit h = absurd (false≢true h)
   opening_again (Insert s) fit h = absurd (false≢true h)
@@ -142,7 +142,7 @@ module _ (schema : Lists) (sound : IsSound schema) (unit : Unit) where
   is_no_open : (x : Statement) → changes_records x ≡ true → not (is_open_statement x) ≡ true
   is_no_open (OpenArea a mode) h = absurd (false≢true h)
   is_no_open (CloseArea a) h = refl
-  is_no_open (Find form suppress) h = refl
+  is_no_open (Find suppress form) h = refl
   is_no_open (Get r) h = refl
   is_no_open (Store t items suppress) h = refl
   is_no_open (Insert s) h = refl
@@ -174,12 +174,12 @@ module _ (schema : Lists) (sound : IsSound schema) (unit : Unit) where
   find_lacks (OwnerOf s) h = refl
   find_lacks (Calc r values) h = absurd (false≢true h)
   find_lacks (NextDuplicate r) h = refl
-  find_lacks (Sorted value s) h = refl
+  find_lacks (Sorted s value) h = refl
 
   lacking : (x : Statement) → lacks_current schema unit x ≡ true → is_some (without_current schema unit x) ≡ true
   lacking (OpenArea a mode) h = absurd (false≢true h)
   lacking (CloseArea a) h = absurd (false≢true h)
-  lacking (Find form suppress) h = find_lacks form h
+  lacking (Find suppress form) h = find_lacks form h
   lacking (Get r) h = absurd (false≢true h)
   lacking (Store t items suppress) h = map_some obstacle.Set _ ∙ any_is_found (λ s. is_none (place_in schema unit s)) (automatic_sets schema t) ∙ h
   lacking (Insert s) h = refl
@@ -192,17 +192,17 @@ module _ (schema : Lists) (sound : IsSound schema) (unit : Unit) where
   beyond : (capacity : ℕ) (x : Statement) → is_beyond capacity x ≡ true → is_some (searched schema unit x) ≡ true
   beyond capacity (OpenArea a mode) h = absurd (false≢true h)
   beyond capacity (CloseArea a) h = absurd (false≢true h)
-  beyond capacity (Find (Key k) suppress) h = refl
-  beyond capacity (Find CurrentOfUnit suppress) h = absurd (false≢true h)
-  beyond capacity (Find (CurrentOfType r) suppress) h = absurd (false≢true h)
-  beyond capacity (Find (CurrentOfSet s) suppress) h = absurd (false≢true h)
-  beyond capacity (Find (CurrentOfArea a) suppress) h = absurd (false≢true h)
-  beyond capacity (Find (InSet which r s) suppress) h = absurd (false≢true h)
-  beyond capacity (Find (InArea which r a) suppress) h = absurd (false≢true h)
-  beyond capacity (Find (OwnerOf s) suppress) h = absurd (false≢true h)
-  beyond capacity (Find (Calc r values) suppress) h = absurd (false≢true h)
-  beyond capacity (Find (NextDuplicate r) suppress) h = absurd (false≢true h)
-  beyond capacity (Find (Sorted value s) suppress) h = absurd (false≢true h)
+  beyond capacity (Find suppress (Key k)) h = refl
+  beyond capacity (Find suppress CurrentOfUnit) h = absurd (false≢true h)
+  beyond capacity (Find suppress (CurrentOfType r)) h = absurd (false≢true h)
+  beyond capacity (Find suppress (CurrentOfSet s)) h = absurd (false≢true h)
+  beyond capacity (Find suppress (CurrentOfArea a)) h = absurd (false≢true h)
+  beyond capacity (Find suppress (InSet which r s)) h = absurd (false≢true h)
+  beyond capacity (Find suppress (InArea which r a)) h = absurd (false≢true h)
+  beyond capacity (Find suppress (OwnerOf s)) h = absurd (false≢true h)
+  beyond capacity (Find suppress (Calc r values)) h = absurd (false≢true h)
+  beyond capacity (Find suppress (NextDuplicate r)) h = absurd (false≢true h)
+  beyond capacity (Find suppress (Sorted s value)) h = absurd (false≢true h)
   beyond capacity (Get r) h = absurd (false≢true h)
   beyond capacity (Store t items suppress) h = absurd (false≢true h)
   beyond capacity (Insert s) h = absurd (false≢true h)
@@ -219,7 +219,7 @@ module _ (schema : Lists) (sound : IsSound schema) (unit : Unit) where
   not_kept : (x : Statement) → (needs_current x && is_none unit.currency.run_unit) ≡ false → frees_what_is_not_kept unit x ≡ true → is_some (option_map obstacle.Record unit.currency.run_unit) ≡ true
   not_kept (OpenArea a mode) current h = absurd (false≢true h)
   not_kept (CloseArea a) current h = absurd (false≢true h)
-  not_kept (Find form suppress) current h = absurd (false≢true h)
+  not_kept (Find suppress form) current h = absurd (false≢true h)
   not_kept (Get r) current h = absurd (false≢true h)
   not_kept (Store t items suppress) current h = absurd (false≢true h)
   not_kept (Insert s) current h = absurd (false≢true h)

@@ -229,7 +229,7 @@ module _ (schema : Lists) (capacity : ℕ) (db : Database) (unit : Unit) where
         | inr q ↦ absurd q.1
       ]
   on_cells (CloseArea a) why h = absurd (cc (h))
-  on_cells (Find form suppress) why h = absurd (cc (h))
+  on_cells (Find suppress form) why h = absurd (cc (h))
   on_cells (Get r) why h = live (Get r) why recorded unit.currency.run_unit refl h
   on_cells (Store t items suppress) why h = store_has t items suppress why h
   on_cells (Insert s) why h = insert_has s why unit.currency.run_unit refl h

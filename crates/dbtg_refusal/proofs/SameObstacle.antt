@@ -40,7 +40,7 @@ module _ (schema : Lists) (view : StoredFacts) (holder : Holder) (unit : Unit) w
       × (listed (blind view) unit statement ≡ listed view unit statement)
   in_statement (OpenArea a mode) = (refl, refl, refl, refl)
   in_statement (CloseArea a) = (refl, refl, refl, refl)
-  in_statement (Find form suppress) = (refl, refl, refl, refl)
+  in_statement (Find suppress form) = (refl, refl, refl, refl)
   in_statement (Get r) = (refl, refl, refl, refl)
   in_statement (Store t items suppress) = (refl, refl, refl, refl)
   in_statement (Insert s) = (refl, refl, refl, refl)
@@ -53,17 +53,17 @@ module _ (schema : Lists) (view : StoredFacts) (holder : Holder) (unit : Unit) w
   in_lost : (statement : Statement) → lost_for schema (blind view) unit statement ≡ lost_for schema view unit statement
   in_lost (OpenArea a mode) = refl
   in_lost (CloseArea a) = refl
-  in_lost (Find (Key k) suppress) = refl
-  in_lost (Find CurrentOfUnit suppress) = refl
-  in_lost (Find (CurrentOfType r) suppress) = refl
-  in_lost (Find (CurrentOfSet s) suppress) = refl
-  in_lost (Find (CurrentOfArea a) suppress) = refl
-  in_lost (Find (InSet which r s) suppress) = refl
-  in_lost (Find (InArea which r a) suppress) = refl
-  in_lost (Find (OwnerOf s) suppress) = refl
-  in_lost (Find (Calc r values) suppress) = refl
-  in_lost (Find (NextDuplicate r) suppress) = refl
-  in_lost (Find (Sorted value s) suppress) = refl
+  in_lost (Find suppress (Key k)) = refl
+  in_lost (Find suppress CurrentOfUnit) = refl
+  in_lost (Find suppress (CurrentOfType r)) = refl
+  in_lost (Find suppress (CurrentOfSet s)) = refl
+  in_lost (Find suppress (CurrentOfArea a)) = refl
+  in_lost (Find suppress (InSet which r s)) = refl
+  in_lost (Find suppress (InArea which r a)) = refl
+  in_lost (Find suppress (OwnerOf s)) = refl
+  in_lost (Find suppress (Calc r values)) = refl
+  in_lost (Find suppress (NextDuplicate r)) = refl
+  in_lost (Find suppress (Sorted s value)) = refl
   in_lost (Get r) = refl
   in_lost (Store t items suppress) = refl
   in_lost (Insert s) = refl

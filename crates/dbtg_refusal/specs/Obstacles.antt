@@ -58,12 +58,12 @@ current_for (InSet which r s) = Some (obstacle.Set s)
 current_for (InArea which r a) = Some (obstacle.Area a)
 current_for (OwnerOf s) = Some (obstacle.Set s)
 current_for (NextDuplicate r) = Some (obstacle.RecordType r)
-current_for (Sorted value s) = Some (obstacle.Set s)
+current_for (Sorted s value) = Some (obstacle.Set s)
 current_for _ = None
 
 -- what has no current; for a STORE the first automatic set
 abbrev pub without_current : Lists → Unit → Statement → Option Obstacle
-without_current schema unit (Find form suppress) = current_for form
+without_current schema unit (Find suppress form) = current_for form
 without_current schema unit (Store t items suppress) = option_map obstacle.Set (find (λ s. is_none (place_in schema unit s)) (automatic_sets schema t))
 without_current schema unit (Insert s) = Some (obstacle.Set s)
 without_current schema unit _ = None
@@ -108,12 +108,12 @@ start_of schema unit (CurrentOfArea a) = option_map obstacle.Record (at unit.cur
 start_of schema unit (InSet which r s) = Some (obstacle.Occurrence s (joined_place schema unit s).owner)
 start_of schema unit (OwnerOf s) = Some (obstacle.Occurrence s (joined_place schema unit s).owner)
 start_of schema unit (NextDuplicate r) = option_map obstacle.Record (at unit.currency.types r)
-start_of schema unit (Sorted value s) = Some (obstacle.Occurrence s (joined_place schema unit s).owner)
+start_of schema unit (Sorted s value) = Some (obstacle.Occurrence s (joined_place schema unit s).owner)
 start_of schema unit _ = None
 
 -- what is deleted: the record itself, or the owner in the current of a set
 abbrev pub deleted_for : Lists → StoredFacts → Unit → Statement → Option Obstacle
-deleted_for schema view unit (Find form suppress) = start_of schema unit form
+deleted_for schema view unit (Find suppress form) = start_of schema unit form
 deleted_for schema view unit (Store t items suppress) = in_store schema view unit t items Deleted
 deleted_for schema view unit (Insert s) =
     option_map (λ k. if view.is_live k then obstacle.Occurrence s (joined_place schema unit s).owner else obstacle.Record k) unit.currency.run_unit
@@ -121,7 +121,7 @@ deleted_for schema view unit _ = option_map obstacle.Record unit.currency.run_un
 
 -- the position that is lost
 abbrev pub lost_for : Lists → StoredFacts → Unit → Statement → Option Obstacle
-lost_for schema view unit (Find (InSet which r s) suppress) = at_place schema view s (joined_place schema unit s) None PositionLost
+lost_for schema view unit (Find suppress (InSet which r s)) = at_place schema view s (joined_place schema unit s) None PositionLost
 lost_for schema view unit (Store t items suppress) = in_store schema view unit t items PositionLost
 lost_for schema view unit (Insert s) = at_place schema view s (joined_place schema unit s) None PositionLost
 lost_for schema view unit _ = None
@@ -153,12 +153,12 @@ duplicate_for schema view holder unit _ = None
 
 -- where a FIND looks in vain
 abbrev pub searched : Lists → Unit → Statement → Option Obstacle
-searched schema unit (Find (Key k) suppress) = Some (obstacle.Record k)
-searched schema unit (Find (InSet which r s) suppress) = Some (obstacle.Occurrence s (joined_place schema unit s).owner)
-searched schema unit (Find (InArea which r a) suppress) = Some (obstacle.Area a)
-searched schema unit (Find (Calc r values) suppress) = Some (obstacle.RecordType r)
-searched schema unit (Find (NextDuplicate r) suppress) = Some (obstacle.RecordType r)
-searched schema unit (Find (Sorted value s) suppress) = Some (obstacle.Occurrence s (joined_place schema unit s).owner)
+searched schema unit (Find suppress (Key k)) = Some (obstacle.Record k)
+searched schema unit (Find suppress (InSet which r s)) = Some (obstacle.Occurrence s (joined_place schema unit s).owner)
+searched schema unit (Find suppress (InArea which r a)) = Some (obstacle.Area a)
+searched schema unit (Find suppress (Calc r values)) = Some (obstacle.RecordType r)
+searched schema unit (Find suppress (NextDuplicate r)) = Some (obstacle.RecordType r)
+searched schema unit (Find suppress (Sorted s value)) = Some (obstacle.Occurrence s (joined_place schema unit s).owner)
 searched schema unit _ = None
 
 -- the first unit, in the order of opening, whose mode conflicts

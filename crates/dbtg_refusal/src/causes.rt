@@ -53,7 +53,7 @@ fn deleted_for(
     ensures { result ≡ deleted_for schema.now (imaged schema.now image.now) unit.now statement.now }
 {
     match statement {
-        Statement::Find(form, _) => start_of(schema, unit, form),
+        Statement::Find(_, form) => start_of(schema, unit, form),
         Statement::Store { rtype, items, .. } => {
             let items = Items {
                 rtype: *rtype,
@@ -74,7 +74,7 @@ fn lost_in(schema: &Schema, unit: &Unit, set: SetNo) -> Option<Obstacle>
 }
 
 fn lost_in_find(schema: &Schema, image: &Image, unit: &Unit, form: &Form) -> Option<Obstacle>
-    ensures { (suppress : Suppress) → result ≡ lost_for schema.now (imaged schema.now image.now) unit.now (Find form.now suppress) }
+    ensures { (suppress : Suppress) → result ≡ lost_for schema.now (imaged schema.now image.now) unit.now (Find suppress form.now) }
 {
     match form {
         Form::InSet { set, .. } => lost_in(schema, unit, *set),
@@ -86,7 +86,7 @@ fn lost_for(schema: &Schema, image: &Image, unit: &Unit, statement: &Statement) 
     ensures { result ≡ lost_for schema.now (imaged schema.now image.now) unit.now statement.now }
 {
     match statement {
-        Statement::Find(form, _) => lost_in_find(schema, image, unit, form),
+        Statement::Find(_, form) => lost_in_find(schema, image, unit, form),
         Statement::Store { rtype, items, .. } => {
             let items = Items {
                 rtype: *rtype,

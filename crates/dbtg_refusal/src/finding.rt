@@ -92,7 +92,7 @@ pub(crate) fn without_current(
     ensures { result ≡ without_current schema.now unit.now statement.now }
 {
     match statement {
-        Statement::Find(form, _) => current_for(form),
+        Statement::Find(_, form) => current_for(form),
         Statement::Store { rtype, .. } => set_of(null_set(schema, unit, *rtype)),
         Statement::Insert(set) => Some(Obstacle::Set(*set)),
         _ => None,
@@ -132,7 +132,7 @@ pub(crate) fn start_of(schema: &Schema, unit: &Unit, form: &Form) -> Option<Obst
 }
 
 fn searched_by(schema: &Schema, unit: &Unit, form: &Form) -> Option<Obstacle>
-    ensures { (suppress : Suppress) → result ≡ searched schema.now unit.now (Find form.now suppress) }
+    ensures { (suppress : Suppress) → result ≡ searched schema.now unit.now (Find suppress form.now) }
 {
     match form {
         Form::Key(key) => Some(Obstacle::Record(*key)),
@@ -152,7 +152,7 @@ pub(crate) fn searched(schema: &Schema, unit: &Unit, statement: &Statement) -> O
     ensures { result ≡ searched schema.now unit.now statement.now }
 {
     match statement {
-        Statement::Find(form, _) => searched_by(schema, unit, form),
+        Statement::Find(_, form) => searched_by(schema, unit, form),
         _ => None,
     }
 }

@@ -106,7 +106,7 @@ no_such_value : refused shop 100 1 (by 1 stored) 1 (find (Calc customers (Num 2 
 unfolding effect
 no_such_value = refl
 
-no_such_sort_key : refused shop 100 1 (by 1 stored) 1 (find (Sorted (Num 6) lines)) ≡ Some (cause.NoneSatisfies, Some (obstacle.Occurrence lines (Rec (ordr_key 1))))
+no_such_sort_key : refused shop 100 1 (by 1 stored) 1 (find (Sorted lines (Num 6))) ≡ Some (cause.NoneSatisfies, Some (obstacle.Occurrence lines (Rec (ordr_key 1))))
 unfolding effect
 no_such_sort_key = refl
 
