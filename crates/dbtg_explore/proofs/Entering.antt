@@ -7,7 +7,7 @@ use Rattle.std.specs.Str.{bytes_eq}
 use Rattle.std.proofs.lemmas.Bool.{cases_Bool, or_parts, true≢false}
 use Rattle.std.proofs.lemmas.List.{map_push}
 use Rattle.std.proofs.lemmas.Slice.Eq.{bytes_eq-Decides}
-use Rattle.dbtg_explore.specs.Inside.Found.{FoundOrders, IsEntered}
+use Rattle.dbtg_explore.specs.Inside.Found.{FoundOrders, IsEntered, IsPut}
 use Rattle.dbtg_explore.proofs.Searched.{contains_behind, contains_cases, contains_here, contains_none}
 
 module _ {K : Type 0} (items : K → List ℕ) where
@@ -46,15 +46,18 @@ module _ {K : Type 0} (items : K → List ℕ) where
 
   module _ (ks new_ks : List K) (k : K) (is_new : Bool) (told : is_new ≡ not (is_there ks k)) (are : new_ks ≡ (if is_there ks k then ks else ks ++ k ∷ [])) (orders : List (List ℕ)) (old : FoundOrders) (old_is : record { keys = numbers ks; orders = orders } ≡ old) (order : List ℕ) where
     -- a new key comes after the others
-    pub is_entered : (new_orders : List (List ℕ)) → is_new ≡ true → new_orders ≡ orders ++ order ∷ [] → IsEntered old (items k) order (record { keys = numbers new_ks; orders = new_orders })
-    is_entered new_orders fresh more =
+    pub is_put : (new_orders : List (List ℕ)) → is_new ≡ true → new_orders ≡ orders ++ order ∷ [] → IsPut old (items k) order (record { keys = numbers new_ks; orders = new_orders })
+    is_put new_orders fresh more =
         let gone : is_there ks k ≡ false = not_true (is_there ks k) (sym fresh ∙ told) in
-        subst (λ o. IsEntered o (items k) order (record { keys = numbers new_ks; orders = new_orders })) old_is
-        (inr (record {
+        subst (λ o. IsPut o (items k) order (record { keys = numbers new_ks; orders = new_orders })) old_is
+        (record {
           absent = absent ks k gone;
           keys_are = ap numbers (are ∙ ap (λ b. if b then ks else ks ++ k ∷ []) gone) ∙ map_push items ks k;
           orders_are = more;
-        }))
+        })
+
+    pub is_entered : (new_orders : List (List ℕ)) → is_new ≡ true → new_orders ≡ orders ++ order ∷ [] → IsEntered old (items k) order (record { keys = numbers new_ks; orders = new_orders })
+    is_entered new_orders fresh more = inr (is_put new_orders fresh more)
 
     -- a known key changes nothing
     pub is_entered_before : is_new ≡ false → IsEntered old (items k) order (record { keys = numbers new_ks; orders = orders })

@@ -7,6 +7,7 @@ pub mod Placed
 pub mod Before
 pub mod Entering
 pub mod Failing
+pub mod Links
 pub mod Inserting
 pub mod Searched
 pub mod Steps

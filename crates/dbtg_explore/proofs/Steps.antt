@@ -72,16 +72,9 @@ module _ (m : Meeting) where
   Under = IsUnderWay (IsOrder m) (can_follow m) (essence_of m)
 
   -- the first order of all
-  module _ (old found : FoundOrders) (none : old ≡ record { keys = []; orders = [] }) (key : List ℕ) (is : key ≡ numbers_of m []) (first : List ℕ) (first_is : first ≡ []) (entered : IsEntered old key first found) where
-    pub begins : (found.orders ≡ [] ∷ []) × (found.keys ≡ map (numbers_of m) ([] ∷ []))
-    begins =
-        elim entered [
-          | inl known ↦ absurd (contains_none key (subst (λ (f : FoundOrders). Contains f.keys key) none known.0))
-          | inr put ↦ (
-            put.orders_are ∙ (λ i. (none i).orders ++ first_is i ∷ []),
-            put.keys_are ∙ (λ i. (none i).keys ++ is i ∷ []),
-          )
-        ]
+  module _ (found : FoundOrders) (key : List ℕ) (key_is : key ≡ numbers_of m []) (is : found ≡ record { keys = key ∷ []; orders = [] ∷ [] }) where
+    begins : (found.orders ≡ [] ∷ []) × (found.keys ≡ map (numbers_of m) ([] ∷ []))
+    begins = (ap (λ (f : FoundOrders). f.orders) is, ap (λ (f : FoundOrders). f.keys) is ∙ (λ i. key_is i ∷ []))
 
     pub at_first : (s : given.Search) → s.found ≡ found → length found.orders ≤ s.limit → IsAt m 0 0 s
     at_first s found_is few =

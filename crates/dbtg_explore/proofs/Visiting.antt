@@ -25,7 +25,7 @@ use Rattle.dbtg_explore.proofs.Alike.{can_go_on_alike}
 use Rattle.dbtg_explore.proofs.Before.{no_later_trans}
 use Rattle.dbtg_explore.proofs.Keyed.{same_text}
 use Rattle.dbtg_explore.proofs.Searched.{all_found, in_order_at}
-use Rattle.dbtg_explore.proofs.Steps.{goes_on, kept_at, kept_range}
+use Rattle.dbtg_explore.proofs.Steps.{goes_on, kept_range}
 
 -- orders before place i are before the order at it
 is_behind : (os : List (List ℕ)) (i : ℕ) → ArePairwise IsBefore os → i < length os → IsBehind (take i os) (get_or os i [])
@@ -43,10 +43,8 @@ pub record IsOnTheWay (m : Meeting) (limit i : ℕ) (s : search.Search) (e : end
 
 module _ (m : Meeting) where
   -- one more state
-  pub visited_more : (i : ℕ) (old new : search.Search) (before after : ends.Ends) (o : List ℕ) → i < length old.found.orders → IsVisited m i old before → Goes m (i + 1) 0 old new → o ≡ get_or new.found.orders i [] → Notes m o before after → HasVisited m i old new after
-  visited_more i old new before after o low visited goes is notes =
-      let same : get_or new.found.orders i [] ≡ get_or old.found.orders i [] = kept_at m (i + 1) i 0 old new goes low in
-      let here : o ≡ get_or old.found.orders i [] = is ∙ same in
+  pub visited_more : (i : ℕ) (old new : search.Search) (before after : ends.Ends) (o : List ℕ) → i < length old.found.orders → IsVisited m i old before → Goes m (i + 1) 0 old new → o ≡ get_or old.found.orders i [] → Notes m o before after → HasVisited m i old new after
+  visited_more i old new before after o low visited goes here notes =
       let behind = subst (IsBehind (take i old.found.orders)) (sym here) (is_behind old.found.orders i visited.at.under_way.in_order low) in
       let noted = notes (take i old.found.orders) behind visited.ends in
       let longer : take (i + 1) old.found.orders ≡ take i old.found.orders ++ o ∷ [] = take_more old.found.orders i [] low ∙ ap (λ (p : List ℕ). take i old.found.orders ++ p ∷ []) (sym here) in

@@ -4,6 +4,7 @@ pub mod Ends
 pub mod Failures
 pub mod Found
 pub mod Keys
+pub mod Links
 pub mod Whereabouts
 pub mod Rounds
 pub mod Search

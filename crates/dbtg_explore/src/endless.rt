@@ -129,11 +129,11 @@ pub fn endless_in(
     if states <= round.start {
         return Ok(None);
     }
-    let turns = search.found.at(round.start);
-    if !is_endless(alloc, meeting, turns, round.units.as_slice())? {
+    let turns = search.found.order(alloc, round.start)?;
+    if !is_endless(alloc, meeting, turns.as_slice(), round.units.as_slice())? {
         return Ok(None);
     }
-    let turns = Row::of(Vec::from_slice(alloc, turns)?);
+    let turns = Row::of(turns);
     let round = Row::of(round.units);
     Ok(Some(Endless { turns, round }))
 }

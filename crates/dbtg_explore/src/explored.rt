@@ -53,10 +53,11 @@ fn visit(
     ensures visited { OnOk result (HasVisited meeting.now place search.old search.new ends.new) }
     ensures stopped { IfErr result (λ stop. stop ≡ States → HasMoreStates meeting.now search.old.limit) }
 {
-    let here = meeting.go_to(alloc, search.found.at(place))?;
+    let order = search.found.order(alloc, place)?;
+    let here = meeting.go_to(alloc, order.as_slice())?;
     match search.go_on(alloc, meeting, place, &here) {
         Ok(()) => {
-            ends.note(alloc, meeting, search.found.at(place), here)?;
+            ends.note(alloc, meeting, order.as_slice(), here)?;
             Ok(())
         }
         Err(stop) => {

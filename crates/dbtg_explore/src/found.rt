@@ -1,7 +1,7 @@
 //! Orders that were found, each the first under its key.
 
 ghost use Rattle.dbtg_explore.specs.Inside.Found.{IsEntered};
-ghost use Rattle.std.specs.Prelude.{◌≡◌, ◌<◌, [], length, slice_index_or, OnOk};
+ghost use Rattle.std.specs.Prelude.{◌≡◌, [], OnOk};
 
 use dbtg_schema::Row;
 use indexmap::IndexSet;
@@ -33,21 +33,6 @@ impl Found {
             keys: IndexSet::new(alloc),
             orders: Vec::new(alloc),
         }
-    }
-
-    /// How many there are.
-    pub fn len(&self) -> usize
-        ensures { result ≡ length self.now.orders }
-    {
-        self.orders.len()
-    }
-
-    /// The order that was found at this place, from 0.
-    pub fn at(&self, place: usize) -> &[u8]
-        requires { place < length self.now.orders }
-        ensures { result.now ≡ slice_index_or self.now.orders place [] }
-    {
-        self.orders[place].as_slice()
     }
 
     /// Appends an order, if its key is new. Gives the place of the key.

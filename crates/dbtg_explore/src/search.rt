@@ -8,29 +8,19 @@ ghost use Rattle.dbtg_explore.specs.States.{HasMoreStates};
 ghost use Rattle.dbtg_outcomes.specs.declared.search.Stop.TheVariants.{States};
 ghost use Rattle.std.specs.Prelude.{◌≡◌, ◌+◌, ◌<◌, ◌++◌, ◌∷◌, [], true, length, slice_index_or, IfErr, IfOk, OnOk};
 
-use crate::found::Found;
 use crate::graph::Edge;
 use crate::meeting::Meeting;
+use crate::states::States;
 use crate::whereabouts::Whereabouts;
 use dbtg_outcomes::Stop;
-use dbtg_schema::Row;
 use std::alloc::{AllocError, Global};
 
 /// The first order to each state that is found, the turns from state to state, and how many states there may be.
 #[derive(Drop)]
 pub struct Search {
-    pub found: Found,
+    pub found: States,
     pub edges: Vec<Edge>,
     pub limit: usize,
-}
-
-// An order with one turn more.
-fn with_turn(alloc: Global, order: &[u8], unit: u8) -> Result<Row<u8>, AllocError>
-    ensures { IfOk result (λ turns. turns ≡ order.now ++ unit ∷ []) }
-{
-    let mut turns = Vec::from_slice(alloc, order)?;
-    turns.push(unit)?;
-    Ok(Row::of(turns))
 }
 
 // The numbers of the state to which an order leads.
@@ -53,10 +43,8 @@ impl Search {
         ensures limit { IfOk result (λ search. search.limit ≡ limit) }
         ensures stopped { IfErr result (λ stop. stop ≡ States → HasMoreStates meeting.now limit) }
     {
-        let order = Row::of(Vec::new(alloc));
-        let key = key_after(alloc, meeting, order.as_slice())?;
-        let mut found = Found::none(alloc);
-        found.enter(key, order)?;
+        let key = key_after(alloc, meeting, &[])?;
+        let found = States::first(alloc, key)?;
         if limit < found.len() {
             return Err(Stop::States);
         }
@@ -65,6 +53,25 @@ impl Search {
             edges: Vec::new(alloc),
             limit,
         })
+    }
+
+    // The numbers of the state to which the turn of the unit leads there.
+    fn key_by(
+        &self,
+        alloc: Global,
+        meeting: &Meeting,
+        place: usize,
+        unit: u8,
+    ) -> Result<Vec<u64>, AllocError>
+        requires meeting { IsMeeting meeting.now }
+        requires at { IsAt meeting.now place unit self.now }
+        requires within { place < length self.now.found.orders }
+        requires turn { can_follow meeting.now (slice_index_or self.now.found.orders place []) unit ≡ true }
+        ensures { IfOk result (λ key. key.items ≡ numbers_of meeting.now (slice_index_or self.now.found.orders place [] ++ unit ∷ [])) }
+    {
+        let mut order = self.found.order(alloc, place)?;
+        order.push(unit)?;
+        key_after(alloc, meeting, order.as_slice())
     }
 
     // The unit has its turn there.
@@ -82,9 +89,8 @@ impl Search {
         ensures goes { OnOk result (Goes meeting.now place (unit + 1) self.old self.new) }
         ensures stopped { IfErr result (λ stop. stop ≡ States → HasMoreStates meeting.now self.old.limit) }
     {
-        let next = with_turn(alloc, self.found.at(place), unit)?;
-        let key = key_after(alloc, meeting, next.as_slice())?;
-        let to = self.found.enter(key, next)?;
+        let key = self.key_by(alloc, meeting, place, unit)?;
+        let (to, _is_new) = self.found.enter(key, place, unit)?;
         self.edges.push(Edge {
             from: place,
             unit,
