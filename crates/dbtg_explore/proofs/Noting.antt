@@ -18,7 +18,7 @@ use Rattle.dbtg_explore.specs.Inside.Ends.{AreFailuresOf, AreResultsOf, FailsAt,
 use Rattle.dbtg_explore.specs.Inside.Failures.{Take}
 use Rattle.dbtg_explore.specs.Inside.Found.{FoundOrders, IsEntered}
 use Rattle.dbtg_explore.specs.Inside.Search.{AreFirsts}
-use Rattle.dbtg_explore.specs.Inside.Whereabouts.{failure_by, failure_in}
+use Rattle.dbtg_explore.specs.Inside.Walks.{failure_by, failure_in}
 use Rattle.dbtg_explore.specs.Orders.{IsEnd, Meeting, can_go_on, history_of}
 use Rattle.dbtg_explore.specs.Results.{result_text}
 use Rattle.dbtg_explore.specs.States.{comes_of_each, state_after, state_of}

@@ -1,10 +1,10 @@
 -- Where a meeting is, and where a turn leads from there.
 -- m is a meeting, u a unit, x a statement.
-use Rattle.std.proofs.Common.{◌≡◌, ℕ, zero, suc, ◌+◌, ◌-◌, ◌<◌, ◌≤◌, Bool, true, false, ◌&&◌, List, [], ◌∷◌, ◌++◌, length, map, Option, Some, None, inr, refl, ap, subst, sym, ◌∙◌, slice_get, take, drop, take-append-drop, append_assoc, arith}
+use Rattle.std.proofs.Common.{◌≡◌, ℕ, zero, suc, ◌+◌, ◌-◌, ◌<◌, ◌≤◌, Bool, true, false, ◌&&◌, List, [], ◌∷◌, ◌++◌, length, map, Option, Some, None, inr, refl, ap, subst, sym, ◌∙◌, slice_get, append_assoc, arith}
 use Rattle.std.specs.Prelude.{flat_map, is_some, not, option_and_then, option_map, nat_lt, slice_index_or, ◌||◌}
 use Rattle.std.specs.List.{list_all, list_any, range_with_len}
 use Rattle.std.proofs.lemmas.Bool.Decides.{nat_tests}
-use Rattle.std.proofs.lemmas.List.{length-map, take_more}
+use Rattle.std.proofs.lemmas.List.{length-map}
 use Rattle.dbtg_schema.specs.Lists.{Lists}
 use Rattle.dbtg_unit.specs.declared.statement.Statement.{Statement}
 use Rattle.dbtg_unit.specs.declared.unit.Entry.{Entry}
@@ -17,31 +17,28 @@ use Rattle.dbtg_unit.proofs.Public.{any_in, in_range, range_more}
 use Rattle.dbtg_program.specs.declared.going.Due.TheVariants as code_due
 use Rattle.dbtg_program.specs.declared.program.Program.{Program}
 use Rattle.dbtg_program.specs.Going.{Due}
-use Rattle.dbtg_step.specs.Core.Whole.{HasMade, IsMadeRun, Making, state_now}
-use Rattle.dbtg_step.specs.declared.results.Run.{Run}
+use Rattle.dbtg_step.specs.Core.Whole.{HasMade, Making, state_now}
 use Rattle.dbtg_step.specs.Machine.SequentialDatabase.{unit_at, with_unit_at}
 use Rattle.dbtg_step.proofs.Public.{map_at}
 use Rattle.dbtg_going.specs.declared.member.Going.{Going}
-use Rattle.dbtg_going.specs.Goings.{AreAfter, AreGoing, IsGoing, comes_of}
+use Rattle.dbtg_going.specs.Goings.{AreGoing, IsGoing, comes_of}
 use Rattle.dbtg_going.specs.Turns as turns
-use Rattle.dbtg_going.specs.Turns.{comes, made, making_by, statement_due}
+use Rattle.dbtg_going.specs.Turns.{comes, made, statement_due}
 use Rattle.dbtg_going.proofs.Turning.{at_index, is_due, nobody, one_more}
 use Rattle.dbtg_going.specs.declared.member.Reached.{Reached}
 use Rattle.dbtg_going.specs.Texts.{programs_text}
 use Rattle.dbtg_script.specs.Printing.Texts.{run_text}
 use Rattle.dbtg_outcomes.specs.Results.{by_unit}
 use Rattle.dbtg_outcomes.specs.Spelling.{list_numbers}
-use Rattle.dbtg_explore.specs.declared.whereabouts.Whereabouts.{Whereabouts}
-use Rattle.dbtg_explore.specs.Orders.{CanFollow, IsMeeting, IsOrder, Meeting, after_order, after_turn, beginning, can_turn, due_of, history_of, waits}
+use Rattle.dbtg_explore.specs.Orders.{IsMeeting, Meeting, after_turn, can_turn, due_of, waits}
 use Rattle.dbtg_explore.specs.Results.{reached_of, state_text}
 use Rattle.dbtg_explore.specs.States.{comes_of_each, sequential_after, state_after, without_versions}
 use Rattle.dbtg_explore.specs.Inside.Versions.{is_in_order, unit_among}
 use Rattle.dbtg_explore.specs.Versions.{unversioned}
 use Rattle.dbtg_explore.proofs.Keyed.{legal_after}
 use Rattle.dbtg_explore.proofs.Versions.Images.{image_first, kept_in_order, units_by_list}
-use Rattle.dbtg_explore.specs.Inside.Whereabouts.{AreStanding, HasTurned, HaveTurned, AreWhereabouts, AreWhereaboutsOf, failure_by, failure_in}
+use Rattle.dbtg_explore.specs.Inside.Walks.{AreStanding, HasTurned, failure_by, failure_in}
 use Rattle.dbtg_explore.proofs.Alike.{due_is}
-use Rattle.dbtg_explore.proofs.Turning.{first_can, follow_both, follow_front, follow_rest, history_on, no_turn, none_follow, one_follows, one_turn, order_behind}
 
 -- WHAT IS DUE
 
@@ -62,7 +59,7 @@ in_list [] k x e = absurd cc
 in_list (y ∷ xs) zero x e = omega arith
 in_list (y ∷ xs) (suc k) x e = let rest = in_list xs k x e in omega (arith, rest)
 
-has_number : {X : Type 0} (xs : List X) (u : ℕ) (x : X) → unit_at xs u ≡ Some x → (0 < u) × (u ≤ length xs)
+pub has_number : {X : Type 0} (xs : List X) (u : ℕ) (x : X) → unit_at xs u ≡ Some x → (0 < u) × (u ≤ length xs)
 unfolding unit_at
 has_number xs zero x e = absurd cc
 has_number xs (suc k) x e = let low = in_list xs k x e in (omega arith, omega (arith, low))
@@ -112,9 +109,10 @@ module _ (m : Meeting) (database : Making) (goings : List Going) (w : AreStandin
         are_going = subst (λ es. AreGoing m.schema m.programs es (with_unit_at goings u on)) (sym history_is) (one_more (IsGoing m.schema) m.programs database.history goings w.are_going u entry refl a.program a.going on a.program_found a.going_found is);
       };
       history_is = history_is ∙ after_is said;
+      entry = entry;
+      of_unit = refl;
+      one_more = history_is;
     }
-
--- TURNS ONE AFTER ANOTHER
 
 -- if a unit can have its turn, a statement is due
 module _ (m : Meeting) where
@@ -123,51 +121,6 @@ module _ (m : Meeting) where
     by : (o : Option Statement) → None ≡ o → (is_some o && not (waits m history u)) ≡ true → ⊥
     by None e f = absurd cc
     by (Some x) e f = absurd cc
-
-  pub none_turned : (place : Whereabouts) → AreWhereabouts m place → HaveTurned m [] place place
-  none_turned place is = record { is_place = is; history_is = sym (no_turn m place.database.history) }
-
-  pub turned_also : (old mid new : Whereabouts) (us : List ℕ) (u : ℕ) → HaveTurned m us old mid → HasTurned m u mid.database new.database new.goings.items → HaveTurned m (us ++ u ∷ []) old new
-  turned_also old mid new us u a b = record {
-    is_place = b.standing;
-    history_is = b.history_is ∙ ap (λ es. after_turn m es u) a.history_is ∙ sym (one_turn m (after_order m old.database.history us) u) ∙ sym (order_behind m old.database.history us (u ∷ []));
-  }
-
-  pub next_can : (old mid : Whereabouts) (us : List ℕ) (i : ℕ) → i < length us → CanFollow m old.database.history us → HaveTurned m (take i us) old mid → can_turn m mid.database.history (slice_index_or us i 0) ≡ true
-  next_can old mid us i low f a =
-      let history = old.database.history in
-      let u = slice_index_or us i 0 in
-      let front : CanFollow m history (take (i + 1) us) = follow_front m history (take (i + 1) us) (drop (i + 1) us) (subst (CanFollow m history) (sym (take-append-drop (i + 1) us)) f) in
-      let parts : CanFollow m history (take i us ++ u ∷ []) = subst (CanFollow m history) (take_more us i 0 low) front in
-      ap (λ es. can_turn m es u) a.history_is ∙ first_can m (after_order m history (take i us)) u [] (follow_rest m history (take i us) (u ∷ []) parts)
-
-  -- where the programs meet
-  pub begins : (database : Making) (goings : List Going) (place : Whereabouts) → AreAfter m.schema m.capacity m.programs m.begun database goings → place.database ≡ database → place.goings.items ≡ goings → AreWhereaboutsOf m [] place
-  begins database goings place a d g =
-      let history : database.history ≡ beginning m = ap (λ (n : Making). n.history) a.database_is in
-      record {
-        is_order = none_follow m (beginning m);
-        is_place = subst (λ (n : Making). AreStanding m n place.goings.items) (sym d) (subst (λ gs. AreStanding m database gs) (sym g) (record {
-          database_is = a.database_is ∙ (λ i. record (making_by m.schema m.capacity m.programs m.begun) { history = (sym history) i });
-          are_going = a.are_going;
-        }));
-        history_is = ap (λ (n : Making). n.history) d ∙ history ∙ sym (no_turn m (beginning m));
-      }
-
-  pub arrives : (order : List ℕ) (start place : Whereabouts) → IsOrder m order → AreWhereaboutsOf m [] start → HaveTurned m order start place → AreWhereaboutsOf m order place
-  arrives order start place is s t = record {
-    is_order = is;
-    is_place = t.is_place;
-    history_is = t.history_is ∙ ap (λ es. after_order m es order) (s.history_is ∙ no_turn m (beginning m));
-  }
-
-  -- from the place of an order to that of the order with one more turn
-  pub place_on : (order : List ℕ) (u : ℕ) (old new : Whereabouts) → AreWhereaboutsOf m order old → can_turn m old.database.history u ≡ true → HasTurned m u old.database new.database new.goings.items → AreWhereaboutsOf m (order ++ u ∷ []) new
-  place_on order u old new is c t = record {
-    is_order = follow_both m (beginning m) order (u ∷ []) is.is_order (one_follows m (history_of m order) u (ap (λ es. can_turn m es u) (sym is.history_is) ∙ c));
-    is_place = t.standing;
-    history_is = t.history_is ∙ ap (λ es. after_turn m es u) is.history_is ∙ sym (history_on m order u);
-  }
 
 -- WHAT COMES OF EACH
 
@@ -271,18 +224,18 @@ module _ (m : Meeting) (database : Making) (goings : List Going) (w : AreStandin
       let units_are : units ≡ (sequential_after m database.history).units = are ∙ units_there in
       (λ i. map (unit_among (image_is i).versions) (units_are i)) ∙ units_by_list m.schema m.capacity (sequential_after m database.history) (legal_there meets is)
 
-  pub text_is : IsLegalState m.schema m.capacity (sequential_after m database.history) → (run : Run) → IsMadeRun database run → (reached : List Reached) → reached ≡ map (λ g. reached_of (comes_of g)) goings → (text : List ℕ)
-      → text ≡ run_text m.schema [] run.image.records run.image.lists run.image.next (map (by_unit (range_with_len 1 (length m.programs))) run.image.usage) (map (unit_among run.image.versions) run.units) ++ programs_text 1 m.programs reached
+  -- the text of its image, its units without versions and its programs
+  pub text_is : (image : Image) → image ≡ image_of database.schema database.capacity (state_now database).database → (units : List Unit) → units ≡ (unversioned (sequential_after m database.history)).units
+      → (reached : List Reached) → reached ≡ map (λ g. reached_of (comes_of g)) goings → (text : List ℕ)
+      → text ≡ run_text m.schema [] image.records image.lists image.next (map (by_unit (range_with_len 1 (length m.programs))) image.usage) units ++ programs_text 1 m.programs reached
       → text ≡ state_text m (without_versions (state_after m database.history))
-  text_is legal run made reached are text is =
-      let image = made.image_is ∙ ap (λ (d : Making). image_of d.schema d.capacity (state_now d).database) w.database_is in
-      let units = made.units_are ∙ ap (λ (d : Making). (state_now d).units) w.database_is in
+  text_is image image_is units units_are reached are text is =
+      let here = image_is ∙ ap (λ (d : Making). image_of d.schema d.capacity (state_now d).database) w.database_is in
       let programs : reached ≡ map reached_of (state_after m database.history).programs = are ∙ twice goings ∙ ap (map reached_of) (dues_are m database.history goings w.are_going) in
-      let kept = units_by_list m.schema m.capacity (sequential_after m database.history) legal in
       let first = image_first m.schema m.capacity (sequential_after m database.history).database in
       is
-      ∙ (λ i. run_text m.schema [] (image i).records (image i).lists (image i).next (map (by_unit (range_with_len 1 (length m.programs))) (image i).usage) (map (unit_among (image i).versions) (units i)) ++ programs_text 1 m.programs (programs i))
-      ∙ (λ i. run_text m.schema [] (first i).records (first i).lists (first i).next (map (by_unit (range_with_len 1 (length m.programs))) (first i).usage) (kept i) ++ programs_text 1 m.programs (map reached_of (state_after m database.history).programs))
+      ∙ (λ i. run_text m.schema [] (here i).records (here i).lists (here i).next (map (by_unit (range_with_len 1 (length m.programs))) (here i).usage) (units_are i) ++ programs_text 1 m.programs (programs i))
+      ∙ (λ i. run_text m.schema [] (first i).records (first i).lists (first i).next (map (by_unit (range_with_len 1 (length m.programs))) (first i).usage) (unversioned (sequential_after m database.history)).units ++ programs_text 1 m.programs (map reached_of (state_after m database.history).programs))
     where
       twice : (gs : List Going) → map (λ g. reached_of (comes_of g)) gs ≡ map reached_of (map comes_of gs)
       twice [] = refl

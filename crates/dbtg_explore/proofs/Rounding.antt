@@ -1,19 +1,17 @@
 -- A way round, as the code follows it.
 -- m is a meeting, u is a unit, o is an order.
-use Rattle.std.proofs.Common.{◌≡◌, refl, sym, ◌∙◌, ap, subst, ℕ, zero, suc, ◌+◌, ◌<◌, ◌≤◌, ◌==◌, true, false, List, [], ◌∷◌, ◌++◌, append_assoc, append-nil, length, get_or, take, arith, inl, inr, true≢false}
+use Rattle.std.proofs.Common.{◌≡◌, refl, sym, ◌∙◌, ap, subst, ℕ, zero, suc, ◌+◌, ◌<◌, ◌≤◌, ◌==◌, true, false, List, [], ◌∷◌, ◌++◌, length, arith, inl, inr, true≢false}
 use Rattle.std.specs.Prelude.{Contains}
 use Rattle.std.proofs.lemmas.Bool.{cases_lt}
-use Rattle.std.proofs.lemmas.List.{take_more}
 use Rattle.dbtg_unit.specs.declared.unit.Entry.{Entry}
-use Rattle.dbtg_explore.specs.declared.whereabouts.Whereabouts.{Whereabouts}
+use Rattle.dbtg_explore.specs.declared.walk.Walk.{Walk}
 use Rattle.dbtg_explore.specs.Explored.{IsEndless}
 use Rattle.dbtg_explore.specs.Inside.Keys.{state_numbers}
-use Rattle.dbtg_explore.specs.Inside.Whereabouts.{HasTurned, AreWhereabouts, AreWhereaboutsOf}
-use Rattle.dbtg_explore.specs.Inside.Rounds.{ComesBack, HasEach, HasGone}
+use Rattle.dbtg_explore.specs.Inside.Walks.{Stands, StandsAt, order_of}
+use Rattle.dbtg_explore.specs.Inside.Rounds.{ComesBack, HasEach}
 use Rattle.dbtg_explore.specs.Orders.{IsMeeting, Meeting, can_turn}
 use Rattle.dbtg_explore.specs.States.{state_after, state_of}
 use Rattle.dbtg_explore.proofs.Keyed.{same_state}
-use Rattle.dbtg_explore.proofs.Placed.{place_on}
 use Rattle.dbtg_explore.proofs.Steps.{none_before, none_beyond}
 
 -- units up to n have turns in the round, if they can have any
@@ -50,26 +48,16 @@ module _ (m : Meeting) where
         | inr within ↦ h u (omega arith) can
       ]
 
-  pub gone_nowhere : (here : Whereabouts) → AreWhereabouts m here → HasGone m [] here here
-  gone_nowhere here is = record { is_place = is; leads = λ o at. subst (λ p. AreWhereaboutsOf m p here) (sym (append-nil o)) at }
-
-  pub gone_further : (turns : List ℕ) (i : ℕ) (a b c : Whereabouts) → i < length turns → HasGone m (take i turns) a b → can_turn m b.database.history (get_or turns i 0) ≡ true → HasTurned m (get_or turns i 0) b.database c.database c.goings.items → HasGone m (take (i + 1) turns) a c
-  gone_further turns i a b c low gone can turned =
-      subst (λ us. HasGone m us a c) (sym (take_more turns i 0 low))
-      (record {
-        is_place = turned.standing;
-        leads = λ o at. subst (λ p. AreWhereaboutsOf m p c) (append_assoc o (take i turns) (get_or turns i 0 ∷ [])) (place_on m (o ++ take i turns) (get_or turns i 0) b c (gone.leads o at) can turned);
-      })
-
-  pub come_back : IsMeeting m → (round before after : List ℕ) (old new : Whereabouts) → before ≡ state_numbers m (state_after m old.database.history) → after ≡ state_numbers m (state_after m new.database.history) → after ≡ before → HasGone m round old new → (o : List ℕ) → AreWhereaboutsOf m o old → ComesBack m o round
-  come_back meets round before after old new before_is after_is same gone o at =
-      let there = gone.leads o at in
+  pub come_back : IsMeeting m → (round before after : List ℕ) (old new : Walk) → before ≡ state_numbers m (state_after m old.database.making.history) → after ≡ state_numbers m (state_after m new.database.making.history) → after ≡ before → Stands m old → StandsAt m (order_of old.turns.items ++ round) new
+      → ComesBack m (order_of old.turns.items) round
+  come_back meets round before after old new before_is after_is same at there =
+      let o = order_of old.turns.items in
       let first : state_numbers m (state_of m (o ++ round)) ≡ after = ap (λ (es : List Entry). state_numbers m (state_after m es)) (sym there.history_is) ∙ sym after_is in
       let last : before ≡ state_numbers m (state_of m o) = before_is ∙ ap (λ (es : List Entry). state_numbers m (state_after m es)) at.history_is in
       record { is_order = there.is_order; same = same_state m meets (o ++ round) o (first ∙ same ∙ last) }
 
-  pub goes_for_ever : (round : List ℕ) (old : Whereabouts) → 0 < length round → HasEach m old.database.history round → (o : List ℕ) → AreWhereaboutsOf m o old → ComesBack m o round → IsEndless m (record { turns = o; round = round })
-  goes_for_ever round old some each o at back = record {
+  pub goes_for_ever : (round : List ℕ) (old : Walk) → 0 < length round → HasEach m old.database.making.history round → Stands m old → ComesBack m (order_of old.turns.items) round → IsEndless m (record { turns = order_of old.turns.items; round = round })
+  goes_for_ever round old some each at back = record {
     is_order = back.is_order;
     comes_back = back.same;
     goes = some;

@@ -5,9 +5,9 @@ pub mod Failures
 pub mod Found
 pub mod Keys
 pub mod Links
-pub mod Whereabouts
 pub mod Rounds
 pub mod Search
 pub mod Steps
 pub mod Versions
 pub mod Visits
+pub mod Walks

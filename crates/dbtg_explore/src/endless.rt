@@ -1,23 +1,23 @@
 //! A way that programs can go round for ever. A guess at one counts only if going round it once has come back.
 
 ghost use Rattle.dbtg_explore.specs.Explored.{IsEndless};
-ghost use Rattle.dbtg_explore.specs.Inside.Whereabouts.{AreWhereabouts, AreWhereaboutsOf};
-ghost use Rattle.dbtg_explore.specs.Inside.Rounds.{ComesBack, HasEach, HasGone};
+ghost use Rattle.dbtg_explore.specs.Inside.Walks.{IsPlace, Stands, StandsAt, order_of};
+ghost use Rattle.dbtg_explore.specs.Inside.Rounds.{ComesBack, HasEach};
 ghost use Rattle.dbtg_explore.specs.Orders.{IsMeeting, IsOrder, can_turn};
-ghost use Rattle.std.specs.Prelude.{◌≡◌, List, ℕ, true, Contains, IfOk, IfSome};
+ghost use Rattle.std.specs.Prelude.{◌≡◌, ◌++◌, List, ℕ, true, Contains, IfOk, IfSome};
 
 use crate::explored::Endless;
 use crate::graph::guess_round;
 use crate::meeting::Meeting;
 use crate::search::Search;
-use crate::whereabouts::Whereabouts;
+use crate::walk::Walk;
 use dbtg_schema::Row;
 use std::alloc::{AllocError, Global};
 
 // Does the unit have a turn in the round, if it can have one here?
-fn has_one(meeting: &Meeting, here: &Whereabouts, round: &[u8], unit: u8) -> bool
-    requires here { AreWhereabouts meeting.now here.now }
-    ensures { result ≡ true → can_turn meeting.now here.now.database.history unit ≡ true → Contains round.now unit }
+fn has_one(meeting: &Meeting, here: &Walk, round: &[u8], unit: u8) -> bool
+    requires here { IsPlace meeting.now here.now }
+    ensures { result ≡ true → can_turn meeting.now here.now.database.making.history unit ≡ true → Contains round.now unit }
 {
     if meeting.can_turn(here, unit) {
         round.contains(&unit)
@@ -27,10 +27,10 @@ fn has_one(meeting: &Meeting, here: &Whereabouts, round: &[u8], unit: u8) -> boo
 }
 
 // Does each unit?
-fn has_each(meeting: &Meeting, here: &Whereabouts, round: &[u8]) -> bool
+fn has_each(meeting: &Meeting, here: &Walk, round: &[u8]) -> bool
     requires meeting { IsMeeting meeting.now }
-    requires here { AreWhereabouts meeting.now here.now }
-    ensures { result ≡ true → HasEach meeting.now here.now.database.history round.now }
+    requires here { IsPlace meeting.now here.now }
+    ensures { result ≡ true → HasEach meeting.now here.now.database.making.history round.now }
 {
     for before in 0..meeting.units() {
         if !has_one(meeting, here, round, before + 1) {
@@ -44,17 +44,17 @@ fn has_each(meeting: &Meeting, here: &Whereabouts, round: &[u8]) -> bool
 fn go<'a>(
     alloc: Global,
     meeting: &Meeting<'a>,
-    here: &mut Whereabouts<'a>,
+    walk: &mut Walk<'a>,
     turns: &[u8],
 ) -> Result<bool, AllocError>
-    requires here { AreWhereabouts meeting.now here.old }
-    ensures { IfOk result (λ gone. gone ≡ true → HasGone meeting.now turns.now here.old here.new) }
+    requires stands { Stands meeting.now walk.old }
+    ensures { IfOk result (λ gone. gone ≡ true → StandsAt meeting.now (order_of walk.old.turns.items ++ turns.now) walk.new) }
 {
     for unit in turns {
-        if !meeting.can_turn(here, *unit) {
+        if !meeting.can_turn(walk, *unit) {
             return Ok(false);
         }
-        meeting.turn(alloc, here, *unit)?;
+        meeting.take_turn(alloc, walk, *unit)?;
     }
     Ok(true)
 }
@@ -63,62 +63,64 @@ fn go<'a>(
 fn comes_back<'a>(
     alloc: Global,
     meeting: &Meeting<'a>,
-    here: &mut Whereabouts<'a>,
+    walk: &mut Walk<'a>,
     round: &[u8],
 ) -> Result<bool, AllocError>
     requires meeting { IsMeeting meeting.now }
-    requires here { AreWhereabouts meeting.now here.old }
-    ensures { IfOk result (λ back. back ≡ true → (o : List ℕ) → AreWhereaboutsOf meeting.now o here.old → ComesBack meeting.now o round.now) }
+    requires stands { Stands meeting.now walk.old }
+    ensures { IfOk result (λ back. back ≡ true → ComesBack meeting.now (order_of walk.old.turns.items) round.now) }
 {
-    let before = meeting.state_key(alloc, here)?;
-    if !go(alloc, meeting, here, round)? {
+    let before = meeting.state_key(alloc, walk)?;
+    if !go(alloc, meeting, walk, round)? {
         return Ok(false);
     }
-    let after = meeting.state_key(alloc, here)?;
+    let after = meeting.state_key(alloc, walk)?;
     Ok(after.as_slice() == before.as_slice())
 }
 
-// Can programs that are here go round like this for ever, with no unit kept waiting?
+// Can programs that are where the walk stands go round like this for ever, with no unit kept waiting?
 fn goes_round<'a>(
     alloc: Global,
     meeting: &Meeting<'a>,
-    here: &mut Whereabouts<'a>,
+    walk: &mut Walk<'a>,
     round: &[u8],
 ) -> Result<bool, AllocError>
     requires meeting { IsMeeting meeting.now }
-    requires here { AreWhereabouts meeting.now here.old }
-    ensures { IfOk result (λ endless. endless ≡ true → (o : List ℕ) → AreWhereaboutsOf meeting.now o here.old → IsEndless meeting.now (record { turns = o; round = round.now })) }
+    requires stands { Stands meeting.now walk.old }
+    ensures { IfOk result (λ endless. endless ≡ true → IsEndless meeting.now (record { turns = order_of walk.old.turns.items; round = round.now })) }
 {
-    if round.is_empty() || !has_each(meeting, here, round) {
+    if round.is_empty() || !has_each(meeting, walk, round) {
         return Ok(false);
     }
-    comes_back(alloc, meeting, here, round)
+    comes_back(alloc, meeting, walk, round)
 }
 
 // Can programs go round like this for ever after these turns?
-fn is_endless(
+fn is_endless<'a>(
     alloc: Global,
-    meeting: &Meeting,
+    meeting: &Meeting<'a>,
+    walk: &mut Walk<'a>,
     turns: &[u8],
     round: &[u8],
 ) -> Result<bool, AllocError>
     requires meeting { IsMeeting meeting.now }
+    requires stands { Stands meeting.now walk.old }
     requires turns { IsOrder meeting.now turns.now }
     ensures { IfOk result (λ endless. endless ≡ true → IsEndless meeting.now (record { turns = turns.now; round = round.now })) }
 {
-    let mut here = meeting.go_to(alloc, turns)?;
-    let endless = goes_round(alloc, meeting, &mut here, round);
-    here.discard();
-    endless
+    meeting.go_to(alloc, walk, turns)?;
+    goes_round(alloc, meeting, walk, round)
 }
 
 /// A way to go round for ever, if the search has shown one. Even if there is one, it is not certain to be found.
-pub fn endless_in(
+pub fn endless_in<'a>(
     alloc: Global,
-    meeting: &Meeting,
+    meeting: &Meeting<'a>,
+    walk: &mut Walk<'a>,
     search: &Search,
 ) -> Result<Option<Endless>, AllocError>
     requires meeting { IsMeeting meeting.now }
+    requires stands { Stands meeting.now walk.old }
     requires orders { (o : List ℕ) → Contains search.now.found.orders o → IsOrder meeting.now o }
     ensures { IfOk result (λ endless. IfSome endless (IsEndless meeting.now)) }
 {
@@ -130,7 +132,13 @@ pub fn endless_in(
         return Ok(None);
     }
     let turns = search.found.order(alloc, round.start)?;
-    if !is_endless(alloc, meeting, turns.as_slice(), round.units.as_slice())? {
+    if !is_endless(
+        alloc,
+        meeting,
+        walk,
+        turns.as_slice(),
+        round.units.as_slice(),
+    )? {
         return Ok(None);
     }
     let turns = Row::of(turns);

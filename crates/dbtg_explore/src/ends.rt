@@ -2,7 +2,7 @@
 
 ghost use Rattle.dbtg_explore.specs.Inside.Ends.{AreEndsOf, FailsAt, FailsIn, Notes, NotesResult};
 ghost use Rattle.dbtg_explore.specs.Inside.Failures.{Take};
-ghost use Rattle.dbtg_explore.specs.Inside.Whereabouts.{AreWhereabouts, AreWhereaboutsOf};
+ghost use Rattle.dbtg_explore.specs.Inside.Walks.{IsPlace, StandsAt};
 ghost use Rattle.dbtg_explore.specs.Orders.{IsMeeting, Meeting as MeetingOfPrograms};
 ghost use Rattle.dbtg_explore.specs.States.{state_after};
 ghost use Rattle.std.specs.Prelude.{◌≡◌, [], OnOk};
@@ -11,7 +11,7 @@ use crate::explored::Failure;
 use crate::failures::enter_failure;
 use crate::found::Found;
 use crate::meeting::Meeting;
-use crate::whereabouts::Whereabouts;
+use crate::walk::Walk;
 use dbtg_outcomes::as_numbers;
 use dbtg_schema::Row;
 use std::alloc::{AllocError, Global};
@@ -27,11 +27,11 @@ pub struct Ends {
 fn note_failure(
     meeting: &Meeting,
     failures: &mut Vec<Failure>,
-    here: &Whereabouts,
+    here: &Walk,
     unit: u8,
 ) -> Result<(), AllocError>
-    requires here { AreWhereabouts meeting.now here.now }
-    ensures { OnOk result (Take (FailsAt meeting.now here.now.database.history unit) failures.old.items failures.new.items) }
+    requires here { IsPlace meeting.now here.now }
+    ensures { OnOk result (Take (FailsAt meeting.now here.now.database.making.history unit) failures.old.items failures.new.items) }
 {
     match meeting.failure(here, unit) {
         Some(how) => enter_failure(failures, Failure { unit, how }),
@@ -43,11 +43,11 @@ fn note_failure(
 fn note_each_failure(
     meeting: &Meeting,
     failures: &mut Vec<Failure>,
-    here: &Whereabouts,
+    here: &Walk,
 ) -> Result<(), AllocError>
     requires meeting { IsMeeting meeting.now }
-    requires here { AreWhereabouts meeting.now here.now }
-    ensures { OnOk result (Take (FailsIn (state_after meeting.now here.now.database.history)) failures.old.items failures.new.items) }
+    requires here { IsPlace meeting.now here.now }
+    ensures { OnOk result (Take (FailsIn (state_after meeting.now here.now.database.making.history)) failures.old.items failures.new.items) }
 {
     for before in 0..meeting.units() {
         note_failure(meeting, failures, here, before + 1)?;
@@ -61,17 +61,16 @@ fn note_result(
     meeting: &Meeting,
     results: &mut Found,
     order: &[u8],
-    here: Whereabouts,
+    here: &Walk,
 ) -> Result<(), AllocError>
     requires meeting { IsMeeting meeting.now }
-    requires here { AreWhereaboutsOf meeting.now order.now here }
+    requires here { StandsAt meeting.now order.now here.now }
     ensures { OnOk result (NotesResult meeting.now order.now results.old results.new) }
 {
-    if !meeting.is_at_end(&here) {
-        here.discard();
+    if !meeting.is_at_end(here) {
         return Ok(());
     }
-    let text = meeting.into_text(alloc, here)?;
+    let text = meeting.text(alloc, here)?;
     let key = as_numbers(alloc, text.as_slice())?;
     results.enter(key, Row::of(Vec::from_slice(alloc, order)?))?;
     Ok(())
@@ -94,18 +93,13 @@ impl Ends {
         alloc: Global,
         meeting: &Meeting,
         order: &[u8],
-        here: Whereabouts,
+        here: &Walk,
     ) -> Result<(), AllocError>
         requires meeting { IsMeeting meeting.now }
-        requires here { AreWhereaboutsOf meeting.now order.now here }
+        requires here { StandsAt meeting.now order.now here.now }
         ensures { OnOk result (Notes meeting.now order.now self.old self.new) }
     {
-        match note_each_failure(meeting, &mut self.failures, &here) {
-            Ok(()) => note_result(alloc, meeting, &mut self.results, order, here),
-            Err(error) => {
-                here.discard();
-                Err(error)
-            }
-        }
+        note_each_failure(meeting, &mut self.failures, here)?;
+        note_result(alloc, meeting, &mut self.results, order, here)
     }
 }

@@ -2,15 +2,17 @@
 
 ghost use Rattle.dbtg_explore.specs.Explored.{IsExplored};
 ghost use Rattle.dbtg_explore.specs.Inside.Visits.{HasVisited, IsThrough, IsVisited};
+ghost use Rattle.dbtg_explore.specs.Inside.Walks.{Stands, StandsAt};
 ghost use Rattle.dbtg_explore.specs.Orders.{IsMeeting};
 ghost use Rattle.dbtg_explore.specs.States.{HasMoreStates};
 ghost use Rattle.dbtg_outcomes.specs.declared.search.Stop.TheVariants.{States};
-ghost use Rattle.std.specs.Prelude.{◌≡◌, ◌≤◌, ◌<◌, length, IfErr, IfOk, OnOk};
+ghost use Rattle.std.specs.Prelude.{◌≡◌, ◌≤◌, ◌<◌, [], length, IfErr, IfOk, OnOk};
 
 use crate::endless::endless_in;
 use crate::ends::Ends;
 use crate::meeting::Meeting;
 use crate::search::Search;
+use crate::walk::Walk;
 use dbtg_outcomes::{Stop, Watch};
 use dbtg_program::End;
 use dbtg_schema::Row;
@@ -39,50 +41,50 @@ pub struct Explored {
     pub endless: Option<Endless>,
 }
 
-// The state to which the order at this place leads: finds what can be next, and notes its ends.
-fn visit(
-    alloc: Global,
-    meeting: &Meeting,
-    search: &mut Search,
-    ends: &mut Ends,
-    place: usize,
-) -> Result<(), Stop>
-    requires meeting { IsMeeting meeting.now }
-    requires visited { IsVisited meeting.now place search.old ends.old }
-    requires within { place < length search.old.found.orders }
-    ensures visited { OnOk result (HasVisited meeting.now place search.old search.new ends.new) }
-    ensures stopped { IfErr result (λ stop. stop ≡ States → HasMoreStates meeting.now search.old.limit) }
-{
-    let order = search.found.order(alloc, place)?;
-    let here = meeting.go_to(alloc, order.as_slice())?;
-    match search.go_on(alloc, meeting, place, &here) {
-        Ok(()) => {
-            ends.note(alloc, meeting, order.as_slice(), here)?;
-            Ok(())
-        }
-        Err(stop) => {
-            here.discard();
-            Err(stop)
-        }
+impl Search {
+    // The state to which the order at this place leads: notes its ends, and finds what can be next.
+    fn visit<'a>(
+        &mut self,
+        alloc: Global,
+        meeting: &Meeting<'a>,
+        walk: &mut Walk<'a>,
+        ends: &mut Ends,
+        place: usize,
+    ) -> Result<(), Stop>
+        requires meeting { IsMeeting meeting.now }
+        requires stands { Stands meeting.now walk.old }
+        requires visited { IsVisited meeting.now place self.old ends.old }
+        requires within { place < length self.old.found.orders }
+        ensures stands { OnOk result (Stands meeting.now walk.new) }
+        ensures visited { OnOk result (HasVisited meeting.now place self.old self.new ends.new) }
+        ensures stopped { IfErr result (λ stop. stop ≡ States → HasMoreStates meeting.now self.old.limit) }
+    {
+        let order = self.found.order(alloc, place)?;
+        meeting.go_to(alloc, walk, order.as_slice())?;
+        ends.note(alloc, meeting, order.as_slice(), walk)?;
+        self.go_on(alloc, meeting, place, walk)
     }
 }
 
 // All states.
-fn visit_all<W: Watch>(
+fn visit_all<'a, W: Watch>(
     alloc: Global,
     watch: &W,
-    meeting: &Meeting,
+    meeting: &Meeting<'a>,
+    walk: &mut Walk<'a>,
     limit: usize,
 ) -> Result<(Search, Ends), Stop>
     requires meeting { IsMeeting meeting.now }
+    requires stands { StandsAt meeting.now [] walk.old }
+    ensures stands { OnOk result (Stands meeting.now walk.new) }
     ensures through { IfOk result (λ all. IsThrough meeting.now limit all.0 all.1) }
     ensures stopped { IfErr result (λ stop. stop ≡ States → HasMoreStates meeting.now limit) }
 {
-    let mut search = Search::begin(alloc, meeting, limit)?;
+    let mut search = Search::begin(alloc, meeting, walk, limit)?;
     let mut ends = Ends::none(alloc);
     let mut place = 0;
     while place < search.found.len() {
-        visit(alloc, meeting, &mut search, &mut ends, place)?;
+        search.visit(alloc, meeting, walk, &mut ends, place)?;
         watch.seen(search.found.len());
         place += 1;
     }
@@ -102,8 +104,9 @@ pub fn explore<W: Watch>(
     ensures within { IfOk result (λ all. all.states ≤ limit) }
     ensures stopped { IfErr result (λ stop. stop ≡ States → HasMoreStates meeting.now limit) }
 {
-    let (search, ends) = visit_all(alloc, watch, meeting, limit)?;
-    let endless = endless_in(alloc, meeting, &search)?;
+    let mut walk = meeting.begin(alloc)?;
+    let (search, ends) = visit_all(alloc, watch, meeting, &mut walk, limit)?;
+    let endless = endless_in(alloc, meeting, &mut walk, &search)?;
     let Ends { results, failures } = ends;
     Ok(Explored {
         states: search.found.len() as u64,

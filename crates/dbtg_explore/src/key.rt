@@ -1,7 +1,7 @@
 //! The state of a meeting as numbers, which tell it from others.
 
 ghost use Rattle.dbtg_explore.specs.Inside.Keys.{due_numbers, how_numbers, state_numbers};
-ghost use Rattle.dbtg_explore.specs.Inside.Whereabouts.{AreWhereabouts};
+ghost use Rattle.dbtg_explore.specs.Inside.Walks.{IsPlace};
 ghost use Rattle.dbtg_explore.specs.Orders.{IsMeeting};
 ghost use Rattle.dbtg_explore.specs.States.{sequential_after, state_after};
 ghost use Rattle.dbtg_explore.specs.Versions.{unversioned};
@@ -14,7 +14,7 @@ ghost use Rattle.std.specs.Prelude.{◌≡◌, ◌++◌, ◌∷◌, [], flat_map
 
 use crate::meeting::Meeting;
 use crate::unversioned::{unversioned_image, unversioned_units};
-use crate::whereabouts::Whereabouts;
+use crate::walk::Walk;
 use dbtg_going::Going;
 use dbtg_outcomes::{Spelled, spell_image, spell_list};
 use dbtg_program::{Due, End};
@@ -68,55 +68,52 @@ fn spell_programs(goings: &[Going], out: &mut Vec<u64>) -> Result<(), AllocError
 }
 
 impl<'a> Meeting<'a> {
-    // The units of a place without the versions of records, of which the image has the list.
-    fn unversioned_units(
+    /// The units of a place without the versions of records, of which the image has the list.
+    pub(crate) fn unversioned_units(
         &self,
         alloc: Global,
-        place: &Whereabouts,
+        walk: &Walk,
         image: &Image,
     ) -> Result<Row<Unit>, AllocError>
         requires meeting { IsMeeting self.now }
-        requires place { AreWhereabouts self.now place.now }
-        requires image { image.now ≡ image_of self.now.schema self.now.capacity (sequential_after self.now place.now.database.history).database }
-        ensures { IfOk result (λ units. units ≡ (unversioned (sequential_after self.now place.now.database.history)).units) }
+        requires place { IsPlace self.now walk.now }
+        requires image { image.now ≡ image_of self.now.schema self.now.capacity (sequential_after self.now walk.now.database.making.history).database }
+        ensures { IfOk result (λ units. units ≡ (unversioned (sequential_after self.now walk.now.database.making.history)).units) }
     {
         // Only a legal database has all its live keys in its image, and its history says that it is legal.
-        let _history = place.database.history();
-        unversioned_units(alloc, image.versions.as_slice(), place.database.units())
+        let database = walk.database.database();
+        let _history = database.history();
+        unversioned_units(alloc, image.versions.as_slice(), database.units())
     }
 
     // The numbers of a place with this image and these units.
     fn key_of(
         &self,
         alloc: Global,
-        place: &Whereabouts,
+        walk: &Walk,
         image: &Image,
         units: &[Unit],
     ) -> Result<Vec<u64>, AllocError>
         requires { IsMeeting self.now }
-        ensures { IfOk result (λ key. key.items ≡ image_numbers (in_unit_order (range_with_len 1 (length self.now.programs)) image.now) ++ (list_numbers unit_numbers units.now ++ list_numbers (λ g. due_numbers (comes_of g)) place.now.goings.items)) }
+        ensures { IfOk result (λ key. key.items ≡ image_numbers (in_unit_order (range_with_len 1 (length self.now.programs)) image.now) ++ (list_numbers unit_numbers units.now ++ list_numbers (λ g. due_numbers (comes_of g)) walk.now.goings.items)) }
     {
         let mut key = Vec::new(alloc);
         spell_image(alloc, image, self.units(), &mut key)?;
         spell_list(units, &mut key)?;
-        spell_programs(place.goings.as_slice(), &mut key)?;
+        spell_programs(walk.goings.as_slice(), &mut key)?;
         Ok(key)
     }
 
     /// The state of a place as numbers. Two places have the same numbers exactly if their states differ at most in the order in which units
     /// opened an area, and in versions that tell no kept record from its own.
-    pub(crate) fn state_key(
-        &self,
-        alloc: Global,
-        place: &Whereabouts,
-    ) -> Result<Vec<u64>, AllocError>
+    pub(crate) fn state_key(&self, alloc: Global, walk: &Walk) -> Result<Vec<u64>, AllocError>
         requires meeting { IsMeeting self.now }
-        requires place { AreWhereabouts self.now place.now }
-        ensures { IfOk result (λ key. key.items ≡ state_numbers self.now (state_after self.now place.now.database.history)) }
+        requires place { IsPlace self.now walk.now }
+        ensures { IfOk result (λ key. key.items ≡ state_numbers self.now (state_after self.now walk.now.database.making.history)) }
     {
-        let image = place.database.image()?;
-        let units = self.unversioned_units(alloc, place, &image)?;
+        let image = walk.database.database().image()?;
+        let units = self.unversioned_units(alloc, walk, &image)?;
         let image = unversioned_image(alloc, image);
-        self.key_of(alloc, place, &image, units.as_slice())
+        self.key_of(alloc, walk, &image, units.as_slice())
     }
 }

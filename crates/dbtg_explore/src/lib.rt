@@ -8,15 +8,15 @@ mod failures;
 mod found;
 mod graph;
 mod key;
+mod known;
 mod laws;
 mod meeting;
 mod orders;
 mod search;
-mod states;
 mod text;
 mod told;
 mod unversioned;
-mod whereabouts;
+mod walk;
 
 pub use explored::{Endless, Explored, Failure, explore};
 pub use laws::{every_run_by_turns_comes_out, every_run_comes_out, versions_are_no_state};

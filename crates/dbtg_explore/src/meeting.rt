@@ -1,17 +1,14 @@
 //! Programs that meet, and the turns that they can take.
 
-ghost use Rattle.dbtg_explore.specs.Inside.Whereabouts.{AreStanding, HasTurned, HaveTurned, AreWhereabouts, AreWhereaboutsOf};
-ghost use Rattle.dbtg_explore.specs.Orders.{CanFollow, IsMeeting, IsOrder, can_go_on, can_turn, due_of, waits};
+ghost use Rattle.dbtg_explore.specs.Inside.Walks.{IsPlace};
+ghost use Rattle.dbtg_explore.specs.Orders.{IsMeeting, can_go_on, can_turn, due_of, waits};
 ghost use Rattle.std.specs.List.{list_any, range_with_len};
-ghost use Rattle.std.specs.Prelude.{◌≡◌, ◌-◌, [], Some, true, length, not, option_map, IfOk, OnOk};
+ghost use Rattle.std.specs.Prelude.{◌≡◌, length, not, option_map};
 
-use crate::whereabouts::Whereabouts;
-use dbtg_going::{Going, programs_after};
+use crate::walk::Walk;
 use dbtg_program::Program;
 use dbtg_schema::Schema;
-use dbtg_step::WholeDatabase;
 use dbtg_unit::Statement;
-use std::alloc::{AllocError, Global};
 use std::marker::Model;
 
 /// Programs that meet, a unit for each.
@@ -43,50 +40,35 @@ impl<'a> Meeting<'a> {
         self.programs.len() as u8
     }
 
-    /// The place where the programs meet.
-    pub(crate) fn begin(&self, alloc: Global) -> Result<Whereabouts<'a>, AllocError>
-        requires { IsMeeting self.now }
-        ensures { IfOk result (AreWhereaboutsOf self.now []) }
-    {
-        let (database, goings) = programs_after(
-            alloc,
-            self.schema,
-            self.capacity,
-            self.programs,
-            self.begun,
-        )?;
-        Ok(Whereabouts { database, goings })
-    }
-
-    // The statement that is due in the program of the unit.
-    fn due<'p>(&self, place: &'p Whereabouts, unit: u8) -> Option<&'p Statement>
-        requires { AreWhereabouts self.now place.now }
-        ensures { option_map (λ s. s.now) result ≡ due_of self.now place.now.database.history unit }
+    /// The statement that is due in the program of the unit.
+    pub(crate) fn due<'p>(&self, walk: &'p Walk, unit: u8) -> Option<&'p Statement>
+        requires { IsPlace self.now walk.now }
+        ensures { option_map (λ s. s.now) result ≡ due_of self.now walk.now.database.making.history unit }
     {
         if unit == 0 {
             return None;
         }
-        match place.goings.get(unit as usize - 1) {
+        match walk.goings.get(unit as usize - 1) {
             Some(going) => going.statement(self.schema),
             None => None,
         }
     }
 
     /// Can the program of the unit go on?
-    pub(crate) fn can_go_on(&self, place: &Whereabouts, unit: u8) -> bool
-        requires { AreWhereabouts self.now place.now }
-        ensures { result ≡ can_go_on self.now place.now.database.history unit }
+    pub(crate) fn can_go_on(&self, walk: &Walk, unit: u8) -> bool
+        requires { IsPlace self.now walk.now }
+        ensures { result ≡ can_go_on self.now walk.now.database.making.history unit }
     {
-        self.due(place, unit).is_some()
+        self.due(walk, unit).is_some()
     }
 
     // Can one of the programs of the first units go on?
-    fn can_one_go_on(&self, place: &Whereabouts, units: u8) -> bool
-        requires { AreWhereabouts self.now place.now }
-        ensures { result ≡ list_any (can_go_on self.now place.now.database.history) (range_with_len 1 units) }
+    fn can_one_go_on(&self, walk: &Walk, units: u8) -> bool
+        requires { IsPlace self.now walk.now }
+        ensures { result ≡ list_any (can_go_on self.now walk.now.database.making.history) (range_with_len 1 units) }
     {
         for before in 0..units {
-            if self.can_go_on(place, before + 1) {
+            if self.can_go_on(walk, before + 1) {
                 return true;
             }
         }
@@ -94,103 +76,29 @@ impl<'a> Meeting<'a> {
     }
 
     // Is it the last unit, which waits?
-    fn waits(&self, place: &Whereabouts, unit: u8) -> bool
-        requires { AreWhereabouts self.now place.now }
-        ensures { result ≡ waits self.now place.now.database.history unit }
+    fn waits(&self, walk: &Walk, unit: u8) -> bool
+        requires { IsPlace self.now walk.now }
+        ensures { result ≡ waits self.now walk.now.database.making.history unit }
     {
         self.last_waits
             && unit as usize == self.programs.len()
-            && self.can_one_go_on(place, unit.saturating_sub(1))
+            && self.can_one_go_on(walk, unit.saturating_sub(1))
     }
 
     /// Can the unit have its turn?
-    pub(crate) fn can_turn(&self, place: &Whereabouts, unit: u8) -> bool
-        requires { AreWhereabouts self.now place.now }
-        ensures { result ≡ can_turn self.now place.now.database.history unit }
+    pub(crate) fn can_turn(&self, walk: &Walk, unit: u8) -> bool
+        requires { IsPlace self.now walk.now }
+        ensures { result ≡ can_turn self.now walk.now.database.making.history unit }
     {
-        self.can_go_on(place, unit) && !self.waits(place, unit)
+        self.can_go_on(walk, unit) && !self.waits(walk, unit)
     }
 
     /// Can no program go on?
-    pub(crate) fn is_at_end(&self, place: &Whereabouts) -> bool
+    pub(crate) fn is_at_end(&self, walk: &Walk) -> bool
         requires meeting { IsMeeting self.now }
-        requires place { AreWhereabouts self.now place.now }
-        ensures { result ≡ not (list_any (can_go_on self.now place.now.database.history) (range_with_len 1 (length self.now.programs))) }
+        requires place { IsPlace self.now walk.now }
+        ensures { result ≡ not (list_any (can_go_on self.now walk.now.database.making.history) (range_with_len 1 (length self.now.programs))) }
     {
-        !self.can_one_go_on(place, self.units())
-    }
-
-    // The unit makes this statement, which is due, and its program goes on.
-    fn make(
-        &self,
-        alloc: Global,
-        database: &mut WholeDatabase<'_>,
-        goings: &mut [Going],
-        unit: u8,
-        statement: Statement,
-    ) -> Result<(), AllocError>
-        requires standing { AreStanding self.now database.old goings.old }
-        requires due { due_of self.now database.old.history unit ≡ Some statement }
-        ensures { OnOk result (HasTurned self.now unit database.old database.new goings.new) }
-    {
-        let place = unit as usize - 1;
-        let before = database.history().len();
-        database.make(unit, statement)?;
-        let entry = &database.history()[before];
-        goings[place].told(alloc, self.schema, &self.programs[place], entry)
-    }
-
-    /// The unit has its turn: its program makes the statement that is due, and goes on.
-    pub(crate) fn turn(
-        &self,
-        alloc: Global,
-        place: &mut Whereabouts<'a>,
-        unit: u8,
-    ) -> Result<(), AllocError>
-        requires place { AreWhereabouts self.now place.old }
-        requires turn { can_turn self.now place.old.database.history unit ≡ true }
-        ensures { OnOk result (HasTurned self.now unit place.old.database place.new.database place.new.goings.items) }
-    {
-        match self.due(place, unit) {
-            None => Ok(()),
-            Some(statement) => {
-                let statement = statement.copy(alloc)?;
-                let goings = place.goings.as_mut_slice();
-                self.make(alloc, &mut place.database, goings, unit, statement)
-            }
-        }
-    }
-
-    // These turns, one after another.
-    fn turns(
-        &self,
-        alloc: Global,
-        place: &mut Whereabouts<'a>,
-        turns: &[u8],
-    ) -> Result<(), AllocError>
-        requires place { AreWhereabouts self.now place.old }
-        requires turns { CanFollow self.now place.old.database.history turns.now }
-        ensures { OnOk result (HaveTurned self.now turns.now place.old place.new) }
-    {
-        for unit in turns {
-            self.turn(alloc, place, *unit)?;
-        }
-        Ok(())
-    }
-
-    /// The place to which an order leads.
-    pub(crate) fn go_to(&self, alloc: Global, order: &[u8]) -> Result<Whereabouts<'a>, AllocError>
-        requires meeting { IsMeeting self.now }
-        requires order { IsOrder self.now order.now }
-        ensures { IfOk result (AreWhereaboutsOf self.now order.now) }
-    {
-        let mut place = self.begin(alloc)?;
-        match self.turns(alloc, &mut place, order) {
-            Ok(()) => Ok(place),
-            Err(error) => {
-                place.discard();
-                Err(error)
-            }
-        }
+        !self.can_one_go_on(walk, self.units())
     }
 }

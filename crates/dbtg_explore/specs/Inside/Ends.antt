@@ -5,7 +5,7 @@ use Rattle.dbtg_unit.specs.declared.unit.Entry.{Entry}
 use Rattle.dbtg_explore.specs.declared.ends.Ends as given
 use Rattle.dbtg_explore.specs.declared.explored.Failure.{Failure}
 use Rattle.dbtg_explore.specs.Inside.Found.{FoundOrders}
-use Rattle.dbtg_explore.specs.Inside.Whereabouts.{failure_in}
+use Rattle.dbtg_explore.specs.Inside.Walks.{failure_in}
 use Rattle.dbtg_explore.specs.Inside.Search.{AreFirsts}
 use Rattle.dbtg_explore.specs.Orders.{IsBefore, IsEnd, Meeting}
 use Rattle.dbtg_explore.specs.Pairwise.{ArePairwise}

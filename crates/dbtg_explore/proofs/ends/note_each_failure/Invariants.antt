@@ -3,4 +3,4 @@ use Rattle.dbtg_explore.proofs.Noting.{FailsTo}
 use Rattle.dbtg_explore.proofs.ends.note_each_failure.Given as goal
 
 abbrev pub invariant-loop-before : goal.invariant-loop-before
-invariant-loop-before l = Take (FailsTo l.meeting l.here.database.history l.before) l.initial.failures.items l.failures.items
+invariant-loop-before l = Take (FailsTo l.meeting l.here.database.making.history l.before) l.initial.failures.items l.failures.items

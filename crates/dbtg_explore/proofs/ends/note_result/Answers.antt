@@ -9,14 +9,14 @@ use Rattle.dbtg_explore.proofs.ends.note_result.Goals as goal
 pub returns-then-not-is_at_end : goal.returns-then-not-is_at_end
 returns-then-not-is_at_end c =
     let m = c.args.meeting.now in
-    let history = c.args.here.database.history in
+    let history = c.args.here.now.database.making.history in
     goes_on_there m c.args.order.now c.args.results.now
     (λ end. not_at_end m history (sym c.is_at_end.ensures ∙ c.if-not-is_at_end.true) (λ u. ap (λ (es : List Entry). can_go_on m es u) c.requires.here.history_is ∙ end.at_end u))
 
 pub returns : goal.returns
 returns c =
     let m = c.args.meeting.now in
-    let history = c.args.here.database.history in
+    let history = c.args.here.now.database.making.history in
     ends_there m c.args.order.now c.of.result c.in_ok-key.key.items c.args.results.now c.enter.new.self
     (record {
       is_order = c.requires.here.is_order;

@@ -4,4 +4,4 @@ use Rattle.dbtg_explore.specs.Orders.{can_go_on}
 use Rattle.dbtg_explore.proofs.meeting.Meeting.can_one_go_on.Given as goal
 
 abbrev pub invariant-loop-before : goal.invariant-loop-before
-invariant-loop-before l = list_any (can_go_on l.self l.place.database.history) (range_with_len 1 l.before) ≡ false
+invariant-loop-before l = list_any (can_go_on l.self l.walk.database.making.history) (range_with_len 1 l.before) ≡ false

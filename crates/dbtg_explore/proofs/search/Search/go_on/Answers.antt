@@ -1,39 +1,35 @@
-use Rattle.std.proofs.Common.{◌≡◌, ◌+◌, ℕ, List, [], subst, sym, length, get_or, arith}
+use Rattle.std.proofs.Common.{◌≡◌, ◌+◌, ℕ, [], subst, length, get_or, arith}
 use Rattle.std.proofs.lemmas.Result.{err_from_is_err_and}
-use Rattle.dbtg_explore.specs.Inside.Whereabouts.{AreWhereaboutsOf}
 use Rattle.dbtg_explore.specs.Inside.Steps.{Goes}
 use Rattle.dbtg_explore.specs.States.{HasMoreStates}
-use Rattle.dbtg_explore.proofs.Steps.{cannot_before, goes_both, goes_to_next, kept_at, kept_range, stays}
+use Rattle.dbtg_explore.proofs.Steps.{cannot_before, goes_both, goes_to_next, kept_range, stays}
 use Rattle.dbtg_explore.proofs.search.Search.go_on.Goals as goal
 
 pub loop-before-init : goal.loop-before-init
 loop-before-init c =
     let m = c.args.meeting.now in
-    stays m c.args.self.now c.args.place 0 c.requires.within c.requires.at (cannot_before m (get_or c.args.self.now.found.orders c.args.place []))
+    (stays m c.args.self.now c.args.place 0 c.requires.within c.requires.at (cannot_before m (get_or c.args.self.now.found.orders c.args.place [])), c.requires.stands)
 
 pub go_on_by-requires-clause-at : goal.go_on_by-requires-clause-at
-go_on_by-requires-clause-at c = c.loop-before.invariant.at
+go_on_by-requires-clause-at c = c.loop-before.invariant.0.at
 
 pub go_on_by-requires-clause-within : goal.go_on_by-requires-clause-within
-go_on_by-requires-clause-within c = kept_range c.args.meeting.now c.args.place c.args.place (c.loop-before.before + 1) c.args.self.now c.loop-before.self c.loop-before.invariant c.requires.within
-
-pub go_on_by-requires-clause-here : goal.go_on_by-requires-clause-here
-go_on_by-requires-clause-here c =
-    let m = c.args.meeting.now in
-    subst (λ (o : List ℕ). AreWhereaboutsOf m o c.args.here.now) (sym (kept_at m c.args.place c.args.place (c.loop-before.before + 1) c.args.self.now c.loop-before.self c.loop-before.invariant c.requires.within)) c.requires.here
+go_on_by-requires-clause-within c = kept_range c.args.meeting.now c.args.place c.args.place (c.loop-before.before + 1) c.args.self.now c.loop-before.self c.loop-before.invariant.0 c.requires.within
 
 pub loop-before-preserved : goal.loop-before-preserved
-loop-before-preserved c =
-    goes_both c.args.meeting.now c.args.place (c.loop-before.before + 1) (c.loop-before.before + 1 + 1) c.args.self.now c.loop-before.self c.go_on_by.new.self c.loop-before.invariant c.in_ok-go_on_by.ensures.goes
+loop-before-preserved c = (
+  goes_both c.args.meeting.now c.args.place (c.loop-before.before + 1) (c.loop-before.before + 1 + 1) c.args.self.now c.loop-before.self c.go_on_by.new.self c.loop-before.invariant.0 c.in_ok-go_on_by.ensures.goes,
+  c.in_ok-go_on_by.ensures.stands,
+)
 
 pub returns-in_err-go_on_by-clause-stopped : goal.returns-in_err-go_on_by-clause-stopped
 returns-in_err-go_on_by-clause-stopped c =
     let told = err_from_is_err_and c.from_residual.result c.from_residual.ensures.1 in
-    rw (told.1, told.2) (λ e. subst (HasMoreStates c.args.meeting.now) c.loop-before.invariant.limit_is (c.in_err-go_on_by.ensures.stopped e))
+    rw (told.1, told.2) (λ e. subst (HasMoreStates c.args.meeting.now) c.loop-before.invariant.0.limit_is (c.in_err-go_on_by.ensures.stopped e))
 
 pub returns-clause-goes : goal.returns-clause-goes
 returns-clause-goes c =
     let m = c.args.meeting.now in
     let all : c.loop-before.before + 1 ≡ length m.programs + 1 = omega (arith, c.units-before-end.ensures, c.loop-before-test.false) in
     goes_to_next m c.args.place c.args.self.now c.loop-before.self c.requires.within
-    (subst (λ (u : ℕ). Goes m c.args.place u c.args.self.now c.loop-before.self) all c.loop-before.invariant)
+    (subst (λ (u : ℕ). Goes m c.args.place u c.args.self.now c.loop-before.self) all c.loop-before.invariant.0)

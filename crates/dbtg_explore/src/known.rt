@@ -10,12 +10,12 @@ use std::marker::Model;
 
 /// States, as they were found: the numbers of each, which none before it has, and the order that leads there.
 #[derive(Drop)]
-pub struct States {
+pub struct Known {
     keys: IndexSet<Vec<u64>>,
     orders: Orders,
 }
 
-impl Model for States {
+impl Model for Known {
     ghost use Rattle.std.specs.Prelude.{map};
     ghost use Rattle.dbtg_explore.specs.Inside.Found.{FoundOrders};
 
@@ -24,10 +24,10 @@ impl Model for States {
     ghost view = { λ s. record { keys = map (λ k. k.items) s.keys.keys; orders = s.orders } };
 }
 
-impl States {
+impl Known {
     /// The state in which the programs meet, to which the empty order leads.
     pub fn first(alloc: Global, key: Vec<u64>) -> Result<Self, AllocError>
-        ensures { IfOk result (λ states. states ≡ record { keys = key.items ∷ []; orders = [] ∷ [] }) }
+        ensures { IfOk result (λ known. known ≡ record { keys = key.items ∷ []; orders = [] ∷ [] }) }
     {
         let mut keys = IndexSet::new(alloc);
         keys.insert(key)?;

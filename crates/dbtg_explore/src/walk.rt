@@ -1,0 +1,185 @@
+//! A walk from state to state: a database and programs that stand after the turns of an order, and go to others by way of the turns with
+//! which both orders begin.
+
+ghost use Rattle.dbtg_explore.specs.Inside.Walks.{AreStanding, HasTurned, Stands, StandsAt, order_of};
+ghost use Rattle.dbtg_explore.specs.Orders.{CanFollow, IsMeeting, IsOrder, Meeting as MeetingOfPrograms, can_turn, due_of};
+ghost use Rattle.dbtg_step.specs.Machine.SequentialDatabase.{unit_at, with_unit_at};
+ghost use Rattle.std.specs.Prelude.{◌≡◌, ◌≤◌, ◌<◌, ◌-◌, ◌++◌, ◌∷◌, [], Some, true, length, take, IfOk, OnOk};
+
+use crate::meeting::Meeting;
+use dbtg_going::{Going, programs_after};
+use dbtg_step::ReversibleDatabase;
+use dbtg_unit::Statement;
+use std::alloc::{AllocError, Global};
+
+/// A turn that was taken: its unit, and where its program was before.
+#[derive(Drop)]
+pub struct Taken {
+    pub unit: u8,
+    pub before: Going,
+}
+
+/// A database and programs after these turns, which can be taken back.
+#[derive(Drop)]
+pub struct Walk<'a> {
+    pub database: ReversibleDatabase<'a>,
+    pub goings: Vec<Going>,
+    pub turns: Vec<Taken>,
+}
+
+// How many of the turns are those with which the order begins.
+fn shared_with(turns: &[Taken], order: &[u8]) -> usize
+    ensures within { (result ≤ length turns.now) × (result ≤ length order.now) }
+    ensures same { take result (order_of turns.now) ≡ take result order.now }
+{
+    for (at, turn) in turns.iter().enumerate() {
+        if order.len() <= at || order[at] != turn.unit {
+            return at;
+        }
+    }
+    turns.len()
+}
+
+// The program of the unit is again where it was before.
+fn put_back(goings: &mut [Going], unit: u8, before: Going)
+    requires numbered { 0 < unit }
+    requires within { unit ≤ length goings.old }
+    ensures { goings.new ≡ with_unit_at goings.old unit before }
+{
+    goings[unit as usize - 1] = before;
+}
+
+impl<'a> Walk<'a> {
+    // Takes back the last turn.
+    fn take_back(&mut self)
+        requires { (m : MeetingOfPrograms) × Stands m self.old }
+        ensures stands { (m : MeetingOfPrograms) → Stands m self.old → Stands m self.new }
+        ensures turns { self.new.turns.items ≡ take (length self.old.turns.items - 1) self.old.turns.items }
+    {
+        if let Some(Taken { unit, before }) = self.turns.pop() {
+            let count = self.database.database().history().len();
+            self.database.take_back_to(count - 1);
+            put_back(self.goings.as_mut_slice(), unit, before);
+        }
+    }
+
+    // Takes back the turns behind the first, which are this many.
+    fn take_back_to(&mut self, count: usize)
+        requires stands { (m : MeetingOfPrograms) × Stands m self.old }
+        requires within { count ≤ length self.old.turns.items }
+        ensures stands { (m : MeetingOfPrograms) → Stands m self.old → Stands m self.new }
+        ensures turns { self.new.turns.items ≡ take count self.old.turns.items }
+    {
+        while self.turns.len() > count {
+            self.take_back();
+        }
+    }
+
+    /// Drops the walk.
+    pub fn discard(self) {
+        let Walk {
+            database,
+            goings,
+            turns,
+        } = self;
+        database.discard();
+        drop(goings);
+        drop(turns)
+    }
+}
+
+impl<'a> Meeting<'a> {
+    /// A walk that begins where the programs meet.
+    pub(crate) fn begin(&self, alloc: Global) -> Result<Walk<'a>, AllocError>
+        requires { IsMeeting self.now }
+        ensures { IfOk result (StandsAt self.now []) }
+    {
+        let (database, goings) = programs_after(
+            alloc,
+            self.schema,
+            self.capacity,
+            self.programs,
+            self.begun,
+        )?;
+        Ok(Walk {
+            database: ReversibleDatabase::of(alloc, database),
+            goings,
+            turns: Vec::new(alloc),
+        })
+    }
+
+    // The unit makes this statement, which is due, and its program goes on. Gives where its program was before.
+    fn make(
+        &self,
+        alloc: Global,
+        database: &mut ReversibleDatabase<'_>,
+        goings: &mut [Going],
+        unit: u8,
+        statement: Statement,
+    ) -> Result<Going, AllocError>
+        requires standing { AreStanding self.now database.old.making goings.old }
+        requires due { due_of self.now database.old.making.history unit ≡ Some statement }
+        ensures turned { OnOk result (HasTurned self.now unit database.old.making database.new.making goings.new) }
+        ensures stays { OnOk result (database.new.stays ≡ database.old.stays) }
+        ensures before { IfOk result (λ going. unit_at goings.old unit ≡ Some going) }
+    {
+        let place = unit as usize - 1;
+        let going = goings[place].copy(alloc)?;
+        let before = database.database().history().len();
+        database.make(unit, statement)?;
+        let entry = &database.database().history()[before];
+        goings[place].told(alloc, self.schema, &self.programs[place], entry)?;
+        Ok(going)
+    }
+
+    /// The unit has its turn: its program makes the statement that is due, and goes on.
+    pub(crate) fn take_turn(
+        &self,
+        alloc: Global,
+        walk: &mut Walk<'a>,
+        unit: u8,
+    ) -> Result<(), AllocError>
+        requires stands { Stands self.now walk.old }
+        requires turn { can_turn self.now walk.old.database.making.history unit ≡ true }
+        ensures { OnOk result (StandsAt self.now (order_of walk.old.turns.items ++ unit ∷ []) walk.new) }
+    {
+        match self.due(walk, unit) {
+            None => Ok(()),
+            Some(statement) => {
+                let statement = statement.copy(alloc)?;
+                let goings = walk.goings.as_mut_slice();
+                let before = self.make(alloc, &mut walk.database, goings, unit, statement)?;
+                walk.turns.push(Taken { unit, before })?;
+                Ok(())
+            }
+        }
+    }
+
+    // These turns, one after another.
+    fn take_turns(&self, alloc: Global, walk: &mut Walk<'a>, units: &[u8]) -> Result<(), AllocError>
+        requires stands { Stands self.now walk.old }
+        requires turns { CanFollow self.now walk.old.database.making.history units.now }
+        ensures { OnOk result (StandsAt self.now (order_of walk.old.turns.items ++ units.now) walk.new) }
+    {
+        for unit in units {
+            self.take_turn(alloc, walk, *unit)?;
+        }
+        Ok(())
+    }
+
+    /// Goes to where an order leads.
+    pub(crate) fn go_to(
+        &self,
+        alloc: Global,
+        walk: &mut Walk<'a>,
+        order: &[u8],
+    ) -> Result<(), AllocError>
+        requires stands { Stands self.now walk.old }
+        requires order { IsOrder self.now order.now }
+        ensures { OnOk result (StandsAt self.now order.now walk.new) }
+    {
+        let shared = shared_with(walk.turns.as_slice(), order);
+        walk.take_back_to(shared);
+        self.take_turns(alloc, walk, &order[shared..])
+    }
+}
