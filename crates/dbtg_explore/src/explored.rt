@@ -91,6 +91,31 @@ fn visit_all<'a, W: Watch>(
     Ok((search, ends))
 }
 
+// Everything that programs can come to, by a walk that stands where they meet.
+fn explored_by<'a, W: Watch>(
+    alloc: Global,
+    watch: &W,
+    meeting: &Meeting<'a>,
+    walk: &mut Walk<'a>,
+    limit: usize,
+) -> Result<Explored, Stop>
+    requires meeting { IsMeeting meeting.now }
+    requires stands { StandsAt meeting.now [] walk.old }
+    ensures explored { IfOk result (IsExplored meeting.now) }
+    ensures within { IfOk result (λ all. all.states ≤ limit) }
+    ensures stopped { IfErr result (λ stop. stop ≡ States → HasMoreStates meeting.now limit) }
+{
+    let (search, ends) = visit_all(alloc, watch, meeting, walk, limit)?;
+    let endless = endless_in(alloc, meeting, walk, &search)?;
+    let Ends { results, failures } = ends;
+    Ok(Explored {
+        states: search.found.len() as u64,
+        results: results.into_orders(),
+        failures: Row::of(failures),
+        endless,
+    })
+}
+
 /// Everything that programs can come to when they meet, whatever the order of their statements. It stops if there are more states than the
 /// limit.
 pub fn explore<W: Watch>(
@@ -105,13 +130,7 @@ pub fn explore<W: Watch>(
     ensures stopped { IfErr result (λ stop. stop ≡ States → HasMoreStates meeting.now limit) }
 {
     let mut walk = meeting.begin(alloc)?;
-    let (search, ends) = visit_all(alloc, watch, meeting, &mut walk, limit)?;
-    let endless = endless_in(alloc, meeting, &mut walk, &search)?;
-    let Ends { results, failures } = ends;
-    Ok(Explored {
-        states: search.found.len() as u64,
-        results: results.into_orders(),
-        failures: Row::of(failures),
-        endless,
-    })
+    let explored = explored_by(alloc, watch, meeting, &mut walk, limit);
+    walk.discard();
+    explored
 }

@@ -1,3 +1,5 @@
+use Rattle.std.proofs.Common.{◌≡◌, ℕ, length, subst, arith}
+use Rattle.dbtg_explore.specs.Inside.Visits.{IsVisited}
 use Rattle.dbtg_explore.proofs.Visiting.{on_the_way, one_on_the_way}
 use Rattle.dbtg_explore.proofs.Walks.{stands}
 use Rattle.dbtg_explore.proofs.explored.visit_all.Goals as goal
@@ -12,3 +14,9 @@ loop-place-preserved g c = (
   one_on_the_way c.args.meeting.now c.args.limit c.loop-place.place c.loop-place.search c.visit.new.self c.loop-place.ends c.visit.new.ends c.loop-place.invariant.0 c.in_ok-visit.ensures.visited,
   c.in_ok-visit.ensures.stands,
 )
+
+pub returns-clause-through : goal.returns-clause-through
+returns-clause-through g c =
+    let way = c.loop-place.invariant.0 in
+    let end : c.loop-place.place ≡ length c.loop-place.search.found.orders = omega (arith, way.within, c.loop-place-test.false, c.len.ensures) in
+    record { visited = subst (λ (i : ℕ). IsVisited c.args.meeting.now i c.loop-place.search c.loop-place.ends) end way.visited; limit_is = way.limit_is }

@@ -1,5 +1,6 @@
+use Rattle.std.proofs.lemmas.Result.{err_from_is_err_and}
 use Rattle.dbtg_explore.proofs.Visiting.{is_explored}
-use Rattle.dbtg_explore.proofs.explored.explore.Goals as goal
+use Rattle.dbtg_explore.proofs.explored.explored_by.Goals as goal
 
 pub returns-clause-explored : goal.returns-clause-explored
 returns-clause-explored g c =
@@ -7,3 +8,8 @@ returns-clause-explored g c =
 
 pub endless_in-requires-clause-orders : goal.endless_in-requires-clause-orders
 endless_in-requires-clause-orders g c = c.in_ok-search.ensures.through.visited.at.under_way.are_orders
+
+pub returns-in_err-endless-clause-stopped : goal.returns-in_err-endless-clause-stopped
+returns-in_err-endless-clause-stopped g c =
+    let told = err_from_is_err_and c.from_residual-in_err-endless.result c.from_residual-in_err-endless.ensures.1 in
+    rw (told.1, told.2) (λ e. absurd (cc (e)))
