@@ -12,6 +12,9 @@
 #include <sys/syscall.h>
 #include <unistd.h>
 
+// What the C library rounds sizes to, and the room of its smallest block, in bytes.
+enum { SPARE = 16, SMALLEST = 24 };
+
 static long growths, refused, live, at;
 static int is_read, goes_on;
 
@@ -59,8 +62,9 @@ void *realloc(void *old, size_t size)
     static void *(*next)(void *, size_t);
     if (!next)
         next = (void *(*)(void *, size_t))dlsym(RTLD_NEXT, "realloc");
-    // What fits into the block is no growth.
-    if (old != NULL && size <= malloc_usable_size(old))
+    // A block has less than SPARE bytes more than were asked for, and the smallest may be any size: what is this much less is no growth.
+    size_t room = old ? malloc_usable_size(old) : 0;
+    if (room > SMALLEST && size + SPARE <= room)
         return next(old, size);
     if (is_refused())
         return NULL;
