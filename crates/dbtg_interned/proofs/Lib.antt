@@ -1,0 +1,7 @@
+mod Keeping
+mod Entering
+mod Pieces
+mod Trees
+mod Changed
+mod Rows
+pub mod Public

@@ -1,0 +1,4 @@
+pub mod Kept
+pub mod Arrays
+pub mod Laws
+pub mod Inside

@@ -1,0 +1,100 @@
+//! Nodes of trees, each kept once under a number.
+ghost use Rattle.std.specs.Prelude.{◌≡◌, ◌∷◌, ◌<◌, ◌≤◌, ◌+◌, [], Some, length, replicate, slice_get, IfOk};
+ghost use Rattle.std.specs.Hash as fed;
+ghost use Rattle.std.specs.Hash.{on_Alike, same_Alike};
+ghost use Rattle.std.specs.Cmp.Lexicographic.{bytes_decides};
+ghost use Rattle.dbtg_interned.specs.Kept.{Keeps};
+ghost use Rattle.dbtg_interned.specs.Arrays.{AreNodes};
+ghost use Rattle.dbtg_interned.specs.Inside.Mixed.{mixed};
+
+use crate::contents::number;
+use indexmap::IndexSet;
+use std::alloc::{AllocError, Global};
+use std::hash::{Hash, Hasher};
+use std::marker::Model;
+
+/// How many children a node has.
+pub(crate) const WIDTH: usize = 16;
+
+// An odd number whose bits look random.
+const MULTIPLIER: u64 = 0x9e37_79b9_7f4a_7c15;
+
+// A node, by its children. It is hashed as one number, which is quicker than child by child.
+#[derive(Clone, Copy, PartialEq, Eq)]
+struct Node {
+    children: [u32; WIDTH],
+}
+
+impl Hash for Node {
+    ghost hash_input = { λ n. fed.u64 (mixed n.children 8) };
+
+    ghost respects_eq = { (on_Alike (λ n. n.children) (same_Alike (λ l. fed.u64 (mixed l 8)) bytes_decides)).fed };
+
+    fn hash<H: Hasher>(&self, state: &mut H) {
+        state.write_u64(mix(&self.children));
+    }
+}
+
+// One number from all children, two at a time.
+fn mix(children: &[u32; WIDTH]) -> u64
+    ensures { result ≡ mixed children.now 8 }
+{
+    let mut mix: u64 = 0;
+    for i in 0..WIDTH / 2 {
+        let two = children[2 * i] as u64 | (children[2 * i + 1] as u64) << 32;
+        mix = (mix ^ two).wrapping_mul(MULTIPLIER);
+    }
+    mix
+}
+
+/// Nodes, each of which stands once, under a number. The node of zeros has the number 0.
+#[derive(Drop)]
+pub(crate) struct Nodes {
+    nodes: IndexSet<Node>,
+}
+
+impl Model for Nodes {
+    ghost use Rattle.std.specs.Prelude.{ℕ, List, map};
+    ghost use Rattle.dbtg_interned.specs.Arrays.{AreNodes};
+
+    ghost Value = { List (List ℕ) };
+
+    ghost view = { λ n. map (λ m. m.children) n.nodes.keys };
+
+    ghost invariant = { λ n. AreNodes (map (λ m. m.children) n.nodes.keys) };
+}
+
+impl Nodes {
+    /// The node of zeros alone.
+    pub(crate) fn new(alloc: Global) -> Result<Self, AllocError>
+        ensures sound { IfOk result AreNodes }
+        ensures zeros { IfOk result (λ n. n ≡ replicate 16 0 ∷ []) }
+    {
+        let mut nodes = IndexSet::new(alloc);
+        nodes.insert(Node {
+            children: [0; WIDTH],
+        })?;
+        Ok(Self { nodes })
+    }
+
+    /// The children of a node.
+    pub(crate) fn children(&self, node: u32) -> [u32; WIDTH]
+        requires { node < length self.now }
+        ensures sound { AreNodes self.now }
+        ensures children { slice_get self.now node ≡ Some result }
+    {
+        self.nodes[node as usize].children
+    }
+
+    /// The number of the node with these children, which is added if it is new.
+    pub(crate) fn enter(&mut self, children: [u32; WIDTH]) -> Result<u32, AllocError>
+        requires { length children ≡ 16 }
+        ensures sound { AreNodes self.new }
+        ensures keeps { Keeps self.old self.new }
+        ensures few { length self.new ≤ length self.old + 1 }
+        ensures number { IfOk result (λ n. slice_get self.new n ≡ Some children) }
+    {
+        let (at, _) = self.nodes.insert_full(Node { children })?;
+        number(at)
+    }
+}
