@@ -1,4 +1,5 @@
 use Rattle.std.proofs.Common.{sym, ◌∙◌, arith, length, ◌≤◌}
+use Rattle.std.proofs.lemmas.Grind.{common_steps}
 use Rattle.dbtg_cells.proofs.CalcOrder.{values_ended, values_shorter}
 use Rattle.dbtg_cells.proofs.by_calc.values_cmp.Goals as goal
 
@@ -9,3 +10,9 @@ returns-in-None c =
 
 pub returns-then-a-b : goal.returns-then-a-b
 returns-then-a-b c = sym (values_shorter c.loop-i.i c.args.a.now c.args.b.now (omega arith) (omega (arith, c.if-a-b.true))) ∙ c.loop-i.invariant
+
+pub loop-i-preserved : goal.loop-i-preserved
+loop-i-preserved c = grind (arith, common_steps)
+
+pub returns-else-a-b : goal.returns-else-a-b
+returns-else-a-b c = grind (arith, common_steps)

@@ -1,9 +1,10 @@
 use Rattle.std.proofs.Common.{◌≡◌, ◌∙◌, ◌<◌, ◌≤◌, ◌+◌, ◌-◌, ◌*◌, ap, arith, drop, length, sym, subst, take}
-use Rattle.std.specs.Prelude.{None}
-use Rattle.std.specs.List.{flat_map}
+use Rattle.std.proofs.lemmas.Grind.{common_steps}
 use Rattle.std.proofs.lemmas.List.{length-drop, take_all}
 use Rattle.std.proofs.lemmas.Result.{IfOk-weaker}
 use Rattle.std.proofs.lemmas.Option.{slice_get_within}
+use Rattle.std.specs.Prelude.{None}
+use Rattle.std.specs.List.{flat_map}
 use Rattle.dbtg_erase.specs.declared.course.Course.{Course}
 use Rattle.dbtg_erase.specs.NextCell.{first_missing}
 use Rattle.dbtg_erase.specs.WorkList.{cells_of_gone, most_gone}
@@ -60,3 +61,51 @@ returns-clause-next c =
     let count : length (drop done xs) ≡ length xs - done = length-drop done xs in
     let rest : take (length xs - done) (drop done xs) ≡ drop done c.loop-turn.self.gone = take_all (length xs - done) (drop done xs) (omega arith) ∙ ap (drop done) c.as_slice.ensures in
     IfOk-weaker c.first_of_all.result _ _ (λ name e. e ∙ ap (λ ds. first_missing c.args.held.now (flat_map (cells_of_gone c.args.schema.now c.args.held.now) ds)) rest ∙ sym left) c.first_of_all.ensures
+
+pub returns-clause-all : goal.returns-clause-all
+returns-clause-all c = grind (arith, common_steps)
+
+pub returns-clause-around : goal.returns-clause-around
+returns-clause-around c = grind (arith, common_steps)
+
+pub returns-clause-course : goal.returns-clause-course
+returns-clause-course c = grind (arith, common_steps)
+
+pub returns-in_default-clause-around : goal.returns-in_default-clause-around
+returns-in_default-clause-around c = grind (arith, common_steps)
+
+pub returns-in_default-clause-course : goal.returns-in_default-clause-course
+returns-in_default-clause-course c = grind (arith, common_steps)
+
+pub returns-in_err-found-clause-all : goal.returns-in_err-found-clause-all
+returns-in_err-found-clause-all c = grind (arith, common_steps)
+
+pub returns-in_err-found-clause-around : goal.returns-in_err-found-clause-around
+returns-in_err-found-clause-around c = grind (arith, common_steps)
+
+pub returns-in_err-found-clause-course : goal.returns-in_err-found-clause-course
+returns-in_err-found-clause-course c = grind (arith, common_steps)
+
+pub returns-in_err-found-clause-next : goal.returns-in_err-found-clause-next
+returns-in_err-found-clause-next c = grind (arith, common_steps)
+
+pub returns-in_err-pass-clause-all : goal.returns-in_err-pass-clause-all
+returns-in_err-pass-clause-all c = grind (arith, common_steps)
+
+pub returns-in_err-pass-clause-around : goal.returns-in_err-pass-clause-around
+returns-in_err-pass-clause-around c = grind (arith, common_steps)
+
+pub returns-in_err-pass-clause-course : goal.returns-in_err-pass-clause-course
+returns-in_err-pass-clause-course c = grind (arith, common_steps)
+
+pub returns-in_err-pass-clause-next : goal.returns-in_err-pass-clause-next
+returns-in_err-pass-clause-next c = grind (arith, common_steps)
+
+pub returns-then-is_some-clause-all : goal.returns-then-is_some-clause-all
+returns-then-is_some-clause-all c = grind (arith, common_steps)
+
+pub returns-then-is_some-clause-around : goal.returns-then-is_some-clause-around
+returns-then-is_some-clause-around c = grind (arith, common_steps)
+
+pub returns-then-is_some-clause-course : goal.returns-then-is_some-clause-course
+returns-then-is_some-clause-course c = grind (arith, common_steps)

@@ -1,0 +1,12 @@
+use Rattle.std.proofs.Common.{arith}
+use Rattle.std.proofs.lemmas.Grind.{common_steps}
+use Rattle.dbtg_schema.proofs.automaton.follow.Goals as goal
+
+pub loop-start-preserved : goal.loop-start-preserved
+loop-start-preserved c = grind (arith, common_steps)
+
+pub returns : goal.returns
+returns c = grind (arith, common_steps)
+
+pub returns-then-fits : goal.returns-then-fits
+returns-then-fits c = grind (arith, common_steps)
