@@ -179,9 +179,8 @@ fn see_found(
 {
     match found {
         Ok(key) => {
-            let owners = owners_of(held, &key);
-            unit.see(schema, key, owners.as_slice(), suppress);
-            held.set_guesses(owners);
+            held.guess_owners(&key);
+            unit.see(schema, key, held.guesses(), suppress);
             Answer {
                 status: Status::Done,
                 key: Some(key),

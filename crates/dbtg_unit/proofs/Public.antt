@@ -208,6 +208,10 @@ pub use Rattle.dbtg_unit.proofs.Database.Legal.StoreLegal.{member_connected}
 pub use Rattle.dbtg_unit.proofs.Database.Legal.StoreLegal.{not_member}
 -- LAWS OF STATEMENTS AND HISTORIES
 
+-- a statement changes the last generation of a number only where it stores a record under that number
+pub use Rattle.dbtg_unit.proofs.Database.Laws.LastGenerations.{last_or_stored}
+-- where the slot of a number shows the same before and after a statement, the number's last generation is the same
+pub use Rattle.dbtg_unit.proofs.Database.Laws.LastGenerations.{same_slot_same_last}
 -- an element of what one element gives is among what all give
 pub use Rattle.dbtg_unit.proofs.Database.Laws.LeastSets.{in_flattened}
 -- the types that can be reached from a record type are it and, with each, its member types, and no more

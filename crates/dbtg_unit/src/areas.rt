@@ -124,7 +124,8 @@ fn ask_of_named(
     }
 }
 
-fn ask_of_find(schema: &Schema, unit: &Unit, question: &Question, form: &Form) -> bool
+/// About the areas of a FIND.
+pub(crate) fn ask_of_find(schema: &Schema, unit: &Unit, question: &Question, form: &Form) -> bool
     ensures { result ≡ list_any (asks unit.now.modes question.now) (find_areas schema.now unit.now form.now) }
 {
     match form {

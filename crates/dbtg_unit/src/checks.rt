@@ -6,8 +6,10 @@ ghost use Rattle.dbtg_schema.specs.Structure.{automatic_sets};
 ghost use Rattle.dbtg_unit.specs.Database.Statements.Checks.{accepts_type, changes_records, class_in, current_type, find_lacks_current, frees_what_is_not_kept, is_beyond, is_inserting_mandatory_automatic, is_open_statement, is_opening_again, is_removing_mandatory, lacks_current, needs_current, refused_at_once};
 ghost use Rattle.dbtg_unit.specs.Database.Statements.Found.{needs_position};
 ghost use Rattle.dbtg_unit.specs.Database.State.Units.{place_in};
+ghost use Rattle.dbtg_unit.specs.declared.statement.Statement.TheVariants.{Find};
+ghost use Rattle.dbtg_unit.specs.declared.statement.Suppress.{Suppress};
 
-use crate::areas::{Question, ask_of_areas};
+use crate::areas::{Question, ask_of_areas, ask_of_find};
 use crate::entries::entry_at;
 use crate::statement::{Form, Statement, Which};
 use crate::unit::{Cause, Unit};
@@ -179,11 +181,20 @@ fn changes_records(statement: &Statement) -> bool
     )
 }
 
+fn form_is_beyond(capacity: u16, form: &Form) -> bool
+    ensures { (suppress : Suppress) → result ≡ is_beyond capacity (Find suppress form.now) }
+{
+    match form {
+        Form::Key(key) => (capacity as u32) < key.number,
+        _ => false,
+    }
+}
+
 fn is_beyond(capacity: u16, statement: &Statement) -> bool
     ensures { result ≡ is_beyond capacity statement.now }
 {
     match statement {
-        Statement::Find(_, Form::Key(key)) => (capacity as u32) < key.number,
+        Statement::Find(_, form) => form_is_beyond(capacity, form),
         _ => false,
     }
 }
@@ -202,6 +213,36 @@ fn frees_what_is_not_kept(unit: &Unit, statement: &Statement) -> bool
     }
 }
 
+// Is the FIND that of a null current of run-unit?
+fn wants_null(unit: &Unit, form: &Form) -> bool
+    ensures { (suppress : Suppress) → result ≡ (needs_current (Find suppress form.now) && is_none unit.now.currency.run_unit) }
+{
+    match form {
+        Form::CurrentOfUnit => unit.currency.run_unit.is_none(),
+        _ => false,
+    }
+}
+
+// The cause of a FIND: only these can apply to it.
+#[tactic(auto, using(crate::proofs::Database::FindChecks::find_refused))]
+fn find_refused_at_once(schema: &Schema, capacity: u16, unit: &Unit, form: &Form) -> Option<Cause>
+    ensures { (suppress : Suppress) → result ≡ refused_at_once schema.now capacity unit.now (Find suppress form.now) }
+{
+    if wants_null(unit, form) {
+        return Some(Cause::NoCurrentOfRunUnit);
+    }
+    if find_lacks_current(schema, unit, form) {
+        return Some(Cause::NoSuchCurrent);
+    }
+    if ask_of_find(schema, unit, &Question::NotOpen, form) {
+        return Some(Cause::AreaNotOpen);
+    }
+    if form_is_beyond(capacity, form) {
+        return Some(Cause::NoneSatisfies);
+    }
+    None
+}
+
 /// The cause for which a statement is refused without looking at cells: the first that applies; none if cells decide.
 pub fn refused_at_once(
     schema: &Schema,
@@ -211,6 +252,9 @@ pub fn refused_at_once(
 ) -> Option<Cause>
     ensures { result ≡ refused_at_once schema.now capacity unit.now statement.now }
 {
+    if let Statement::Find(_suppress, form) = statement {
+        return find_refused_at_once(schema, capacity, unit, form);
+    }
     if needs_current(statement) & unit.currency.run_unit.is_none() {
         return Some(Cause::NoCurrentOfRunUnit);
     }
@@ -229,10 +273,10 @@ pub fn refused_at_once(
     if lacks_current(schema, unit, statement) {
         return Some(Cause::NoSuchCurrent);
     }
-    if !is_open_statement(statement) & ask_of_areas(schema, unit, &Question::NotOpen, statement) {
+    if !is_open_statement(statement) && ask_of_areas(schema, unit, &Question::NotOpen, statement) {
         return Some(Cause::AreaNotOpen);
     }
-    if changes_records(statement) & ask_of_areas(schema, unit, &Question::NotUpdate, statement) {
+    if changes_records(statement) && ask_of_areas(schema, unit, &Question::NotUpdate, statement) {
         return Some(Cause::UpdateModeNeeded);
     }
     if is_beyond(capacity, statement) {

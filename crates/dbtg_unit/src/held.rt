@@ -1,18 +1,23 @@
 //! What a statement holds: areas and cells in the order of taking, and the unit's guesses of owners. Short lists
 //! live in place, so that most statements take no memory for them.
-ghost use Rattle.std.specs.Prelude.{◌≡◌, ◌==◌, ◌-◌, [], ◌∷◌, ◌++◌, length, map, option_map, false, option_copied, slice_get, slice_set, IfErr, IfNone, OnErr, OnOk};
+ghost use Rattle.std.specs.Prelude.{◌≡◌, ◌==◌, ◌-◌, [], ◌∷◌, ◌++◌, length, map, option_map, false, option_copied, slice_get, slice_set, take, unwrap_or, IfErr, IfNone, OnErr, OnOk};
 ghost use Rattle.std.specs.Borrow.{sem};
 ghost use Rattle.std.specs.List.{list_any, zip};
 ghost use Rattle.std.specs.Option.{option_copied_mut, option_to_list};
 ghost use Rattle.dbtg_schema.specs.Lookups.{at};
 ghost use Rattle.dbtg_cells.specs.Names.{name_eq};
 ghost use Rattle.dbtg_unit.specs.Hands.Hands.{StandAtNumbers, cell_of};
+ghost use Rattle.dbtg_unit.specs.Hands.InHand.{stored_in};
+ghost use Rattle.dbtg_unit.specs.Inside.HeldNames.{AreNumbered, IsIndexOf, first_count, key_eq};
+ghost use Rattle.indexmap.specs.IndexMap.{get};
+ghost use Rattle.dbtg_schema.specs.declared.limits.TheConstants.{MOST_SETS};
 ghost use Rattle.dbtg_unit.specs.Hands.Lends.{LendsCell};
 
 use crate::entries::entry_at;
+use crate::in_hand::stored_of;
 use crate::names::{FirstNames, NameKey, enter, find_place, leave};
 use crate::owners::Owners;
-use dbtg_cells::{Cell, CellName, Layout, Owner};
+use dbtg_cells::{Cell, CellName, DbKey, Layout, Owner};
 use dbtg_schema::{AreaNo, SetNo};
 use indexmap::IndexMap;
 use smallvec::SmallVec;
@@ -74,6 +79,25 @@ fn cell_at(cells: &[Cell], at: usize) -> Option<&Cell>
     cells.get(at)
 }
 
+// The cell with this name.
+fn cell_named<'a>(
+    names: &[CellName],
+    first: &FirstNames,
+    index: &IndexMap<NameKey, usize>,
+    cells: &'a [Cell],
+    name: &CellName,
+) -> Option<&'a Cell>
+    requires count { length cells.now ≡ length names.now }
+    requires index { IsIndexOf (get key_eq index.now) (first_count first.now) names.now }
+    requires numbered { AreNumbered first.now names.now }
+    ensures { option_copied result ≡ cell_of name.now (zip names.now cells.now) }
+{
+    match find_place(names, first, index, name) {
+        Some(at) => cell_at(cells, at),
+        None => None,
+    }
+}
+
 impl Held {
     /// Hands that hold nothing, with these guesses.
     pub fn new(alloc: Global, guesses: Owners) -> Self
@@ -123,10 +147,13 @@ impl Held {
     pub fn cell(&self, name: &CellName) -> Option<&Cell>
         ensures { option_copied result ≡ cell_of name.now self.now.cells }
     {
-        match find_place(self.names.as_slice(), &self.first, &self.index, name) {
-            Some(at) => cell_at(self.cells.as_slice(), at),
-            None => None,
-        }
+        cell_named(
+            self.names.as_slice(),
+            &self.first,
+            &self.index,
+            self.cells.as_slice(),
+            name,
+        )
     }
 
     /// The cells that are held, in the order of taking.
@@ -253,6 +280,23 @@ impl Held {
         ensures { self.new ≡ record self.old { guesses = guesses } }
     {
         self.guesses = guesses;
+    }
+
+    /// Guesses the owners of the record of a key, by set; none if its slot is not held, or has no record or another.
+    pub fn guess_owners(&mut self, key: &DbKey)
+        ensures { self.new ≡ record self.old { guesses = take MOST_SETS (unwrap_or (option_map (λ r. r.owners) (stored_in self.old key.now)) []) } }
+    {
+        let cell = cell_named(
+            self.names.as_slice(),
+            &self.first,
+            &self.index,
+            self.cells.as_slice(),
+            &CellName::Slot(key.rtype, key.number),
+        );
+        match stored_of(cell, key.generation) {
+            Some(stored) => self.guesses.put(stored.owners.as_slice()),
+            None => self.guesses.put(&[]),
+        }
     }
 
     /// Guesses another owner in a set.

@@ -3,7 +3,7 @@ ghost use Rattle.std.specs.Prelude.{◌≡◌, ℕ, ◌+◌, [], is_some, option
 ghost use Rattle.dbtg_schema.specs.Lookups.{at, first_cause};
 ghost use Rattle.dbtg_unit.specs.Database.Statements.Checks.{own_checks};
 ghost use Rattle.dbtg_unit.specs.Database.State.CellNames.{place_of};
-ghost use Rattle.dbtg_unit.specs.Hands.InHand.{extent_in, in_hand, numbers_in, occurrence_in, owner_in, stored_in, usage_in, users_in, version_in};
+ghost use Rattle.dbtg_unit.specs.Hands.InHand.{extent_in, in_hand, numbers_in, occurrence_in, owner_in, stored_in, stored_of, usage_in, users_in, version_in};
 ghost use Rattle.dbtg_unit.specs.Hands.Making.{HaveNextVersions};
 
 use crate::held::Held;
@@ -21,14 +21,14 @@ pub fn ring_name(set: SetNo, owner: &Owner) -> CellName
     }
 }
 
-/// The record of a key, if its slot is held and has that record.
-pub fn stored<'a>(held: &'a Held, key: &DbKey) -> Option<&'a Stored>
-    ensures { option_copied result ≡ stored_in held.now key.now }
+/// The record of this generation, if the cell is a slot that has it.
+pub(crate) fn stored_of<'a>(cell: Option<&'a Cell>, generation: u8) -> Option<&'a Stored>
+    ensures { option_copied result ≡ stored_of generation (option_copied cell.entry) }
 {
-    match held.cell(&CellName::Slot(key.rtype, key.number)) {
+    match cell {
         Some(Cell::Slot(slot)) => match slot.record() {
             Some(stored) => {
-                if stored.generation == key.generation {
+                if stored.generation == generation {
                     Some(stored)
                 } else {
                     None
@@ -38,6 +38,16 @@ pub fn stored<'a>(held: &'a Held, key: &DbKey) -> Option<&'a Stored>
         },
         _ => None,
     }
+}
+
+/// The record of a key, if its slot is held and has that record.
+pub fn stored<'a>(held: &'a Held, key: &DbKey) -> Option<&'a Stored>
+    ensures { option_copied result ≡ stored_in held.now key.now }
+{
+    stored_of(
+        held.cell(&CellName::Slot(key.rtype, key.number)),
+        key.generation,
+    )
 }
 
 /// The version that a held record has once it is changed.

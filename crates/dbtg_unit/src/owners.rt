@@ -54,6 +54,15 @@ impl Owners {
         Self { entries, len }
     }
 
+    /// Puts these owners in the place of the old ones; if there are more than MOST_SETS, the first of them.
+    pub(crate) fn put(&mut self, owners: &[Option<Owner>])
+        ensures { self.new ≡ take MOST_SETS owners.now }
+    {
+        let len = owners.len().min(MOST_SETS);
+        self.entries[..len].copy_from_slice(&owners[..len]);
+        self.len = len;
+    }
+
     pub fn as_slice(&self) -> &[Option<Owner>]
         ensures { result.now ≡ self.now }
     {

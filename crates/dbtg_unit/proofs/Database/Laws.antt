@@ -3,6 +3,7 @@
 -- Promises: a file for each of the other laws.
 pub mod Answered
 pub mod GoForward
+pub mod LastGenerations
 pub mod LeastSets
 pub mod OneMoreEntry
 pub mod PlacingOrder

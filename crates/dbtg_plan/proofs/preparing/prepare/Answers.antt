@@ -1,9 +1,8 @@
-use Rattle.std.proofs.Common.{sym, ◌∙◌, subst}
+use Rattle.std.proofs.Common.{sym, ◌∙◌, subst, arith, refl}
 use Rattle.dbtg_unit.specs.Hands.Making.{CanFinish}
 use Rattle.dbtg_unit.specs.Hands.Prepared.{Plan}
-use Rattle.std.proofs.Common.{refl}
 use Rattle.dbtg_unit.proofs.Public.{plan_makes}
-use Rattle.dbtg_plan.proofs.Plans.PartByPart.{refused_finishes}
+use Rattle.dbtg_plan.proofs.Plans.PartByPart.{refused_finishes, makes_if_ok}
 use Rattle.dbtg_plan.proofs.preparing.prepare.Goals as goal
 
 pub returns-in-Some-clause-prepared : goal.returns-in-Some-clause-prepared
@@ -14,3 +13,6 @@ returns-in-Some-clause-prepared c =
 pub returns-in-Some-clause-made : goal.returns-in-Some-clause-made
 returns-in-Some-clause-made c =
     plan_makes c.args.schema.now c.args.capacity c.args.unit.now c.args.statement.now c.refused.result c.args.held.now c.args.held.now c.requires.may (record { areas = refl; cells = refl; guesses = refl }) (returns-in-Some-clause-prepared c)
+
+pub returns-in-None-clause-made : goal.returns-in-None-clause-made
+returns-in-None-clause-made c = grind (arith, makes_if_ok)

@@ -1,4 +1,5 @@
 use Rattle.std.proofs.Common.{◌≡◌, ◌∷◌, [], ap, sym, subst, ◌∙◌, length, arith}
+use Rattle.std.proofs.lemmas.Grind.{common_steps}
 use Rattle.std.specs.Vec.Iter.{into_iter_items}
 use Rattle.dbtg_unit.specs.Hands.Making.{AreMade, CanMake}
 use Rattle.dbtg_unit.proofs.Hands.Holding.WhileEditing.{can_make_rest, made_append}
@@ -19,3 +20,12 @@ loop-edit-preserved c =
       guesses = c.edit_held.ensures.guesses ∙ was.guesses;
       as_many = let many = was.as_many in let gone = c.in-Some.ensures.steps.1 in let shorter = ap length left in omega arith;
     }
+
+pub returns-clause-areas : goal.returns-clause-areas
+returns-clause-areas c = grind (arith, common_steps)
+
+pub returns-clause-guesses : goal.returns-clause-guesses
+returns-clause-guesses c = grind (arith, common_steps)
+
+pub returns-clause-made : goal.returns-clause-made
+returns-clause-made c = grind (arith, common_steps)

@@ -1,4 +1,5 @@
 use Rattle.std.proofs.Common.{◌≡◌, ◌∙◌, sym, ap, subst, ◌++◌, ◌∷◌, [], length, arith}
+use Rattle.std.proofs.lemmas.Grind.{common_steps}
 use Rattle.std.proofs.lemmas.List.{length-append}
 use Rattle.indexmap.specs.IndexMap.{get}
 use Rattle.dbtg_unit.specs.declared.names.NameKey.{NameKey}
@@ -35,3 +36,27 @@ invariant_of-self-2 c =
       subst (λ f. IsIndexOf (get key_eq c.leave.new.index) (first_count f) names) (sym kept) (index_less (get key_eq c.leave.new.index) first names (popped_index count index (get key_eq c.leave.new.index) names name before leaves)),
       subst (λ f. AreNumbered f names) (sym kept) (numbered_less first names name numbered),
     )
+
+pub returns-clause-none : goal.returns-clause-none
+returns-clause-none c = grind (arith, common_steps)
+
+pub returns-clause-rest : goal.returns-clause-rest
+returns-clause-rest c = grind (arith, common_steps)
+
+pub returns-in_err-cell-clause-cells : goal.returns-in_err-cell-clause-cells
+returns-in_err-cell-clause-cells c = grind (arith, common_steps)
+
+pub returns-in_err-cell-clause-none : goal.returns-in_err-cell-clause-none
+returns-in_err-cell-clause-none c = grind (arith, common_steps)
+
+pub returns-in_err-cell-clause-rest : goal.returns-in_err-cell-clause-rest
+returns-in_err-cell-clause-rest c = grind (arith, common_steps)
+
+pub returns-in_err-name-clause-cells : goal.returns-in_err-name-clause-cells
+returns-in_err-name-clause-cells c = grind (arith, common_steps)
+
+pub returns-in_err-name-clause-none : goal.returns-in_err-name-clause-none
+returns-in_err-name-clause-none c = grind (arith, common_steps)
+
+pub returns-in_err-name-clause-rest : goal.returns-in_err-name-clause-rest
+returns-in_err-name-clause-rest c = grind (arith, common_steps)

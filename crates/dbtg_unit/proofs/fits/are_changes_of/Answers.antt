@@ -1,0 +1,12 @@
+use Rattle.std.proofs.Common.{arith}
+use Rattle.std.proofs.lemmas.Grind.{common_steps}
+use Rattle.dbtg_unit.proofs.fits.are_changes_of.Goals as goal
+
+pub loop-change-preserved : goal.loop-change-preserved
+loop-change-preserved c = grind (arith, common_steps)
+
+pub returns : goal.returns
+returns c = grind (arith, common_steps)
+
+pub returns-then-not-change_fits : goal.returns-then-not-change_fits
+returns-then-not-change_fits c = grind (arith, common_steps)
