@@ -3,6 +3,7 @@
 -- Promises: `Wholes`: a statement on all cells is its effect; `WaysBack`, `Reversals`: the last statement can be taken back; `SerialLaw`,
 -- `TurnsTaken`, `Audits`.
 pub mod Audits
+pub mod NamesOnce
 pub mod Reversals
 pub mod SerialLaw
 pub mod SerialShown

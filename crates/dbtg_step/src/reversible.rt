@@ -1,12 +1,17 @@
 //! A database in memory on which each statement is made whole, and of which the last statements can be taken back.
-ghost use Rattle.std.specs.Prelude.{◌≡◌, ◌-◌, ◌≤◌, ◌<◌, true, length, OnOk, OnErr};
+ghost use Rattle.std.specs.Prelude.{◌≡◌, ◌-◌, ◌≤◌, ◌<◌, true, not, length, OnOk, OnErr};
+ghost use Rattle.std.specs.List.{list_all};
+ghost use Rattle.dbtg_cells.specs.CellNumbers.{is_cell};
+ghost use Rattle.dbtg_cells.specs.Names.{name_eq};
+ghost use Rattle.dbtg_unit.specs.Database.State.Legal.{pairwise};
 ghost use Rattle.dbtg_unit.specs.Database.Statements.Fits.{fits};
-ghost use Rattle.dbtg_step.specs.Core.Reversible.{made_first};
+ghost use Rattle.dbtg_step.specs.Core.Reversible.{OnlyLastChanged, made_first};
 ghost use Rattle.dbtg_step.specs.Core.Whole.{HasMade};
 ghost use Rattle.dbtg_step.specs.Inside.Reversible.{HasWaysBack};
 
 use crate::way_back::WayBack;
 use crate::whole::WholeDatabase;
+use dbtg_cells::CellName;
 use dbtg_unit::Statement;
 use std::alloc::{AllocError, Global};
 use std::marker::Model;
@@ -79,6 +84,18 @@ impl<'a> ReversibleDatabase<'a> {
         ensures { self.new ≡ record self.old { making = made_first count self.old.making } }
     {
         take_back_each(&mut self.database, &mut self.ways, count);
+    }
+
+    /// The names of the cells that the last statement changed, each once: it changed no other cell. None are named where it stays.
+    pub fn changed(&self) -> &[CellName]
+        ensures changed { self.now.stays < length self.now.making.history → OnlyLastChanged self.now.making result.now }
+        ensures cells { list_all (is_cell self.now.making.schema self.now.making.capacity) result.now ≡ true }
+        ensures once { pairwise (λ c d. not (name_eq c d)) result.now ≡ true }
+    {
+        match self.ways.last() {
+            Some(way) => way.names.as_slice(),
+            None => &[],
+        }
     }
 
     /// The database as it is now.

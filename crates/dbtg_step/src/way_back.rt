@@ -1,5 +1,5 @@
 //! The way back from a statement: what it changes, as it was before.
-ghost use Rattle.std.specs.Prelude.{◌≡◌, ℕ, true, false, not, map, IfOk, OnErr};
+ghost use Rattle.std.specs.Prelude.{◌≡◌, ℕ, [], true, false, not, map, IfOk, OnErr, OnOk};
 ghost use Rattle.dbtg_cells.specs.Names.{name_eq};
 ghost use Rattle.dbtg_unit.specs.Database.State.Base.{Database};
 ghost use Rattle.dbtg_unit.specs.Database.State.Legal.{pairwise};
@@ -8,19 +8,48 @@ ghost use Rattle.dbtg_unit.specs.Hands.Local.{Agrees};
 ghost use Rattle.dbtg_unit.specs.Hands.Locality.{IsMadeOnEach, seen};
 ghost use Rattle.dbtg_unit.specs.Hands.Making.{MayPrepare, ShowsTheSame};
 ghost use Rattle.dbtg_unit.specs.Hands.Prepared.{values_of};
-ghost use Rattle.dbtg_step.specs.Inside.Reversible.{IsWayBack, values_at, with_copies};
+ghost use Rattle.dbtg_step.specs.Core.Reversible.{is_named};
+ghost use Rattle.dbtg_step.specs.Inside.Reversible.{IsWayBack, values_at, with_copies, with_name, with_names};
 
 use crate::statements::prepare;
-use dbtg_cells::{Cell, CellName};
+use dbtg_cells::{Cell, CellName, name_eq};
 use dbtg_schema::{Row, Schema};
 use dbtg_unit::{Answer, Held, Prepared, Statement, Unit, finish};
 use std::alloc::{AllocError, Global};
 
-/// The way back from a statement: copies of the cells that it changes, and its unit, as they were before.
+/// The way back from a statement: the names of the cells that it changes, each once, copies of these cells as they were before, and so
+/// of its unit.
 #[derive(Drop)]
 pub struct WayBack {
+    pub names: Row<CellName>,
     pub cells: Row<(CellName, Cell)>,
     pub unit: Unit,
+}
+
+fn is_among(names: &[CellName], name: &CellName) -> bool
+    ensures { result ≡ is_named names.now name.now }
+{
+    names.iter().any(|other| name_eq(*name, *other))
+}
+
+fn add_name(names: &mut Vec<CellName>, name: &CellName) -> Result<(), AllocError>
+    ensures { OnOk result (names.new.items ≡ with_name names.old.items name.now) }
+{
+    if !is_among(names.as_slice(), name) {
+        names.push(*name)?;
+    }
+    Ok(())
+}
+
+// These names, each once.
+fn each_once(alloc: Global, names: &[CellName]) -> Result<Row<CellName>, AllocError>
+    ensures { IfOk result (λ once. once ≡ with_names [] names.now) }
+{
+    let mut once = Vec::with_capacity(alloc, names.len())?;
+    for name in names {
+        add_name(&mut once, name)?;
+    }
+    Ok(Row::of(once))
 }
 
 // Copies of the held cells of these names.
@@ -47,13 +76,15 @@ fn way_back(
     held: &Held,
     prepared: &Prepared,
 ) -> Result<WayBack, AllocError>
-    ensures cells { IfOk result (λ way. values_of way.cells ≡ values_at held.now.cells (map (λ e. e.name) prepared.now.cells)) }
+    ensures names { IfOk result (λ way. way.names ≡ with_names [] (map (λ e. e.name) prepared.now.cells)) }
+    ensures cells { IfOk result (λ way. values_of way.cells ≡ values_at held.now.cells way.names) }
     ensures unit { IfOk result (λ way. way.unit ≡ unit.now) }
 {
-    let names = prepared.names(alloc)?;
+    let edited = prepared.names(alloc)?;
+    let names = each_once(alloc, edited.as_slice())?;
     let cells = copies_of(alloc, held, names.as_slice())?;
     let unit = unit.copy(alloc)?;
-    Ok(WayBack { cells, unit })
+    Ok(WayBack { names, cells, unit })
 }
 
 /// Makes the statement on the held cells by its plan, which names the cells that it changes, and gives the way back. If memory is

@@ -1,9 +1,12 @@
 //! A database in memory on which each statement is made whole, one after another: no unit waits, and nothing happens in between.
-ghost use Rattle.std.specs.Prelude.{◌≡◌, ℕ, ◌-◌, ◌≤◌, ◌<◌, ◌++◌, [], true, length, map, IfOk, OnOk, OnErr};
+ghost use Rattle.std.specs.Prelude.{◌≡◌, ℕ, ◌-◌, ◌≤◌, ◌<◌, ◌++◌, [], true, length, map, is_some, IfOk, IfSome, OnOk, OnErr};
 ghost use Rattle.std.specs.List.{range_with_len};
 ghost use Rattle.dbtg_schema.specs.Sound.{IsSound};
+ghost use Rattle.dbtg_cells.specs.CellNumbers.{cell_number, cells_in_order, is_cell};
+ghost use Rattle.dbtg_cells.specs.Cells.{shown};
 ghost use Rattle.dbtg_unit.specs.Database.State.Base.{Database, opening};
 ghost use Rattle.dbtg_unit.specs.Database.State.Belongs.{IsUnitOf, IsWithin};
+ghost use Rattle.dbtg_unit.specs.Database.State.Cells.{cell};
 ghost use Rattle.dbtg_unit.specs.Database.Statements.Fits.{fits};
 ghost use Rattle.dbtg_unit.specs.Database.State.Image.{image_of};
 ghost use Rattle.dbtg_unit.specs.Hands.Local.{Agrees, AllAgree};
@@ -19,10 +22,11 @@ ghost use Rattle.dbtg_step.specs.Inside.Whole.{HoldsAll, IsEffect, IsGuessed, Is
 
 use crate::drawing::{enter, make, make_room};
 use crate::imaging::{CellSource, read_image};
-use crate::opening_parts::{hold_opening_cells, opening_unit};
+use crate::opening_parts::{cell_names, hold_opening_cells, opening_unit};
 use crate::results::Run;
 use crate::statements::{next_need, true_guesses};
 use crate::way_back::{WayBack, make_with_way, put_each_back};
+use dbtg_cells::{Cell, CellName, cell_number};
 use dbtg_schema::{AreaNo, Row, Schema};
 use dbtg_unit::{Answer, Entry, Held, Image, Need, Owners, Statement, Unit};
 use std::alloc::{AllocError, Global};
@@ -249,6 +253,28 @@ impl<'a> WholeDatabase<'a> {
         self.units.as_slice()
     }
 
+    /// The cell with this name, as the database has it; none if the schema has no such cell.
+    pub fn cell(&self, name: &CellName) -> Option<&Cell>
+        ensures shows { IfSome result (λ c. shown c.now ≡ cell self.now.schema self.now.capacity (state_now self.now).database name.now) }
+        ensures there { is_some result ≡ is_cell self.now.schema self.now.capacity name.now }
+    {
+        self.held.cell(name)
+    }
+
+    /// The number of a cell; none if the schema has no such cell.
+    pub fn cell_number(&self, name: &CellName) -> Option<usize>
+        ensures { result ≡ cell_number self.now.schema self.now.capacity name.now }
+    {
+        cell_number(self.schema, self.capacity, name)
+    }
+
+    /// The names of all cells, in the order of their numbers.
+    pub fn cell_names(&self) -> Result<Vec<CellName>, AllocError>
+        ensures { IfOk result (λ names. names.items ≡ cells_in_order self.now.schema self.now.capacity) }
+    {
+        cell_names(self.alloc, self.schema, self.capacity)
+    }
+
     /// The image of the database.
     pub fn image(&self) -> Result<Image, AllocError>
         ensures { IfOk result (λ image. image ≡ image_of self.now.schema self.now.capacity (state_now self.now).database) }
@@ -323,7 +349,11 @@ impl<'a> WholeDatabase<'a> {
         ensures { self.new ≡ made_first (length self.old.history - 1) self.old }
     {
         if let Some(entry) = self.history.pop() {
-            let WayBack { cells, unit } = way;
+            let WayBack {
+                names: _,
+                cells,
+                unit,
+            } = way;
             put_each_back(&mut self.held, cells);
             self.units[entry.unit as usize - 1] = unit;
             drop(entry);

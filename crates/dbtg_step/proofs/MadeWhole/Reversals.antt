@@ -1,13 +1,16 @@
 -- Taking back the last statement leads to the database before it, and leaves the ways back over the statements before.
 -- n is the number of a statement, from 0.
-use Rattle.std.proofs.Common.{ℕ, zero, suc, ◌+◌, ◌-◌, ◌<◌, ◌≤◌, ◌≡◌, List, [], ◌∷◌, ◌++◌, length, take, Option, Some, ◌⊎◌, inl, inr, slice_get, slice_set, refl, sym, ap, ◌∙◌, subst, arith, length-append}
+use Rattle.std.proofs.Common.{ℕ, zero, suc, ◌+◌, ◌-◌, ◌<◌, ◌≤◌, ◌≡◌, Bool, true, List, [], ◌∷◌, ◌++◌, length, take, Option, Some, None, ◌⊎◌, inl, inr, slice_get, slice_set, refl, sym, ap, ◌∙◌, subst, arith, length-append}
 use Rattle.std.specs.Prelude.{option_map}
-use Rattle.std.proofs.lemmas.Bool.{and_parts}
+use Rattle.std.specs.List.{list_all}
+use Rattle.std.proofs.lemmas.Bool.{and_parts, cases_lt}
 use Rattle.std.proofs.lemmas.List.{length-set, length-take-le, take-append-le, take-take, take_all, take_at}
 use Rattle.std.proofs.lemmas.List.Folds.{list_all-append}
-use Rattle.std.proofs.lemmas.Option.{same_Some, slice_get_within}
+use Rattle.std.proofs.lemmas.Option.{none-some, same_Some, slice_get_within}
 use Rattle.dbtg_schema.specs.Lists.{Lists}
-use Rattle.dbtg_cells.proofs.Public.{at_left, get_behind}
+use Rattle.dbtg_cells.specs.CellNumbers.{is_cell}
+use Rattle.dbtg_cells.specs.declared.name.CellName.{CellName}
+use Rattle.dbtg_cells.proofs.Public.{at_left, get_behind, there_is}
 use Rattle.dbtg_unit.specs.declared.statement.Statement.{Statement}
 use Rattle.dbtg_unit.specs.declared.unit.Entry.{Entry}
 use Rattle.dbtg_unit.specs.declared.unit.Unit.{Unit}
@@ -16,17 +19,17 @@ use Rattle.dbtg_unit.specs.Database.Laws.Replaying.{ReplaysOneMore}
 use Rattle.dbtg_unit.specs.Database.Statements.Effect.{StatementEffect, effect}
 use Rattle.dbtg_unit.specs.Database.Statements.Fits.{fits}
 use Rattle.dbtg_unit.specs.Hands.Hands.{Hands}
-use Rattle.dbtg_unit.specs.Hands.Local.{Agrees, AllAgree}
-use Rattle.dbtg_unit.proofs.Public.{opening_length, replay_keeps_count, replays_one_more}
+use Rattle.dbtg_unit.specs.Hands.Local.{Agrees, AllAgree, holds}
+use Rattle.dbtg_unit.proofs.Public.{holds_any, opening_length, replay_keeps_count, replays_one_more}
 use Rattle.dbtg_step.specs.declared.way_back.WayBack.{WayBack}
-use Rattle.dbtg_step.specs.Core.Reversible.{made_first}
+use Rattle.dbtg_step.specs.Core.Reversible.{OnlyChanged, OnlyLastChanged, made_first}
 use Rattle.dbtg_step.specs.Core.Whole.{HasMade, Making, state_now}
 use Rattle.dbtg_step.specs.Inside.Reversible.{HasWaysBack, IsWayBack, LeadBack, LeadsOver, with_copies}
 use Rattle.dbtg_step.specs.Inside.Whole.{HoldsAll, IsWhole}
 use Rattle.dbtg_step.proofs.EachEvent.UnitLists.{set_same_at}
 use Rattle.dbtg_step.proofs.MadeWhole.Audits.{newest_of}
 use Rattle.dbtg_step.proofs.MadeWhole.WaysBack.{names_put_back, put_back_agree}
-use Rattle.dbtg_step.proofs.MadeWhole.Wholes.{found_unit, held_once, maker_agrees, making}
+use Rattle.dbtg_step.proofs.MadeWhole.Wholes.{found_unit, held_is_cell, held_once, maker_agrees, making}
 
 -- LISTS
 
@@ -61,6 +64,10 @@ over_alike : (m p : Making) (n : ℕ) (way : WayBack) → made_first n m ≡ mad
 over_alike m p n way before after over = record {
   cells = subst (λ (a : Making). LeadBack a.schema a.capacity (state_now a).database (state_now (made_first (suc n) p)).database way.cells) before
       (subst (λ (b : Making). LeadBack m.schema m.capacity (state_now (made_first n m)).database (state_now b).database way.cells) after over.cells);
+  only = subst (λ (a : Making). OnlyChanged a.schema a.capacity way.names (state_now a).database (state_now (made_first (suc n) p)).database) before
+      (subst (λ (b : Making). OnlyChanged m.schema m.capacity way.names (state_now (made_first n m)).database (state_now b).database) after over.only);
+  are_cells = subst (λ (a : Making). list_all (is_cell a.schema a.capacity) way.names ≡ true) before over.are_cells;
+  once = over.once;
   unit = λ entry at.
       let there = at_first (suc n) m.history n entry (ap (λ (b : Making). slice_get b.history n) after ∙ first_at p.history n entry at) in
       subst (λ (a : Making). unit_of (state_now a) entry.unit ≡ Some way.unit) before (over.unit entry there);
@@ -109,6 +116,10 @@ made_one_more m p u x old ways way has made over are =
     subst (λ ws. HasWaysBack p ws × (length p.history - length ws ≡ length m.history - length old)) (sym are)
     (subst (λ (q : Making). LeadsOver q (length m.history) way → HasWaysBack q (old ++ way ∷ []) × (length q.history - length (old ++ way ∷ []) ≡ length m.history - length old)) (sym made.new_is) (one_more_way m entry old way has) over)
 
+-- when so few are left that none is to be taken back
+pub all_first : (m : Making) (count : ℕ) → length m.history ≤ count → made_first count m ≡ m
+all_first m count l = ap (λ (h : List Entry). record m { history = h }) (take_all count m.history l)
+
 -- the last way leads over the last statement; the others are those of the database before it
 module _ (m : Making) (ways : List WayBack) (way : WayBack) (has : HasWaysBack m (ways ++ way ∷ [])) where
   ways_counted : length (ways ++ way ∷ []) ≡ length ways + 1
@@ -153,18 +164,42 @@ module _ (m : Making) (ways : List WayBack) (way : WayBack) (has : HasWaysBack m
   pub same_first : (count : ℕ) → count < length m.history → made_first count left ≡ made_first count m
   same_first count l = first_of_first m count (length m.history - 1) (omega (arith, l))
 
--- when so few are left that none is to be taken back
-pub all_first : (m : Making) (count : ℕ) → length m.history ≤ count → made_first count m ≡ m
-all_first m count l = ap (λ (h : List Entry). record m { history = h }) (take_all count m.history l)
+-- what the last way says of the last statement
+module _ (m : Making) (ways : List WayBack) (has : HasWaysBack m ways) where
+  pub over_last : (way : WayBack) → slice_get ways (length ways - 1) ≡ Some way → LeadsOver m (length m.history - 1) way
+  over_last way at =
+      let few = has.few in
+      let within = slice_get_within ways (length ways - 1) way at in
+      let number : length m.history - length ways + (length ways - 1) ≡ length m.history - 1 = omega (arith, few, within) in
+      subst (λ n. LeadsOver m n way) number (has.each (length ways - 1) way at)
+
+  pub last_changed : (way : WayBack) → slice_get ways (length ways - 1) ≡ Some way → OnlyLastChanged m way.names
+  last_changed way at =
+      let few = has.few in
+      let within = slice_get_within ways (length ways - 1) way at in
+      let all : made_first (suc (length m.history - 1)) m ≡ m = all_first m (suc (length m.history - 1)) (omega (arith, few, within)) in
+      subst (λ (b : Making). OnlyChanged m.schema m.capacity way.names (state_now (made_first (length m.history - 1) m)).database (state_now b).database) all (over_last way at).only
+
+  -- where there is none, all statements stay
+  pub none_last : slice_get ways (length ways - 1) ≡ None → length ways ≡ 0
+  none_last none = elim (cases_lt 0 (length ways)) [
+    | inl more ↦ let last = there_is ways (length ways - 1) (omega arith) in absurd (none-some last.0 (sym none ∙ last.1))
+    | inr few ↦ omega arith
+  ]
 
 -- before the first is made that can be taken back
 pub no_ways : (m : Making) → HasWaysBack m []
 no_ways m = record { few = omega arith; each = λ k way at. absurd (cc (at)) }
 
+-- what is held is a cell of the schema
+held_are_cells : (schema : Lists) (capacity : ℕ) (hands : Hands) → HoldsAll schema capacity hands → (names : List CellName) → list_all (holds hands.cells) names ≡ true → list_all (is_cell schema capacity) names ≡ true
+held_are_cells schema capacity hands all names held =
+    ap (λ (p : CellName → Bool). list_all p names) (λ i c. (sym (held_is_cell schema capacity hands all c) ∙ holds_any hands.cells c) i) ∙ held
+
 -- the way leads over a statement, once it is made
 pub over_made : (m p : Making) (u : ℕ) (x : Statement) (r : Unit) (hands : Hands) (way : WayBack) → HasMade m u x p → unit_of (state_now m) u ≡ Some r → Agrees m.schema m.capacity (state_now m).database hands r
-    → IsWayBack m.schema m.capacity r hands x way → LeadsOver p (length m.history) way
-over_made m p u x r hands way made found agrees back =
+    → HoldsAll m.schema m.capacity hands → IsWayBack m.schema m.capacity r hands x way → LeadsOver p (length m.history) way
+over_made m p u x r hands way made found agrees all back =
     let entry : Entry = record { ticket = length m.history; unit = u; statement = x; answer = made.outcome.answer } in
     let history : p.history ≡ m.history ++ entry ∷ [] = ap (λ (q : Making). q.history) made.new_is in
     let longer = length-append m.history (entry ∷ []) in
@@ -179,6 +214,11 @@ over_made m p u x r hands way made found agrees back =
       cells = subst (λ (a : Making). LeadBack a.schema a.capacity (state_now a).database (state_now (made_first (suc (length m.history)) p)).database way.cells) before
           (subst (λ (b : Making). LeadBack m.schema m.capacity (state_now m).database (state_now b).database way.cells) after
           (subst (λ db. LeadBack m.schema m.capacity (state_now m).database db way.cells) database (back.cells (state_now m).database agrees)));
+      only = subst (λ (a : Making). OnlyChanged a.schema a.capacity way.names (state_now a).database (state_now (made_first (suc (length m.history)) p)).database) before
+          (subst (λ (b : Making). OnlyChanged m.schema m.capacity way.names (state_now m).database (state_now b).database) after
+          (subst (λ db. OnlyChanged m.schema m.capacity way.names (state_now m).database db) database (back.only (state_now m).database agrees)));
+      are_cells = subst (λ (a : Making). list_all (is_cell a.schema a.capacity) way.names ≡ true) before (held_are_cells m.schema m.capacity hands all way.names (back.held (state_now m).database agrees));
+      once = back.once;
       unit = λ e at.
           let is = same_Some entry e (sym (get_behind m.history entry []) ∙ sym (ap (λ es. slice_get es (length m.history)) history) ∙ at) in
           subst (λ (f : Entry). unit_of (state_now (made_first (length m.history) p)) f.unit ≡ Some way.unit) is
@@ -191,7 +231,8 @@ over_made m p u x r hands way made found agrees back =
 pub over_whole : (schema : Lists) (capacity : ℕ) (hands : Hands) (units : List Unit) (history : List Entry) (w : IsWhole schema capacity hands units history) (u : ℕ) (r : Unit) → 0 < u → slice_get units (u - 1) ≡ Some r
     → (x : Statement) (p : Making) (way : WayBack) → HasMade (making schema capacity (length units) history) u x p → IsWayBack schema capacity r hands x way → LeadsOver p (length history) way
 over_whole schema capacity hands units history w u r numbered there x p way made back =
-    over_made (making schema capacity (length units) history) p u x r hands way made (by u numbered (found_unit schema capacity hands units history w u r numbered there)) (maker_agrees schema capacity hands units history w u r numbered there) back
+    over_made (making schema capacity (length units) history) p u x r hands way made (by u numbered (found_unit schema capacity hands units history w u r numbered there)) (maker_agrees schema capacity hands units history w u r numbered there) w.all
+    back
   where
     by : (v : ℕ) → 0 < v → slice_get (state_now (making schema capacity (length units) history)).units (v - 1) ≡ Some r → unit_of (state_now (making schema capacity (length units) history)) v ≡ Some r
     by zero l e = absurd (omega (arith, l))

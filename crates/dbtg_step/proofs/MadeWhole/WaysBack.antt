@@ -4,12 +4,14 @@ use Rattle.std.proofs.Common.{ℕ, ◌≡◌, Bool, true, false, cond, not, ◌|
 use Rattle.std.specs.Prelude.{⊤, option_map, option_to_list}
 use Rattle.std.specs.List.{list_all, list_any}
 use Rattle.std.proofs.lemmas.Bool.{and_parts, cases_Bool, false≢true, not-true}
+use Rattle.std.proofs.lemmas.List.Folds.{list_all-map}
 use Rattle.dbtg_schema.specs.Lists.{Lists}
 use Rattle.dbtg_cells.specs.Cells.{shown}
 use Rattle.dbtg_cells.specs.Names.{name_eq}
 use Rattle.dbtg_cells.specs.Shown.{CellValue}
 use Rattle.dbtg_cells.specs.declared.cell.Cell.{Cell}
 use Rattle.dbtg_cells.specs.declared.name.CellName.{CellName}
+use Rattle.dbtg_cells.specs.declared.name.CellName.TheVariants.{Slot}
 use Rattle.dbtg_cells.proofs.Public.{name_eq_refl, same_name}
 use Rattle.dbtg_unit.specs.declared.edit.CellEdit.{CellEdit}
 use Rattle.dbtg_unit.specs.declared.statement.Statement.{Statement}
@@ -24,9 +26,11 @@ use Rattle.dbtg_unit.specs.Hands.Lends.{with_cell}
 use Rattle.dbtg_unit.specs.Hands.Local.{Agrees, AllAgree, holds, names_of}
 use Rattle.dbtg_unit.specs.Hands.Making.{CanFinish, ShowsTheSame}
 use Rattle.dbtg_unit.specs.Hands.Prepared.{Plan, values_of}
-use Rattle.dbtg_unit.proofs.Public.{agrees_same, any_mapped, cell_of_other, held_cell_agrees, held_is_there, holds_any, written_over}
+use Rattle.dbtg_unit.proofs.Public.{agrees_same, any_mapped, cell_of_other, held_cell_agrees, held_is_there, holds_any, holds_same, same_slot_same_last, written_over}
 use Rattle.dbtg_step.specs.declared.way_back.WayBack.{WayBack}
-use Rattle.dbtg_step.specs.Inside.Reversible.{IsWayBack, LeadBack, values_at, with_copies}
+use Rattle.dbtg_step.specs.Core.Reversible.{OnlyChanged, is_named}
+use Rattle.dbtg_step.specs.Inside.Reversible.{IsWayBack, LeadBack, values_at, with_copies, with_names}
+use Rattle.dbtg_step.proofs.MadeWhole.NamesOnce.{named_passes, once_named, once_pass, stand_once}
 
 -- WHAT COPIES SHOW
 
@@ -35,27 +39,27 @@ abbrev value_at : CellName → Option Cell → List (CellName × CellValue)
 value_at c o = option_to_list (option_map (λ x. (c, shown x)) o)
 
 -- a value of this name is among them
-abbrev is_named : CellName → List (CellName × CellValue) → Bool
-is_named d = list_any (λ (v : CellName × CellValue). name_eq d v.0)
+abbrev has_value : CellName → List (CellName × CellValue) → Bool
+has_value d = list_any (λ (v : CellName × CellValue). name_eq d v.0)
 
-named_alike : (d : CellName) (es : List (CellName × Cell)) → holds es d ≡ is_named d (values_of es)
+named_alike : (d : CellName) (es : List (CellName × Cell)) → holds es d ≡ has_value d (values_of es)
 named_alike d es = sym (holds_any es d) ∙ sym (any_mapped (λ (v : CellName × CellValue). name_eq d v.0) (λ (e : CellName × Cell). (e.0, shown e.1)) es)
 
 -- there is a copy of each held cell that is named
-copied : (cells : List (CellName × Cell)) (d : CellName) (cs : List CellName) → holds cells d ≡ true → list_any (name_eq d) cs ≡ true → is_named d (values_at cells cs) ≡ true
+copied : (cells : List (CellName × Cell)) (d : CellName) (cs : List CellName) → holds cells d ≡ true → is_named cs d ≡ true → has_value d (values_at cells cs) ≡ true
 copied cells d [] held named = absurd (false≢true named)
 copied cells d (c ∷ cs) held named = elim (cases_Bool (name_eq d c)) [
   | inl same ↦
       let there = held_is_there cells c (ap (holds cells) (sym (same_name d c same)) ∙ held) in
-      ap (λ o. is_named d (value_at c o ++ values_at cells cs)) there.1 ∙ ap (λ b. b || is_named d (values_at cells cs)) same
-  | inr other ↦ further (cell_of c cells) (copied cells d cs held (sym (ap (λ b. b || list_any (name_eq d) cs) other) ∙ named))
+      ap (λ o. has_value d (value_at c o ++ values_at cells cs)) there.1 ∙ ap (λ b. b || has_value d (values_at cells cs)) same
+  | inr other ↦ further (cell_of c cells) (copied cells d cs held (sym (ap (λ b. b || is_named cs d) other) ∙ named))
 ]
   where
-    further : (o : Option Cell) → is_named d (values_at cells cs) ≡ true → is_named d (value_at c o ++ values_at cells cs) ≡ true
+    further : (o : Option Cell) → has_value d (values_at cells cs) ≡ true → has_value d (value_at c o ++ values_at cells cs) ≡ true
     further None h = h
     further (Some x) h = either (name_eq d c) h
       where
-        either : (b : Bool) → is_named d (values_at cells cs) ≡ true → (b || is_named d (values_at cells cs)) ≡ true
+        either : (b : Bool) → has_value d (values_at cells cs) ≡ true → (b || has_value d (values_at cells cs)) ≡ true
         either true h = refl
         either false h = h
 
@@ -80,42 +84,68 @@ module _ (schema : Lists) (capacity : ℕ) (db : Database) where
   copies_agree : (cells copies : List (CellName × Cell)) (cs : List CellName) → values_of copies ≡ values_at cells cs → AllAgree schema capacity db cells → AllAgree schema capacity db copies
   copies_agree cells copies cs are agree = agree_by_values copies (subst AreValues (sym are) (held_values cells cs agree))
 
--- A CELL THAT IS NOT COPIED
+-- A CELL THAT IS NOT NAMED
 
--- edits of held cells leave the value of a cell of which there is no copy
-left_alone : (cells : List (CellName × Cell)) (d : CellName) (es : List CellEdit) (v : CellValue) → list_all (λ (e : CellEdit). holds cells e.name) es ≡ true
-    → is_named d (values_at cells (map (λ (e : CellEdit). e.name) es)) ≡ false → edited_at d es v ≡ v
-left_alone cells d [] v held none = refl
-left_alone cells d (e ∷ es) v held none =
-    let parts = and_parts _ _ held in
-    elim (cases_Bool (name_eq d e.name)) [
-      | inl same ↦ absurd (false≢true (sym none ∙ copied cells d (map (λ (e : CellEdit). e.name) (e ∷ es)) (ap (holds cells) (same_name d e.name same) ∙ parts.0) (ap (λ b. b || list_any (name_eq d) (map (λ (e : CellEdit). e.name) es)) same)))
-      | inr other ↦
-          ap (λ b. edited_at d es (cond b (edited e.edit v) v)) other
-          ∙ left_alone cells d es v parts.1 (rest_none (cell_of e.name cells) none)
-    ]
+-- edits of other cells leave the value of a cell
+left_alone : (d : CellName) (es : List CellEdit) (v : CellValue) → is_named (map (λ (e : CellEdit). e.name) es) d ≡ false → edited_at d es v ≡ v
+left_alone d [] v none = refl
+left_alone d (e ∷ es) v none = by (name_eq d e.name) (left_alone d es v) none
   where
-    rest_none : (o : Option Cell) → is_named d (value_at e.name o ++ values_at cells (map (λ (e : CellEdit). e.name) es)) ≡ false → is_named d (values_at cells (map (λ (e : CellEdit). e.name) es)) ≡ false
-    rest_none None h = h
-    rest_none (Some x) h = second (name_eq d e.name) h
-      where
-        second : (b : Bool) → (b || is_named d (values_at cells (map (λ (e : CellEdit). e.name) es))) ≡ false → is_named d (values_at cells (map (λ (e : CellEdit). e.name) es)) ≡ false
-        second true h = absurd (false≢true (sym h))
-        second false h = h
+    by : (b : Bool) → (is_named (map (λ (f : CellEdit). f.name) es) d ≡ false → edited_at d es v ≡ v) → (b || is_named (map (λ (f : CellEdit). f.name) es) d) ≡ false → edited_at d es (cond b (edited e.edit v) v) ≡ v
+    by true rest h = absurd (false≢true (sym h))
+    by false rest h = rest h
 
--- copies of what a plan changes lead back from the statement's effect
-pub plan_leads_back : (schema : Lists) (capacity : ℕ) (unit : Unit) (old hands : Hands) (x : Statement) (plan : Plan) (way : WayBack) → ShowsTheSame old hands → CanFinish schema capacity unit hands x plan
-    → values_of way.cells ≡ values_at hands.cells (map (λ (e : CellEdit). e.name) plan.cells) → way.unit ≡ unit → IsWayBack schema capacity unit old x way
-plan_leads_back schema capacity unit old hands x plan way shows can are unit_is = record {
-  cells = λ db agrees.
-      let a = agrees_same schema capacity db unit old hands shows agrees in
-      record {
-        copies_are = copies_agree schema capacity db hands.cells way.cells (map (λ (e : CellEdit). e.name) plan.cells) are a.cells;
-        others = λ c none. (can.prepared.effects db a).cells c
-            ∙ left_alone hands.cells c plan.cells (cell schema capacity db c) (can.prepared.held db a) (sym (ap (is_named c) are) ∙ sym (named_alike c way.cells) ∙ none);
-      };
-  unit_is = unit_is;
-}
+-- a name of which no more is found where more is looked for is not found
+not_found : (a b : Bool) → (a ≡ true → b ≡ true) → b ≡ false → a ≡ false
+not_found true b more none = absurd (false≢true (sym none ∙ more refl))
+not_found false b more none = refl
+
+-- the names of a plan's edits, each once, and copies of their cells lead back from the statement's effect
+module _ (schema : Lists) (capacity : ℕ) (unit : Unit) (old hands : Hands) (x : Statement) (plan : Plan) (way : WayBack) (shows : ShowsTheSame old hands) (can : CanFinish schema capacity unit hands x plan)
+    (names : way.names ≡ with_names [] (map (λ (e : CellEdit). e.name) plan.cells)) (are : values_of way.cells ≡ values_at hands.cells way.names) where
+  abbrev edited_names : List CellName
+  edited_names = map (λ (e : CellEdit). e.name) plan.cells
+
+  module _ (db : Database) (agrees : Agrees schema capacity db old unit) where
+    now_agrees : Agrees schema capacity db hands unit
+    now_agrees = agrees_same schema capacity db unit old hands shows agrees
+
+    edited_held : list_all (holds hands.cells) way.names ≡ true
+    edited_held =
+        subst (λ ns. list_all (holds hands.cells) ns ≡ true) (sym names)
+        (once_pass (holds hands.cells) [] edited_names refl (list_all-map (holds hands.cells) (λ (e : CellEdit). e.name) plan.cells ∙ can.prepared.held db now_agrees))
+
+    all_held : list_all (holds old.cells) way.names ≡ true
+    all_held = ap (λ p. list_all p way.names) (λ i c. sym (holds_same old hands shows c) i) ∙ edited_held
+
+    unchanged : (c : CellName) → is_named way.names c ≡ false → cell schema capacity (effect schema capacity db unit x).database c ≡ cell schema capacity db c
+    unchanged c none =
+        (can.prepared.effects db now_agrees).cells c
+        ∙ left_alone c plan.cells (cell schema capacity db c)
+        (not_found (is_named edited_names c) (is_named way.names c) (λ named. ap (λ ns. is_named ns c) names ∙ once_named [] edited_names c named) none)
+
+    not_copied : (c : CellName) → holds way.cells c ≡ false → is_named way.names c ≡ false
+    not_copied c none =
+        not_found (is_named way.names c) (holds way.cells c)
+        (λ named. named_alike c way.cells ∙ ap (has_value c) are ∙ copied hands.cells c way.names (named_passes (holds hands.cells) way.names c edited_held named) named) none
+
+    only_named : OnlyChanged schema capacity way.names db (effect schema capacity db unit x).database
+    only_named = record { cells = unchanged; last = λ t n none. same_slot_same_last schema capacity db unit x t n (unchanged (Slot t n) none) }
+
+    leads_back : LeadBack schema capacity db (effect schema capacity db unit x).database way.cells
+    leads_back = record {
+      copies_are = copies_agree schema capacity db hands.cells way.cells way.names are now_agrees.cells;
+      others = λ c none. unchanged c (not_copied c none);
+    }
+
+  pub plan_leads_back : way.unit ≡ unit → IsWayBack schema capacity unit old x way
+  plan_leads_back unit_is = record {
+    cells = leads_back;
+    only = only_named;
+    held = all_held;
+    once = ap (pairwise (λ c d. not (name_eq c d))) names ∙ stand_once [] edited_names refl;
+    unit_is = unit_is;
+  }
 
 -- PUTTING COPIES BACK
 

@@ -1,6 +1,6 @@
 -- With every area and every cell held, a statement needs nothing more, and what it makes of its cells is its effect on the whole database.
-use Rattle.std.proofs.Common.{ℕ, zero, suc, ◌+◌, ◌-◌, ◌<◌, ◌≤◌, ◌≡◌, ◌≢◌, ◌^◌, Bool, true, false, cond, not, ◌&&◌, ◌||◌, List, [], ◌∷◌, ◌++◌, length, map, replicate, Option, Some, None, ◌⊎◌, inl, inr, slice_get, slice_set, get_or, refl, sym, ap, ◌∙◌, subst, arith}
-use Rattle.std.specs.Prelude.{IfOk, OnErr, Result, Ok, Err, is_some, option_map, if◌then◌else◌, ◌==◌}
+use Rattle.std.proofs.Common.{Bor, ℕ, zero, suc, ◌+◌, ◌-◌, ◌<◌, ◌≤◌, ◌≡◌, ◌≢◌, ◌^◌, Bool, true, false, cond, not, ◌&&◌, ◌||◌, List, [], ◌∷◌, ◌++◌, length, map, replicate, Option, Some, None, ◌⊎◌, inl, inr, slice_get, slice_set, get_or, refl, sym, ap, ◌∙◌, subst, arith}
+use Rattle.std.specs.Prelude.{IfOk, IfSome, OnErr, Result, Ok, Err, is_some, option_copied, option_map, if◌then◌else◌, ◌==◌}
 use Rattle.std.specs.List.{list_any, list_all, find, range_with_len}
 use Rattle.std.proofs.lemmas.Bool.{and_from, cases_Bool, eq-eqb, false≢true}
 use Rattle.std.proofs.lemmas.List.{length-map, length-set}
@@ -42,7 +42,7 @@ use Rattle.dbtg_unit.specs.Hands.Making.{HaveNextVersions, ShowsTheSame}
 use Rattle.dbtg_unit.specs.Hands.Needs.{areas_in_order, cells_of, guessed_sets, is_stale, is_wrong_guess, need, need_of_cells, next_of, stale_owners}
 use Rattle.dbtg_unit.specs.Hands.Prepared.{values_of}
 use Rattle.dbtg_unit.specs.Database.Laws.Replay.{State, AnswersHold, IsHistoryOf, after, after_effect, opening_state, effect_of_unit, replay}
-use Rattle.dbtg_unit.proofs.Public.{In, all_agree_same, all_at, any_in, any_mapped, find_element, of_filter, opening_is_legal, replay_keeps_legal, replays_one_more, versions_are_bounded}
+use Rattle.dbtg_unit.proofs.Public.{In, all_agree_same, all_at, any_in, any_mapped, find_element, held_cell_agrees, holds_any, holds_there, of_filter, opening_is_legal, replay_keeps_legal, replays_one_more, versions_are_bounded}
 use Rattle.dbtg_step.specs.Inside.Imaging.{image_from}
 use Rattle.dbtg_step.specs.Core.Whole.{HasMade, Making}
 use Rattle.dbtg_step.specs.Inside.Whole.{HoldsAll, IsEffect, IsGuessed, IsWhole, goes_by_guesses}
@@ -93,10 +93,17 @@ module _ (schema : Lists) (capacity : ℕ) (hands : Hands) (all : HoldsAll schem
       named_apart hands.cells ∙ ap (pairwise (λ c d. not (name_eq c d))) all.names
       ∙ apart (cells_in_order schema capacity) (λ i j c e f. same_Some i j (sym (numbered_at schema capacity i c e) ∙ numbered_at schema capacity j c f))
 
-  -- every cell of the schema is held
+  -- the cells of the schema are held, and no others
+  pub held_is_cell : (c : CellName) → list_any (λ (e : CellName × Cell). name_eq c e.0) hands.cells ≡ is_cell schema capacity c
+  held_is_cell c = sym (any_mapped (name_eq c) (λ (e : CellName × Cell). e.0) hands.cells) ∙ ap (list_any (name_eq c)) all.names ∙ cell_in_order schema capacity c
+
+  -- each is held
   cell_held : (c : CellName) → is_cell schema capacity c ≡ true → list_any (λ (e : CellName × Cell). name_eq c e.0) hands.cells ≡ true
-  cell_held c h =
-      sym (any_mapped (name_eq c) (λ (e : CellName × Cell). e.0) hands.cells) ∙ ap (list_any (name_eq c)) all.names ∙ cell_in_order schema capacity c ∙ h
+  cell_held c h = held_is_cell c ∙ h
+
+  -- a cell is there just where it is one of the schema
+  there_is_cell : (c : CellName) → is_some (cell_of c hands.cells) ≡ is_cell schema capacity c
+  there_is_cell c = holds_there hands.cells c ∙ sym (holds_any hands.cells c) ∙ held_is_cell c
 
 -- one area more is held
 pub area_more : (first held more : Hands) (n j : ℕ) → n ≡ j → held ≡ record { areas = first.areas ++ range_with_len 0 n; cells = first.cells; guesses = first.guesses } → more ≡ record { areas = held.areas ++ j ∷ []; cells = held.cells; guesses = held.guesses }
@@ -332,6 +339,11 @@ module _ (schema : Lists) (capacity : ℕ) (hands : Hands) (units : List Unit) (
   -- the image that is read from the held cells
   pub whole_image : image_from schema capacity (λ c. cell_of c hands.cells) ≡ image_of schema capacity now.database
   whole_image = read_is_image schema capacity now.database legal.legal (λ c. cell_of c hands.cells) (λ c h. found_in_hand schema capacity now.database c hands.cells w.cells (cell_held schema capacity hands w.all c h))
+
+  -- the held cell of a name: the cell of the database, if it is one of the schema
+  pub whole_cell : (c : CellName) (r : Option (Bor Cell)) → option_copied r ≡ cell_of c hands.cells → IfSome r (λ x. shown x.now ≡ cell schema capacity now.database c) × (is_some r ≡ is_cell schema capacity c)
+  whole_cell c None e = (tt, ap is_some e ∙ there_is_cell schema capacity hands w.all c)
+  whole_cell c (Some x) e = (held_cell_agrees schema capacity now.database hands.cells c x.now w.cells (sym e), ap is_some e ∙ there_is_cell schema capacity hands w.all c)
 
   pub units_counted : length now.units ≡ length units
   units_counted = ap length (sym w.units_are)

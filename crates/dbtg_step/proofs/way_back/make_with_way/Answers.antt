@@ -9,5 +9,5 @@ finish-requires c =
 
 pub returns-clause-back : goal.returns-clause-back
 returns-clause-back c =
-    plan_leads_back c.args.schema.now c.args.capacity c.args.unit.now c.args.held.now c.prepare.new.held c.args.statement.now c.in_ok-prepared.prepared c.in_ok-way.way c.prepare.ensures.shows c.in_ok-prepared.ensures.prepared c.in_ok-way.ensures.cells
+    plan_leads_back c.args.schema.now c.args.capacity c.args.unit.now c.args.held.now c.prepare.new.held c.args.statement.now c.in_ok-prepared.prepared c.in_ok-way.way c.prepare.ensures.shows c.in_ok-prepared.ensures.prepared c.in_ok-way.ensures.names c.in_ok-way.ensures.cells
     c.in_ok-way.ensures.unit

@@ -1,9 +1,11 @@
-use Rattle.std.proofs.Common.{◌∙◌, ap, not}
+use Rattle.std.proofs.Common.{◌∙◌, List, ap, not, sym}
+use Rattle.std.specs.List.{list_all}
 use Rattle.std.proofs.lemmas.Result.{IfOk-weaker}
 use Rattle.dbtg_cells.specs.declared.cell.Cell.{Cell}
 use Rattle.dbtg_cells.specs.declared.name.CellName.{CellName}
 use Rattle.dbtg_cells.specs.Names.{name_eq}
 use Rattle.dbtg_unit.specs.Database.State.Legal.{pairwise}
+use Rattle.dbtg_unit.specs.Hands.Local.{holds}
 use Rattle.dbtg_unit.specs.declared.unit.Answer.{Answer}
 use Rattle.dbtg_step.specs.declared.way_back.WayBack.{WayBack}
 use Rattle.dbtg_step.proofs.MadeWhole.Wholes.{also_guessed, held_once, made_effect, still_all}
@@ -26,8 +28,13 @@ pub returns-clause-back : goal.returns-clause-back
 returns-clause-back c =
     let guessed = c.in_ok-guess_owners.ensures.guessed in
     IfOk-weaker c.make_with_way.result _ _
-    (λ made back. record {
-      cells = λ db a. back.cells db (also_guessed c.args.schema.now c.args.capacity c.args.unit.now c.make_with_way.new.unit c.args.statement.now c.args.held.now c.guess_owners.new.held c.make_with_way.new.held made.0 guessed db a);
+    (λ made back.
+    let also = also_guessed c.args.schema.now c.args.capacity c.args.unit.now c.make_with_way.new.unit c.args.statement.now c.args.held.now c.guess_owners.new.held c.make_with_way.new.held made.0 guessed in
+    record {
+      cells = λ db a. back.cells db (also db a);
+      only = λ db a. back.only db (also db a);
+      held = λ db a. ap (λ (es : List (CellName × Cell)). list_all (holds es) made.1.names) (sym c.guess_owners.ensures.cells) ∙ back.held db (also db a);
+      once = back.once;
       unit_is = back.unit_is;
     })
     c.make_with_way.ensures.back
