@@ -4,6 +4,8 @@ ghost use Rattle.dbtg_script.specs.Lines.{ends_in_text, is_allowed, is_comment, 
 ghost use Rattle.std.specs.Prelude.{◌≡◌, ◌==◌, ◌&&◌, ◌<◌, ◌≤◌, ◌∷◌, nat_le, ℕ, [], MatchOption, OnSome, drop, false, length, slice_index};
 ghost use Rattle.std.specs.List.{list_all};
 
+use memchr::memchr;
+
 /// The rest of a script.
 #[derive(Clone, Copy)]
 pub struct Lines<'a> {
@@ -16,11 +18,10 @@ fn line_len(bytes: &[u8]) -> usize
     ensures inside { (k : ℕ) → k < result → (slice_index bytes.now k ≡ 10 → ⊥) }
     ensures stops { result < length bytes.now → slice_index bytes.now result ≡ 10 }
 {
-    let mut n = 0;
-    while n < bytes.len() && bytes[n] != b'\n' {
-        n += 1;
+    match memchr(b'\n', bytes) {
+        Some(at) => at,
+        None => bytes.len(),
     }
-    n
 }
 
 fn behind_feed(bytes: &[u8]) -> &[u8]
@@ -92,11 +93,21 @@ pub fn is_statement(line: &[u8]) -> bool
     !is_comment(line) && !is_blank(line)
 }
 
-/// Are all bytes printable ASCII?
+fn is_printable_byte(b: u8) -> bool
+    ensures { result ≡ (nat_le 32 b && nat_le b 126) }
+{
+    matches!(b, b' '..=b'~')
+}
+
+/// Are all bytes printable ASCII? It does not stop at the first that is not, so that many are tested at once.
 pub fn is_printable(line: &[u8]) -> bool
     ensures { result ≡ is_printable line.now }
 {
-    line.iter().all(|b| matches!(*b, b' '..=b'~'))
+    let mut printable = true;
+    for b in line {
+        printable = printable & is_printable_byte(*b);
+    }
+    printable
 }
 
 /// Does the line have at most 1,000 bytes, all of them printable ASCII?

@@ -21,6 +21,7 @@ pub struct LineCache<'a> {
     pub places: [Option<Seen<'a>>; PLACES],
 }
 
+// Lines of one form differ behind its first word and near their ends: the place is made of six bytes from there, and of the length.
 fn place_of(line: &[u8]) -> usize
     ensures { result < 256 }
 {
@@ -28,11 +29,9 @@ fn place_of(line: &[u8]) -> usize
     if len < 8 {
         return len;
     }
-    let front = 3 * line[5] as usize + 9 * line[6] as usize;
-    let back = 27 * line[len - 1] as usize
-        + 81 * line[len - 5] as usize
-        + 243 * line[len - 6] as usize;
-    (len % PLACES + front + back) % PLACES
+    let back = 121 * line[len - 6] as usize + 11 * line[len - 5] as usize + line[len - 2] as usize;
+    let front = 121 * line[len - 1] as usize + 11 * line[6] as usize + line[5] as usize;
+    (len % PLACES + 11 * front + 14_641 * back) % PLACES
 }
 
 fn place_in(seen: &Seen, line: &[u8]) -> Option<usize>

@@ -10,14 +10,16 @@ use dbtg_unit::Place;
 use itoa::Buffer;
 use std::alloc::AllocError;
 
+#[tactic(auto, using(crate::proofs::Printing::DecimalSteps::one_digit))]
 fn push_digit(out: &mut Vec<u8>, digit: u64) -> Result<(), AllocError>
     requires { digit < 10 }
-    ensures { OnOk result (out.new.items ≡ out.old.items ++ (48 + digit) ∷ []) }
+    ensures { OnOk result (out.new.items ≡ out.old.items ++ decimal digit) }
 {
     out.push(b'0' + digit as u8)?;
     Ok(())
 }
 
+#[tactic(auto, using(crate::proofs::Printing::DecimalSteps::two_digits))]
 fn push_two(out: &mut Vec<u8>, n: u64) -> Result<(), AllocError>
     requires { n < 100 }
     ensures { OnOk result (out.new.items ≡ out.old.items ++ decimal n) }
@@ -25,10 +27,11 @@ fn push_two(out: &mut Vec<u8>, n: u64) -> Result<(), AllocError>
     if n < 10 {
         return push_digit(out, n);
     }
-    push_digit(out, n / 10)?;
-    push_digit(out, n % 10)
+    let digits = [b'0' + (n / 10) as u8, b'0' + (n % 10) as u8];
+    out.extend_from_slice(&digits)
 }
 
+#[tactic(auto, using(crate::proofs::Printing::DecimalSteps::three_digits))]
 fn push_three(out: &mut Vec<u8>, n: u64) -> Result<(), AllocError>
     requires { n < 1000 }
     ensures { OnOk result (out.new.items ≡ out.old.items ++ decimal n) }
@@ -36,11 +39,17 @@ fn push_three(out: &mut Vec<u8>, n: u64) -> Result<(), AllocError>
     if n < 100 {
         return push_two(out, n);
     }
-    push_two(out, n / 10)?;
-    push_digit(out, n % 10)
+    let tens = n / 10;
+    let digits = [
+        b'0' + (tens / 10) as u8,
+        b'0' + (tens % 10) as u8,
+        b'0' + (n % 10) as u8,
+    ];
+    out.extend_from_slice(&digits)
 }
 
-/// A number of at most four digits, as most numbers are, without a buffer.
+/// A number of at most four digits, without a buffer.
+#[tactic(auto, using(crate::proofs::Printing::DecimalSteps::digits_of_four))]
 fn push_four(out: &mut Vec<u8>, n: u64) -> Result<(), AllocError>
     requires { n < 10000 }
     ensures { OnOk result (out.new.items ≡ out.old.items ++ decimal n) }
@@ -48,31 +57,58 @@ fn push_four(out: &mut Vec<u8>, n: u64) -> Result<(), AllocError>
     if n < 1000 {
         return push_three(out, n);
     }
-    push_three(out, n / 10)?;
-    push_digit(out, n % 10)
+    let tens = n / 10;
+    let hundreds = tens / 10;
+    let digits = [
+        b'0' + (hundreds / 10) as u8,
+        b'0' + (hundreds % 10) as u8,
+        b'0' + (tens % 10) as u8,
+        b'0' + (n % 10) as u8,
+    ];
+    out.extend_from_slice(&digits)
 }
 
+/// A number of at most eight digits is appended without a buffer.
 pub fn push_number(out: &mut Vec<u8>, n: u64) -> Result<(), AllocError>
     ensures { OnOk result (out.new.items ≡ out.old.items ++ decimal n) }
 {
     if n < 10_000 {
         return push_four(out, n);
     }
+    if n < 100_000_000 {
+        push_four(out, n / 10_000)?;
+        return push_four_digits(out, (n % 10_000) as u16);
+    }
+    push_long(out, n)
+}
+
+// A number of any length. It stands apart, since its buffer takes room at each call.
+#[inline(never)]
+fn push_long(out: &mut Vec<u8>, n: u64) -> Result<(), AllocError>
+    ensures { OnOk result (out.new.items ≡ out.old.items ++ decimal n) }
+{
     let mut buffer = Buffer::new();
     out.extend_from_slice(buffer.format(n).as_bytes())
+}
+
+// The last four digits of a number, with zeros in front.
+fn push_four_digits(out: &mut Vec<u8>, n: u16) -> Result<(), AllocError>
+    ensures { OnOk result (out.new.items ≡ out.old.items ++ four_digits n) }
+{
+    let digits = [
+        b'0' + (n / 1000) as u8,
+        b'0' + (n / 100 % 10) as u8,
+        b'0' + (n / 10 % 10) as u8,
+        b'0' + (n % 10) as u8,
+    ];
+    out.extend_from_slice(&digits)
 }
 
 /// A status as four digits.
 pub fn push_status(out: &mut Vec<u8>, status: u16) -> Result<(), AllocError>
     ensures { OnOk result (out.new.items ≡ out.old.items ++ four_digits status) }
 {
-    let digits = [
-        b'0' + (status / 1000) as u8,
-        b'0' + (status / 100 % 10) as u8,
-        b'0' + (status / 10 % 10) as u8,
-        b'0' + (status % 10) as u8,
-    ];
-    out.extend_from_slice(&digits)
+    push_four_digits(out, status)
 }
 
 /// The number of a unit and a status, each after a space. If the unit has one digit, all are appended at once.

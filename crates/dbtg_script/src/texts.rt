@@ -13,8 +13,8 @@ use dbtg_schema::{Row, Schema};
 use dbtg_unit::{Entry, Place, Unit};
 use std::alloc::{AllocError, Global};
 
-/// More bytes than most lines of a history have.
-const USUAL_LINE: usize = 24;
+/// More bytes than most lines of a history have. Room that is not used is not touched.
+const USUAL_LINE: usize = 48;
 
 fn push_found(
     out: &mut Vec<u8>,

@@ -8,20 +8,23 @@ ghost use Rattle.dbtg_script.specs.Inside.Reading.{MayTakeMemory};
 ghost use Rattle.dbtg_script.specs.Lookups.{item_named};
 ghost use Rattle.dbtg_script.specs.Reading.{first_word_faults};
 ghost use Rattle.dbtg_script.specs.StatementGrammar.{fits, value};
+ghost use Rattle.dbtg_script.specs.StatementFaults.{key_faults};
+ghost use Rattle.dbtg_script.specs.Statements.{key_of};
+ghost use Rattle.dbtg_schema.specs.Lookups.{first};
 ghost use Rattle.dbtg_script.specs.Tokens.{equals, plain, view};
 ghost use Rattle.dbtg_script.specs.Inside.Usual.{AreAssigned, AreSaid, IsAssigned, IsCalcType, IsGiven, IsOfSet, IsOnlyGiven, calc_items, nothing, words_left};
-ghost use Rattle.std.specs.Prelude.{◌≡◌, ◌<◌, ◌∷◌, ℕ, [], IfOk, IfSome, OnErr, Some, codes, false, is_err, true};
+ghost use Rattle.std.specs.Prelude.{◌≡◌, ◌<◌, ◌∷◌, ℕ, [], IfOk, IfSome, OnErr, Some, None, codes, false, is_err, true};
 
 use crate::automaton::Kind;
-use crate::checks::{is_sorted, key_fault, without_minus};
+use crate::checks::{is_sorted, without_minus};
 use crate::left::Left;
 use crate::line::{ends_in_text, is_allowed, is_statement};
 use crate::lookups::sort_picture;
-use crate::spelling::{is_key, is_signed, number};
-use crate::statement::{key_of, signed};
+use crate::spelling::{generation, is_key, is_signed, key_name, key_number, number};
+use crate::statement::signed;
 use crate::token::{Token, Tokens};
 use crate::values::{blank, spelled, up_to};
-use dbtg_cells::Value;
+use dbtg_cells::{DbKey, LAST_GENERATION, Value};
 use dbtg_schema::{Item, ItemNo, RecordNo, Row, Schema, SetNo};
 use dbtg_unit::{Change, Form, MOST_STATEMENTS, Statement, Suppress, Which};
 use std::alloc::{AllocError, Global};
@@ -83,6 +86,24 @@ fn of_set(schema: &Schema, left: &mut Left) -> Option<SetNo>
     schema.set(name)
 }
 
+// The key that a word spells, if it has no fault.
+fn faultless_key(schema: &Schema, text: &[u8]) -> Option<DbKey>
+    ensures key { IfSome result (λ k. k ≡ key_of schema.now text.now) }
+    ensures faultless { IfSome result (λ _. first (key_faults schema.now text.now) ≡ None) }
+{
+    let rtype = schema.rtype(key_name(text))?;
+    let number = up_to(999_999, number(key_number(text)));
+    let generation = up_to(LAST_GENERATION as u64, generation(text));
+    if number == 0 || generation == 0 {
+        return None;
+    }
+    Some(DbKey {
+        rtype,
+        number: number as u32,
+        generation: generation as u8,
+    })
+}
+
 /// FIND KEY k
 fn by_key(schema: &Schema, left: &mut Left) -> Option<Statement>
     ensures { IfSome result (λ s. AreSaid schema.now (plain (codes "FIND") ∷ plain (codes "KEY") ∷ words_left left.old) s) }
@@ -94,10 +115,8 @@ fn by_key(schema: &Schema, left: &mut Left) -> Option<Statement>
     if !is_key(text) {
         return None;
     }
-    match key_fault(schema, text) {
-        Some(_) => None,
-        None => Some(find(Form::Key(key_of(schema, text)))),
-    }
+    let key = faultless_key(schema, text)?;
+    Some(find(Form::Key(key)))
 }
 
 /// FIND n OF s SET

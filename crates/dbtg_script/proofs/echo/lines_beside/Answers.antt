@@ -1,4 +1,5 @@
 use Rattle.std.proofs.Common.{◌≡◌, ◌∙◌, ◌++◌, ◌+◌, length-set, ℕ, [], List, length, map, take, sym, ap, arith}
+use Rattle.std.proofs.lemmas.Grind.{common_steps}
 use Rattle.std.specs.Prelude.{slice_get, unwrap_or}
 use Rattle.dbtg_unit.specs.Database.Laws.Replay.{entries_of}
 use Rattle.dbtg_unit.specs.declared.unit.Entry.{Entry}
@@ -30,3 +31,9 @@ loop-entry-preserved c =
       beside = pushed (λ s. s.now) c.loop-entry.lines.items c.push.new.self.items c.line_at.result _ _ _ c.in_ok-push.ensures.items line
           (ap (λ (ls : List (List ℕ)). map (λ s. s.now) c.loop-entry.lines.items ++ ls) (sym (next_beside scripts history i e c.loop-entry-test.true c.entry-item.is)) ∙ c.loop-entry.invariant.beside);
     }
+
+pub returns : goal.returns
+returns c = grind (arith, common_steps)
+
+pub returns-in_err-push : goal.returns-in_err-push
+returns-in_err-push c = grind (arith, common_steps)

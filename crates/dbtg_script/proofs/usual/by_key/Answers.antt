@@ -1,4 +1,4 @@
-use Rattle.std.proofs.Common.{rules, ◌≡◌, [], ◌∷◌, true, sym}
+use Rattle.std.proofs.Common.{rules, ◌≡◌, [], ◌∷◌, true}
 use Rattle.dbtg_unit.specs.declared.statement.Statement.TheVariants as statement
 use Rattle.dbtg_unit.specs.declared.statement.Form.TheVariants as form
 use Rattle.dbtg_script.specs.Printing.Spelling.{is_key}
@@ -8,10 +8,10 @@ use Rattle.dbtg_script.specs.Inside.Usual.{nothing, words_left}
 use Rattle.dbtg_script.proofs.Reading.UsualLines.{key_said}
 use Rattle.dbtg_script.proofs.usual.by_key.Goals as goal
 
-pub returns-in-None : goal.returns-in-None
-returns-in-None c =
+pub returns : goal.returns
+returns c =
     let t = c.in_ok-text.text.now in
     let words : words_left c.args.left.now ≡ plain t ∷ [] = search rules in
     let key : is_key t ≡ true = search rules in
     let is : c.find.result ≡ statement.Find nothing (form.Key (key_of c.args.schema.now t)) = search rules in
-    rw (words, is) (key_said c.args.schema.now t key (sym c.in-None.ensures))
+    rw (words, is) (key_said c.args.schema.now t key c.in_ok-key.ensures.faultless)
