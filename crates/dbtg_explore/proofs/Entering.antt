@@ -1,29 +1,27 @@
--- Keys without repetition, seen by the numbers that they have.
--- ks are keys, k is a key, items gives the numbers of a key.
+-- Keys without repetition, seen by what they say.
+-- ks are keys, k is a key, items gives what a key says, alike tests whether two keys say the same.
 use Rattle.std.proofs.Common.{◌≡◌, refl, sym, ◌∙◌, ap, subst, ℕ, Bool, true, false, not, List, [], ◌∷◌, ◌++◌, map, inl, inr, if◌then◌else◌}
-use Rattle.std.specs.Prelude.{Contains}
+use Rattle.std.specs.Prelude.{◌==◌, ◌↔◌, Contains}
 use Rattle.std.specs.List.{list_any}
-use Rattle.std.specs.Str.{bytes_eq}
-use Rattle.std.proofs.lemmas.Bool.{cases_Bool, or_parts, true≢false}
+use Rattle.std.proofs.lemmas.Bool.{cases_Bool, eq-eqb, eqb-true, or_parts, true≢false}
 use Rattle.std.proofs.lemmas.List.{map_push}
-use Rattle.std.proofs.lemmas.Slice.Eq.{bytes_eq-Decides}
 use Rattle.dbtg_explore.specs.Inside.Found.{FoundOrders, IsEntered, IsPut}
 use Rattle.dbtg_explore.proofs.Searched.{contains_behind, contains_cases, contains_here, contains_none}
 
-module _ {K : Type 0} (items : K → List ℕ) where
-  -- the keys as numbers
-  abbrev numbers : List K → List (List ℕ)
+module _ {K N : Type 0} (items : K → N) (alike : K → K → Bool) (decides : (j k : K) → (alike j k ≡ true) ↔ (items j ≡ items k)) where
+  -- what the keys say
+  abbrev numbers : List K → List N
   numbers ks = map items ks
 
-  -- one of the keys has these numbers
+  -- one of the keys says the same
   abbrev is_there : List K → K → Bool
-  is_there ks k = list_any (λ j. bytes_eq (items k) (items j)) ks
+  is_there ks k = list_any (alike k) ks
 
   known : (ks : List K) (k : K) → is_there ks k ≡ true → Contains (numbers ks) (items k)
   known [] k h = absurd (true≢false (sym h))
   known (j ∷ ks) k h =
-      elim (cases_Bool (bytes_eq (items k) (items j))) [
-        | inl e ↦ subst (Contains (numbers (j ∷ ks))) (sym ((bytes_eq-Decides (items k) (items j)).0 e)) (contains_here (items j) (numbers ks))
+      elim (cases_Bool (alike k j)) [
+        | inl e ↦ subst (Contains (numbers (j ∷ ks))) (sym ((decides k j).0 e)) (contains_here (items j) (numbers ks))
         | inr e ↦ contains_behind (items j) (numbers ks) (items k) (known ks k (sym (rw e refl) ∙ h))
       ]
 
@@ -32,7 +30,7 @@ module _ {K : Type 0} (items : K → List ℕ) where
   absent (j ∷ ks) k h c =
       let parts = or_parts _ _ h in
       elim (contains_cases (items j) (numbers ks) (items k) c) [
-        | inl e ↦ true≢false (sym ((bytes_eq-Decides (items k) (items j)).1 (sym e)) ∙ parts.0)
+        | inl e ↦ true≢false (sym ((decides k j).1 (sym e)) ∙ parts.0)
         | inr d ↦ absent ks k parts.1 d
       ]
 
@@ -44,7 +42,7 @@ module _ {K : Type 0} (items : K → List ℕ) where
   not_false true e = refl
   not_false false e = e
 
-  module _ (ks new_ks : List K) (k : K) (is_new : Bool) (told : is_new ≡ not (is_there ks k)) (are : new_ks ≡ (if is_there ks k then ks else ks ++ k ∷ [])) (orders : List (List ℕ)) (old : FoundOrders) (old_is : record { keys = numbers ks; orders = orders } ≡ old) (order : List ℕ) where
+  module _ (ks new_ks : List K) (k : K) (is_new : Bool) (told : is_new ≡ not (is_there ks k)) (are : new_ks ≡ (if is_there ks k then ks else ks ++ k ∷ [])) (orders : List (List ℕ)) (old : FoundOrders N) (old_is : record { keys = numbers ks; orders = orders } ≡ old) (order : List ℕ) where
     -- a new key comes after the others
     pub is_put : (new_orders : List (List ℕ)) → is_new ≡ true → new_orders ≡ orders ++ order ∷ [] → IsPut old (items k) order (record { keys = numbers new_ks; orders = new_orders })
     is_put new_orders fresh more =
@@ -66,3 +64,26 @@ module _ {K : Type 0} (items : K → List ℕ) where
         let same : new_ks ≡ ks = are ∙ ap (λ b. if b then ks else ks ++ k ∷ []) there in
         subst (λ o. IsEntered o (items k) order (record { keys = numbers new_ks; orders = orders })) old_is
         (inl (known ks k there, λ i. record { keys = numbers (same i); orders = orders }))
+
+-- KEYS THAT ARE NUMBERS
+
+all_same : (ns : List ℕ) → map (λ (n : ℕ). n) ns ≡ ns
+all_same [] = refl
+all_same (n ∷ ns) = ap (λ l. n ∷ l) (all_same ns)
+
+same_or_not : (j k : ℕ) → ((j == k) ≡ true) ↔ (j ≡ k)
+same_or_not j k = (eqb-true j k, eq-eqb j k)
+
+module _ (ks new_ks : List ℕ) (k : ℕ) (is_new : Bool) (told : is_new ≡ not (list_any (λ j. k == j) ks)) (are : new_ks ≡ (if list_any (λ j. k == j) ks then ks else ks ++ k ∷ [])) (orders : List (List ℕ)) (old : FoundOrders ℕ) (old_is : record { keys = ks; orders = orders } ≡ old) (order : List ℕ) where
+  pub number_put : (new_orders : List (List ℕ)) → is_new ≡ true → new_orders ≡ orders ++ order ∷ [] → IsPut old k order (record { keys = new_ks; orders = new_orders })
+  number_put new_orders fresh more =
+      subst (λ ns. IsPut old k order (record { keys = ns; orders = new_orders })) (all_same new_ks)
+      (is_put (λ (n : ℕ). n) (λ i j. i == j) same_or_not ks new_ks k is_new told are orders old ((λ i. record { keys = all_same ks i; orders = orders }) ∙ old_is) order new_orders fresh more)
+
+  pub number_entered : (new_orders : List (List ℕ)) → is_new ≡ true → new_orders ≡ orders ++ order ∷ [] → IsEntered old k order (record { keys = new_ks; orders = new_orders })
+  number_entered new_orders fresh more = inr (number_put new_orders fresh more)
+
+  pub number_entered_before : is_new ≡ false → IsEntered old k order (record { keys = new_ks; orders = orders })
+  number_entered_before stale =
+      subst (λ ns. IsEntered old k order (record { keys = ns; orders = orders })) (all_same new_ks)
+      (is_entered_before (λ (n : ℕ). n) (λ i j. i == j) same_or_not ks new_ks k is_new told are orders old ((λ i. record { keys = all_same ks i; orders = orders }) ∙ old_is) order stale)

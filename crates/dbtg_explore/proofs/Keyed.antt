@@ -1,7 +1,7 @@
--- Two states of a meeting have the same essence exactly if their numbers are the same.
+-- How programs stand is known by their numbers; orders lead to legal states; states with the same essence have the same text.
 -- m is a meeting, u a unit, o and p are orders.
-use Rattle.std.proofs.Common.{◌≡◌, ℕ, zero, suc, ◌+◌, Bool, true, false, List, [], ◌∷◌, ◌++◌, length, Option, Some, None, refl, ap, subst, sym, ◌∙◌, append_assoc, map}
-use Rattle.std.specs.Prelude.{⊤, flat_map, if◌then◌else◌, nat_lt, option_and_then}
+use Rattle.std.proofs.Common.{◌≡◌, ℕ, zero, suc, ◌+◌, Bool, true, false, List, [], ◌∷◌, ◌++◌, length, Option, Some, None, refl, ap, subst, sym, ◌∙◌, map}
+use Rattle.std.specs.Prelude.{⊤, if◌then◌else◌, nat_lt, option_and_then}
 use Rattle.std.specs.List.{list_all, range_with_len}
 use Rattle.dbtg_schema.specs.Lists.{Lists}
 use Rattle.dbtg_unit.specs.declared.limits.TheConstants.{MOST_STATEMENTS}
@@ -23,16 +23,15 @@ use Rattle.dbtg_script.specs.Printing.Texts.{run_text}
 use Rattle.dbtg_going.specs.Texts.{programs_text}
 use Rattle.dbtg_going.specs.Turns as turns
 use Rattle.dbtg_going.specs.Turns.{after_turns, comes, made, statement_due, statement_of}
-use Rattle.dbtg_outcomes.specs.Inside.Spelling.{behind, image_apart, list_apart, unit_apart, value_apart}
-use Rattle.dbtg_outcomes.specs.Spelling.{Apart, image_numbers, list_numbers, unit_numbers, value_numbers}
+use Rattle.dbtg_outcomes.specs.Inside.Spelling.{behind, list_apart, value_apart}
+use Rattle.dbtg_outcomes.specs.Spelling.{Apart, list_numbers, value_numbers}
 use Rattle.dbtg_outcomes.specs.Results.{in_unit_order}
-use Rattle.dbtg_outcomes.proofs.States.SameImages.{image_alike, same_stored}
+use Rattle.dbtg_outcomes.proofs.States.SameImages.{image_alike}
 use Rattle.dbtg_explore.specs.Orders.{IsMeeting, Meeting, after_order, after_turn, beginning, due_of, history_of}
 use Rattle.dbtg_explore.specs.Results.{reached_of, state_text}
-use Rattle.dbtg_explore.specs.States.{Essence, MeetingState, comes_of_each, essence, essence_of, sequential_after, state_after, state_of, without_versions}
+use Rattle.dbtg_explore.specs.States.{Essence, MeetingState, essence, sequential_after, state_of, without_versions}
 use Rattle.dbtg_explore.specs.Versions.{unversioned, unversioned_database}
-use Rattle.dbtg_explore.specs.Inside.Keys.{due_numbers, how_numbers, program_numbers, state_numbers}
-use Rattle.dbtg_explore.proofs.Versions.Images.{image_first, same_essence}
+use Rattle.dbtg_explore.specs.Inside.Keys.{due_numbers, how_numbers, program_numbers}
 
 -- WHAT IS DUE
 
@@ -83,7 +82,7 @@ makes_same : (s t : Statement) → makes s ≡ makes t → s ≡ t
 makes_same s t e = cc
 
 -- the numbers of what comes of a program tell it apart
-due_apart : (schema : Lists) (program : Program) (x y : Due) (a b : List ℕ) → IsSaid schema program x → IsSaid schema program y → due_numbers x ++ a ≡ due_numbers y ++ b → (x ≡ y) × (a ≡ b)
+pub due_apart : (schema : Lists) (program : Program) (x y : Due) (a b : List ℕ) → IsSaid schema program x → IsSaid schema program y → due_numbers x ++ a ≡ due_numbers y ++ b → (x ≡ y) × (a ≡ b)
 due_apart schema program (due at s) (due at' t) a b said said' e =
     let rest : program_numbers at ++ a ≡ program_numbers at' ++ b = cc in
     let state = state_apart at at' a b rest in
@@ -103,24 +102,8 @@ due_apart schema program (ended at (Size l)) (due at' t) a b said said' e = absu
 due_apart schema program (ended at (Astray l)) (due at' t) a b said said' e = absurd cc
 
 module _ (m : Meeting) where
-  said_comes : (p : Program) (u : ℕ) (history : List Entry) → IsSaid m.schema p (comes m.schema p u history)
+  pub said_comes : (p : Program) (u : ℕ) (history : List Entry) → IsSaid m.schema p (comes m.schema p u history)
   said_comes p u history = said_next m.schema p _
-
-  each_apart : (h g : List Entry) (k : ℕ) (ps : List Program) (a b : List ℕ) → flat_map due_numbers (comes_of_each m h k ps) ++ a ≡ flat_map due_numbers (comes_of_each m g k ps) ++ b
-      → (comes_of_each m h k ps ≡ comes_of_each m g k ps) × (a ≡ b)
-  each_apart h g k [] a b e = (refl, e)
-  each_apart h g k (p ∷ ps) a b e =
-      let x = comes m.schema p k h in
-      let y = comes m.schema p k g in
-      let first = due_apart m.schema p x y (flat_map due_numbers (comes_of_each m h (k + 1) ps) ++ a) (flat_map due_numbers (comes_of_each m g (k + 1) ps) ++ b) (said_comes p k h) (said_comes p k g)
-      (sym (append_assoc (due_numbers x) (flat_map due_numbers (comes_of_each m h (k + 1) ps)) a) ∙ e ∙ append_assoc (due_numbers y) (flat_map due_numbers (comes_of_each m g (k + 1) ps)) b) in
-      let rest = each_apart h g (k + 1) ps a b first.1 in
-      (λ i. first.0 i ∷ rest.0 i, rest.1)
-
-  programs_apart : (h g : List Entry) (a b : List ℕ) → list_numbers due_numbers (state_after m h).programs ++ a ≡ list_numbers due_numbers (state_after m g).programs ++ b → (state_after m h).programs ≡ (state_after m g).programs
-  programs_apart h g a b e =
-      let inner : flat_map due_numbers (state_after m h).programs ++ a ≡ flat_map due_numbers (state_after m g).programs ++ b = cc in
-      (each_apart h g 1 m.programs a b inner).0
 
   -- ALL STATEMENTS FIT
 
@@ -172,7 +155,7 @@ module _ (m : Meeting) where
   pub legal_after : IsMeeting m → (history : List Entry) → AllFit history → IsLegalState m.schema m.capacity (sequential_after m history)
   legal_after meets history fit = replay_keeps_legal m.schema m.capacity (opening_state m.schema (length m.programs)) history meets.sound (opening_is_legal m.schema m.capacity (length m.programs)) fit
 
-  legal : IsMeeting m → (o : List ℕ) → IsLegalState m.schema m.capacity (state_of m o).sequential
+  pub legal : IsMeeting m → (o : List ℕ) → IsLegalState m.schema m.capacity (state_of m o).sequential
   legal meets o = legal_after meets (history_of m o) (order_fits o)
 
   units_after : (state : State) (es : List Entry) → length (replay m.schema m.capacity state es).units ≡ length state.units
@@ -180,27 +163,10 @@ module _ (m : Meeting) where
   units_after state [] = refl
   units_after state (e ∷ es) = units_after (after_entry m.schema m.capacity state e) es ∙ effect_keeps_count state e.unit (effect_of_unit m.schema m.capacity state e.unit e.statement)
 
-  count : (o : List ℕ) → length (state_of m o).sequential.units ≡ length m.programs
-  count o = units_after (opening_state m.schema (length m.programs)) (history_of m o) ∙ opening_length m.schema (length m.programs)
+  pub units_count : (o : List ℕ) → length (state_of m o).sequential.units ≡ length m.programs
+  units_count o = units_after (opening_state m.schema (length m.programs)) (history_of m o) ∙ opening_length m.schema (length m.programs)
 
-  -- EQUAL NUMBERS, EQUAL STATES
-
-  -- the image of a state in the order of units, without versions
-  abbrev image_in : MeetingState → Image
-  image_in s = in_unit_order (range_with_len 1 (length m.programs)) (record (image_of m.schema m.capacity s.sequential.database) { versions = [] })
-
-  pub same_state : IsMeeting m → (o p : List ℕ) → state_numbers m (state_of m o) ≡ state_numbers m (state_of m p) → essence_of m o ≡ essence_of m p
-  same_state meets o p e =
-      let x = state_of m o in
-      let y = state_of m p in
-      let tail : MeetingState → List ℕ = λ s. list_numbers unit_numbers (unversioned s.sequential).units ++ list_numbers due_numbers s.programs in
-      let whole : (image_numbers (image_in x) ++ tail x) ++ [] ≡ (image_numbers (image_in y) ++ tail y) ++ [] = ap (λ l. l ++ []) e in
-      let one = behind image_numbers image_apart (image_in x) (image_in y) (tail x) (tail y) [] [] whole in
-      let two = behind (list_numbers unit_numbers) (list_apart unit_numbers unit_apart) (unversioned x.sequential).units (unversioned y.sequential).units (list_numbers due_numbers x.programs) (list_numbers due_numbers y.programs) [] [] one.1 in
-      let programs = programs_apart (history_of m o) (history_of m p) [] [] two.1 in
-      let stored = same_stored m.schema m.capacity (length m.programs) x.sequential y.sequential (legal meets o) (legal meets p) (count o) (count p) one.0 in
-      let alike = same_essence x.sequential y.sequential stored two.0 in
-      λ i. record { sequential = alike i; programs = programs i }
+  -- THE SAME TEXT
 
   -- the image of a state without versions
   abbrev image_without : MeetingState → Image
@@ -208,17 +174,6 @@ module _ (m : Meeting) where
 
   without_same : (x y : MeetingState) → essence x ≡ essence y → image_without x ≡ image_without y
   without_same x y e = image_alike m.schema m.capacity (range_with_len 1 (length m.programs)) (unversioned x.sequential) (unversioned y.sequential) (ap (λ (z : Essence). z.sequential) e)
-
-  image_same : (x y : MeetingState) → essence x ≡ essence y → image_in x ≡ image_in y
-  image_same x y e =
-      ap (in_unit_order (range_with_len 1 (length m.programs))) (image_first m.schema m.capacity x.sequential.database)
-      ∙ ap (λ (i : Image). record i { versions = [] }) (without_same x y e)
-      ∙ sym (ap (in_unit_order (range_with_len 1 (length m.programs))) (image_first m.schema m.capacity y.sequential.database))
-
-  pub same_numbers : (o p : List ℕ) → essence_of m o ≡ essence_of m p → state_numbers m (state_of m o) ≡ state_numbers m (state_of m p)
-  same_numbers o p e =
-      let image = image_same (state_of m o) (state_of m p) e in
-      λ i. image_numbers (image i) ++ (list_numbers unit_numbers (e i).sequential.units ++ list_numbers due_numbers (e i).programs)
 
   -- states with the same essence have the same text without versions
   pub same_text : (x y : MeetingState) → essence x ≡ essence y → state_text m (without_versions x) ≡ state_text m (without_versions y)

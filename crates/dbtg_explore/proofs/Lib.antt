@@ -13,6 +13,8 @@ pub mod Inserting
 pub mod Searched
 pub mod Steps
 pub mod Noting
+pub mod Numbered
+pub mod Parts
 pub mod Visiting
 pub mod Rounding
 pub mod Rows

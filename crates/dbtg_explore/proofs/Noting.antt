@@ -119,10 +119,10 @@ module _ (m : Meeting) where
   no_results_yet = record { firsts = no_results (IsEnd m) (result_text m); keys_are = refl }
 
   -- if a program can go on, the order has not come to an end
-  pub goes_on_there : (o : List ℕ) (old : FoundOrders) → (IsEnd m o → ⊥) → NotesResult m o old old
+  pub goes_on_there : (o : List ℕ) (old : FoundOrders (List ℕ)) → (IsEnd m o → ⊥) → NotesResult m o old old
   goes_on_there o old no_end seen behind h = record { firsts = no_result (IsEnd m) (result_text m) seen old.orders o h.firsts no_end; keys_are = h.keys_are }
 
-  pub ends_there : (o order : List ℕ) (key : List ℕ) (old new : FoundOrders) → IsEnd m o → order ≡ o → key ≡ result_text m o → IsEntered old key order new → NotesResult m o old new
+  pub ends_there : (o order : List ℕ) (key : List ℕ) (old new : FoundOrders (List ℕ)) → IsEnd m o → order ≡ o → key ≡ result_text m o → IsEntered old key order new → NotesResult m o old new
   ends_there o order key old new end order_is key_is (inl known) seen behind h =
       let r = of_map (result_text m) old.orders key (subst (λ ks. Contains ks key) h.keys_are known.0) in
       subst (AreResultsOf m (seen ++ o ∷ [])) (sym known.1)

@@ -1,10 +1,9 @@
 -- Where a meeting is, and where a turn leads from there.
 -- m is a meeting, u a unit, x a statement.
-use Rattle.std.proofs.Common.{◌≡◌, ℕ, zero, suc, ◌+◌, ◌-◌, ◌<◌, ◌≤◌, Bool, true, false, ◌&&◌, List, [], ◌∷◌, ◌++◌, length, map, Option, Some, None, inr, refl, ap, subst, sym, ◌∙◌, slice_get, append_assoc, arith}
-use Rattle.std.specs.Prelude.{flat_map, is_some, not, option_and_then, option_map, nat_lt, slice_index_or, ◌||◌}
+use Rattle.std.proofs.Common.{◌≡◌, ℕ, zero, suc, ◌+◌, ◌-◌, ◌<◌, ◌≤◌, Bool, true, false, ◌&&◌, List, [], ◌∷◌, ◌++◌, length, map, Option, Some, None, inr, refl, ap, subst, sym, ◌∙◌, slice_get, arith}
+use Rattle.std.specs.Prelude.{flat_map, is_some, not, option_and_then, option_map, option_to_list, nat_lt, slice_index_or, ◌||◌}
 use Rattle.std.specs.List.{list_all, list_any, range_with_len}
 use Rattle.std.proofs.lemmas.Bool.Decides.{nat_tests}
-use Rattle.std.proofs.lemmas.List.{length-map}
 use Rattle.dbtg_schema.specs.Lists.{Lists}
 use Rattle.dbtg_unit.specs.declared.statement.Statement.{Statement}
 use Rattle.dbtg_unit.specs.declared.unit.Entry.{Entry}
@@ -29,14 +28,16 @@ use Rattle.dbtg_going.specs.declared.member.Reached.{Reached}
 use Rattle.dbtg_going.specs.Texts.{programs_text}
 use Rattle.dbtg_script.specs.Printing.Texts.{run_text}
 use Rattle.dbtg_outcomes.specs.Results.{by_unit}
-use Rattle.dbtg_outcomes.specs.Spelling.{list_numbers}
+use Rattle.dbtg_outcomes.specs.Spelling.{unit_numbers}
 use Rattle.dbtg_explore.specs.Orders.{IsMeeting, Meeting, after_turn, can_turn, due_of, waits}
 use Rattle.dbtg_explore.specs.Results.{reached_of, state_text}
 use Rattle.dbtg_explore.specs.States.{comes_of_each, sequential_after, state_after, without_versions}
-use Rattle.dbtg_explore.specs.Inside.Versions.{is_in_order, unit_among}
-use Rattle.dbtg_explore.specs.Versions.{unversioned}
+use Rattle.dbtg_explore.specs.Inside.Keys.{due_numbers}
+use Rattle.dbtg_explore.specs.Inside.Parts.{unit_part}
+use Rattle.dbtg_explore.specs.Inside.Versions.{is_in_order}
+use Rattle.dbtg_explore.specs.Versions.{unversioned, unversioned_unit}
 use Rattle.dbtg_explore.proofs.Keyed.{legal_after}
-use Rattle.dbtg_explore.proofs.Versions.Images.{image_first, kept_in_order, units_by_list}
+use Rattle.dbtg_explore.proofs.Versions.Images.{image_first, kept_in_order}
 use Rattle.dbtg_explore.specs.Inside.Walks.{AreStanding, HasTurned, failure_by, failure_in}
 use Rattle.dbtg_explore.proofs.Alike.{due_is}
 
@@ -148,12 +149,6 @@ module _ (m : Meeting) (history : List Entry) where
       let number : suc i ≡ 1 + i = omega arith in
       (there.0, there.1, subst (λ v. IsGoing m.schema p (entries_of v history) there.0) number there.2))
 
-  pub programs_spelled : (goings : List Going) (f : Due → List ℕ) → AreGoing m.schema m.programs history goings → list_numbers (λ g. f (comes_of g)) goings ≡ list_numbers f (state_after m history).programs
-  programs_spelled goings f are = (λ i. sym (length-map goings comes_of) i ∷ mapped goings i) ∙ ap (list_numbers f) (dues_are goings are) where
-    mapped : (gs : List Going) → flat_map (λ g. f (comes_of g)) gs ≡ flat_map f (map comes_of gs)
-    mapped [] = refl
-    mapped (g ∷ gs) = ap (λ l. f (comes_of g) ++ l) (mapped gs)
-
   -- what is said of the programs by unit
   pub by_goings : {Y : Type 0} (goings : List Going) (f : Due → Option Y) (u : ℕ) → AreGoing m.schema m.programs history goings
       → option_and_then f (unit_at (state_after m history).programs u) ≡ option_and_then (λ g. f (comes_of g)) (unit_at goings u)
@@ -199,10 +194,6 @@ none_more f n h g =
 pub one_there : (f : ℕ → Bool) (n i : ℕ) → i < n → true ≡ f (i + 1) → true ≡ list_any f (range_with_len 1 n)
 one_there f n i h g = sym (any_in f (i + 1) (range_with_len 1 n) (in_range n 1 (i + 1) (omega arith) (omega (arith, h))) (sym g))
 
--- three things spelled, one after another
-pub three_spelled : (start a b c x y z : List ℕ) → start ≡ [] → a ≡ start ++ x → b ≡ a ++ y → c ≡ b ++ z → c ≡ x ++ (y ++ z)
-three_spelled start a b c x y z s e f g = g ∙ ap (λ l. l ++ z) (f ∙ ap (λ l. l ++ y) (e ∙ ap (λ l. l ++ x) s)) ∙ append_assoc x y z
-
 -- WHAT IS PRINTED
 
 module _ (m : Meeting) (database : Making) (goings : List Going) (w : AreStanding m database goings) where
@@ -214,15 +205,29 @@ module _ (m : Meeting) (database : Making) (goings : List Going) (w : AreStandin
   units_there : (state_now database).units ≡ (sequential_after m database.history).units
   units_there = ap (λ (d : Making). (state_now d).units) w.database_is
 
-  -- so what its units keep is in key order, and its units without versions are known by its image
+  -- so what its units keep is in key order
   pub in_order_there : IsMeeting m → IsHistoryOf database.schema database.capacity database.units database.history → (units : List Unit) → units ≡ (state_now database).units → list_all (λ u. is_in_order u.kept) units ≡ true
   in_order_there meets is units are = ap (list_all (λ (u : Unit). is_in_order u.kept)) (are ∙ units_there) ∙ kept_in_order m.schema m.capacity (sequential_after m database.history) (legal_there meets is)
 
-  pub unversioned_there : IsMeeting m → IsHistoryOf database.schema database.capacity database.units database.history → (image : Image) → image ≡ image_of m.schema m.capacity (sequential_after m database.history).database
-      → (units : List Unit) → units ≡ (state_now database).units → map (unit_among image.versions) units ≡ (unversioned (sequential_after m database.history)).units
-  unversioned_there meets is image image_is units are =
-      let units_are : units ≡ (sequential_after m database.history).units = are ∙ units_there in
-      (λ i. map (unit_among (image_is i).versions) (units_are i)) ∙ units_by_list m.schema m.capacity (sequential_after m database.history) (legal_there meets is)
+  -- the state of the database itself is legal
+  pub legal_now : IsMeeting m → IsHistoryOf database.schema database.capacity database.units database.history → IsLegalState database.schema database.capacity (state_now database)
+  legal_now meets is = subst (λ (d : Making). IsLegalState d.schema d.capacity (state_now d)) (sym w.database_is) (legal_there meets is)
+
+  -- its units without versions
+  pub unversioned_there : (units : List Unit) → units ≡ (state_now database).units → map (unversioned_unit (state_now database).database) units ≡ (unversioned (sequential_after m database.history)).units
+  unversioned_there units are = ap (map (unversioned_unit (state_now database).database)) are ∙ ap (λ (d : Making). (unversioned (state_now d)).units) w.database_is
+
+  -- what the part of a unit says, by its program and its unit
+  pub part_there : (u : ℕ) → flat_map (λ g. due_numbers (comes_of g)) (option_to_list (unit_at goings u)) ++ flat_map unit_numbers (option_to_list (unit_at (unversioned (state_now database)).units u)) ≡ unit_part m database.history u
+  part_there u =
+      let units = ap (λ (d : Making). flat_map unit_numbers (option_to_list (unit_at (unversioned (state_now d)).units u))) w.database_is in
+      λ i. programs i ++ units i where
+        spelled : (o : Option Going) → flat_map (λ g. due_numbers (comes_of g)) (option_to_list o) ≡ flat_map due_numbers (option_to_list (option_map comes_of o))
+        spelled None = refl
+        spelled (Some g) = refl
+
+        programs : flat_map (λ g. due_numbers (comes_of g)) (option_to_list (unit_at goings u)) ≡ flat_map due_numbers (option_to_list (unit_at (state_after m database.history).programs u))
+        programs = spelled (unit_at goings u) ∙ ap (λ d. flat_map due_numbers (option_to_list d)) (sym (map_at comes_of goings u) ∙ ap (λ ds. unit_at ds u) (dues_are m database.history goings w.are_going))
 
   -- the text of its image, its units without versions and its programs
   pub text_is : (image : Image) → image ≡ image_of database.schema database.capacity (state_now database).database → (units : List Unit) → units ≡ (unversioned (sequential_after m database.history)).units

@@ -2,18 +2,21 @@
 -- m is a meeting, o and p are orders, u is a unit, i is the place of an order that is found.
 use Rattle.std.proofs.Common.{◌≡◌, refl, sym, ◌∙◌, ap, subst, ℕ, zero, suc, ◌+◌, ◌<◌, ◌≤◌, true, false, List, [], ◌∷◌, ◌++◌, append_assoc, append-nil, length, length-append, map, get_or, None, arith, inl, inr, ⊎_elim}
 use Rattle.std.specs.Prelude.{Contains, slice_get}
-use Rattle.std.proofs.lemmas.List.{get_or_append_left, map_push}
+use Rattle.std.proofs.lemmas.List.{get_or_append_left}
 use Rattle.std.proofs.lemmas.List.Elements.{Contains-get_or}
 use Rattle.dbtg_unit.specs.declared.unit.Entry.{Entry}
 use Rattle.dbtg_step.specs.Machine.SequentialDatabase.{unit_at}
+use Rattle.dbtg_outcomes.specs.Numbers.{Numbers}
 use Rattle.dbtg_explore.specs.declared.search.Search as given
 use Rattle.dbtg_explore.specs.Inside.Found.{FoundOrders, IsEntered, IsPut}
 use Rattle.dbtg_explore.specs.Inside.Search.{IsUnderWay}
-use Rattle.dbtg_explore.specs.Inside.Steps.{Goes, IsAt, can_follow, numbers_of}
+use Rattle.dbtg_explore.specs.Inside.Parts.{AreNumbered, IsNumberOf}
+use Rattle.dbtg_explore.specs.Inside.Steps.{Goes, IsAt, can_follow}
 use Rattle.dbtg_explore.specs.Orders.{IsMeeting, IsOrder, Meeting, beginning, can_turn, history_of}
 use Rattle.dbtg_explore.specs.States.{HasMoreStates, essence_of}
 use Rattle.dbtg_explore.proofs.Alike.{can_turn_alike, same_after}
-use Rattle.dbtg_explore.proofs.Keyed.{same_numbers, same_state}
+use Rattle.dbtg_explore.proofs.Numbered.{numbered_more, numbered_order, order_numbered}
+use Rattle.dbtg_explore.proofs.Parts.{same_number, same_state}
 use Rattle.dbtg_explore.proofs.Searched.{GoOn, at_beginning, contains_behind, contains_cases, contains_here, contains_none, known_state, new_state, next_place, no_turn}
 use Rattle.dbtg_explore.proofs.Turning.{follow_front, last_can, none_follow, order_on}
 
@@ -72,29 +75,30 @@ module _ (m : Meeting) where
   Under = IsUnderWay (IsOrder m) (can_follow m) (essence_of m)
 
   -- the first order of all
-  module _ (found : FoundOrders) (key : List ℕ) (key_is : key ≡ numbers_of m []) (is : found ≡ record { keys = key ∷ []; orders = [] ∷ [] }) where
-    begins : (found.orders ≡ [] ∷ []) × (found.keys ≡ map (numbers_of m) ([] ∷ []))
-    begins = (ap (λ (f : FoundOrders). f.orders) is, ap (λ (f : FoundOrders). f.keys) is ∙ (λ i. key_is i ∷ []))
+  module _ (found : FoundOrders ℕ) (n : ℕ) (is : found ≡ record { keys = n ∷ []; orders = [] ∷ [] }) where
+    begins : found.orders ≡ [] ∷ []
+    begins = ap (λ (f : FoundOrders ℕ). f.orders) is
+
+    pub first_numbered : (kept : Numbers) → IsNumberOf m kept (history_of m []) n → AreNumbered m kept found.keys found.orders
+    first_numbered kept number = subst (λ (f : FoundOrders ℕ). AreNumbered m kept f.keys f.orders) (sym is) (number, tt)
 
     pub at_first : (s : given.Search) → s.found ≡ found → length found.orders ≤ s.limit → IsAt m 0 0 s
     at_first s found_is few =
-        let orders : s.found.orders ≡ [] ∷ [] = ap (λ (f : FoundOrders). f.orders) found_is ∙ begins.0 in
+        let orders : s.found.orders ≡ [] ∷ [] = ap (λ (f : FoundOrders ℕ). f.orders) found_is ∙ begins in
         record {
           under_way = subst (λ os. Under os 0 0) (sym orders) (at_beginning (IsOrder m) (can_follow m) (essence_of m) goes_on);
-          keys_are = ap (λ (f : FoundOrders). f.keys) found_is ∙ begins.1 ∙ ap (map (numbers_of m)) (sym orders);
-          few = let long = ap (λ (f : FoundOrders). length f.orders) found_is in omega arith;
+          few = let long = ap (λ (f : FoundOrders ℕ). length f.orders) found_is in omega arith;
         }
 
     pub over_first : (limit : ℕ) → limit < length found.orders → HasMoreStates m limit
     over_first limit more =
-        let way = subst (λ os. Under os 0 0) (sym begins.0) (at_beginning (IsOrder m) (can_follow m) (essence_of m) goes_on) in
+        let way = subst (λ os. Under os 0 0) (sym begins) (at_beginning (IsOrder m) (can_follow m) (essence_of m) goes_on) in
         record { orders = found.orders; are_apart = record { are_orders = way.are_orders; apart = way.apart }; more = more }
 
   -- ONE MORE TURN
 
-  record Turned (old new : FoundOrders) (i u : ℕ) : Type 0 where
+  record Turned (old new : FoundOrders ℕ) (i u : ℕ) : Type 0 where
     way : Under new.orders i u
-    keys_are : new.keys ≡ map (numbers_of m) new.orders
     more : List (List ℕ)
     kept : new.orders ≡ old.orders ++ more
 
@@ -106,36 +110,41 @@ module _ (m : Meeting) where
     pub next_is_order : IsOrder m (turned old.found.orders i u)
     next_is_order = goes_on.more (get_or old.found.orders i []) u (at.under_way.are_orders _ (Contains-get_or old.found.orders i [] in_range)) can
 
-    module _ (next : List ℕ) (next_is : next ≡ turned old.found.orders i u) (key : List ℕ) (key_is : key ≡ numbers_of m next) where
-      same_key : key ≡ numbers_of m (turned old.found.orders i u)
-      same_key = key_is ∙ ap (numbers_of m) next_is
+    module _ (kept : Numbers) (known : AreNumbered m kept old.found.keys old.found.orders) (next : List ℕ) (next_is : next ≡ turned old.found.orders i u) (n : ℕ) (number : IsNumberOf m kept (history_of m next) n) where
+      next_number : IsNumberOf m kept (history_of m (turned old.found.orders i u)) n
+      next_number = subst (λ o. IsNumberOf m kept (history_of m o) n) next_is number
 
-      known_there : (o : List ℕ) → numbers_of m o ≡ key → essence_of m o ≡ essence_of m (turned old.found.orders i u)
-      known_there o e = same_state m meets o (turned old.found.orders i u) (e ∙ same_key)
-
-      known_turn : Contains old.found.keys key → Turned old.found old.found i (u + 1)
+      known_turn : Contains old.found.keys n → Turned old.found old.found i (u + 1)
       known_turn c =
-          let r = of_map (numbers_of m) old.found.orders key (subst (λ ks. Contains ks key) at.keys_are c) in
+          let r = numbered_order m kept old.found.keys old.found.orders n known c in
           record {
-            way = known_state (IsOrder m) (can_follow m) (essence_of m) goes_on old.found.orders i u in_range at.under_way r.0 r.1 (known_there r.0 r.2);
-            keys_are = at.keys_are;
+            way = known_state (IsOrder m) (can_follow m) (essence_of m) goes_on old.found.orders i u in_range at.under_way r.0 r.1 (same_state m meets kept r.0 (turned old.found.orders i u) n r.2 next_number);
             more = [];
             kept = sym (append-nil old.found.orders);
           }
 
-      new_turn : (new : FoundOrders) → IsPut old.found key next new → Turned old.found new i (u + 1)
+      new_turn : (new : FoundOrders ℕ) → IsPut old.found n next new → Turned old.found new i (u + 1)
       new_turn new put =
           let orders : new.orders ≡ old.found.orders ++ turned old.found.orders i u ∷ [] = put.orders_are ∙ ap (λ (o : List ℕ). old.found.orders ++ o ∷ []) next_is in
           record {
             way = subst (λ os. Under os i (u + 1)) (sym orders)
                 (new_state (IsOrder m) (can_follow m) (essence_of m) goes_on old.found.orders i u in_range at.under_way can (λ o c e.
-                put.absent (subst (λ ks. Contains ks key) (sym at.keys_are) (subst (Contains (map (numbers_of m) old.found.orders)) (same_numbers m o (turned old.found.orders i u) e ∙ sym same_key) (in_map (numbers_of m) old.found.orders o c)))));
-            keys_are = put.keys_are ∙ (λ j. at.keys_are j ++ same_key j ∷ []) ∙ sym (map_push (numbers_of m) old.found.orders (turned old.found.orders i u)) ∙ ap (map (numbers_of m)) (sym orders);
+                let k = order_numbered m kept old.found.keys old.found.orders o known c in
+                put.absent (subst (Contains old.found.keys) (same_number m meets kept o (turned old.found.orders i u) k.0 n e k.2 next_number) k.1)));
             more = turned old.found.orders i u ∷ [];
             kept = orders;
           }
 
-      module _ (found : FoundOrders) (entered : IsEntered old.found key next found) where
+      module _ (found : FoundOrders ℕ) (entered : IsEntered old.found n next found) where
+        -- each order still has its number
+        pub still_numbered : AreNumbered m kept found.keys found.orders
+        still_numbered =
+            elim entered [
+              | inl same ↦ subst (λ (f : FoundOrders ℕ). AreNumbered m kept f.keys f.orders) (sym same.1) known
+              | inr put ↦ subst (λ ns. AreNumbered m kept ns found.orders) (sym put.keys_are)
+                  (subst (AreNumbered m kept (old.found.keys ++ n ∷ [])) (sym put.orders_are) (numbered_more m kept old.found.keys old.found.orders n next known number))
+            ]
+
         has_turned : Turned old.found found i (u + 1)
         has_turned =
             elim entered [
@@ -146,9 +155,9 @@ module _ (m : Meeting) where
         -- the search goes on
         pub goes_further : (new : given.Search) → new.found ≡ found → new.limit ≡ old.limit → length found.orders ≤ old.limit → Goes m i (u + 1) old new
         goes_further new found_is limit_is few =
-            let t = subst (λ (f : FoundOrders). Turned old.found f i (u + 1)) (sym found_is) has_turned in
-            let long = ap (λ (f : FoundOrders). length f.orders) found_is in
-            record { at = record { under_way = t.way; keys_are = t.keys_are; few = omega arith }; more = t.more; kept = t.kept; limit_is = limit_is }
+            let t = subst (λ (f : FoundOrders ℕ). Turned old.found f i (u + 1)) (sym found_is) has_turned in
+            let long = ap (λ (f : FoundOrders ℕ). length f.orders) found_is in
+            record { at = record { under_way = t.way; few = omega arith }; more = t.more; kept = t.kept; limit_is = limit_is }
 
         -- or there are more states than the limit
         pub goes_over : old.limit < length found.orders → HasMoreStates m old.limit
@@ -160,7 +169,7 @@ module _ (m : Meeting) where
 
   pub stays : (s : given.Search) (i u : ℕ) (in_range : i < length s.found.orders) (at : IsAt m i u s) → can_follow m (get_or s.found.orders i []) u ≡ false → Goes m i (u + 1) s s
   stays s i u in_range at cannot = record {
-    at = record { under_way = no_turn (IsOrder m) (can_follow m) (essence_of m) goes_on s.found.orders i u in_range at.under_way cannot; keys_are = at.keys_are; few = at.few };
+    at = record { under_way = no_turn (IsOrder m) (can_follow m) (essence_of m) goes_on s.found.orders i u in_range at.under_way cannot; few = at.few };
     more = [];
     kept = sym (append-nil s.found.orders);
     limit_is = refl;
@@ -185,7 +194,6 @@ module _ (m : Meeting) where
   goes_to_next i a b low g = record {
     at = record {
       under_way = next_place (IsOrder m) (can_follow m) (essence_of m) goes_on b.found.orders i (length m.programs + 1) (kept_range i i (length m.programs + 1) a b g low) g.at.under_way (λ v le. cannot_beyond (get_or b.found.orders i []) v (omega arith));
-      keys_are = g.at.keys_are;
       few = g.at.few;
     };
     more = g.more;

@@ -5,6 +5,7 @@ pub mod Failures
 pub mod Found
 pub mod Keys
 pub mod Links
+pub mod Parts
 pub mod Rounds
 pub mod Search
 pub mod Steps

@@ -4,7 +4,8 @@ ghost use Rattle.dbtg_explore.specs.Explored.{IsEndless};
 ghost use Rattle.dbtg_explore.specs.Inside.Walks.{IsPlace, Stands, StandsAt, order_of};
 ghost use Rattle.dbtg_explore.specs.Inside.Rounds.{ComesBack, HasEach};
 ghost use Rattle.dbtg_explore.specs.Orders.{IsMeeting, IsOrder, can_turn};
-ghost use Rattle.std.specs.Prelude.{◌≡◌, ◌++◌, List, ℕ, true, Contains, IfOk, IfSome};
+ghost use Rattle.dbtg_outcomes.specs.Numbers.{Grow};
+ghost use Rattle.std.specs.Prelude.{◌≡◌, ◌++◌, List, ℕ, true, Contains, IfOk, IfSome, OnOk};
 
 use crate::explored::Endless;
 use crate::graph::guess_round;
@@ -47,8 +48,10 @@ fn go<'a>(
     walk: &mut Walk<'a>,
     turns: &[u8],
 ) -> Result<bool, AllocError>
+    requires meeting { IsMeeting meeting.now }
     requires stands { Stands meeting.now walk.old }
-    ensures { IfOk result (λ gone. gone ≡ true → StandsAt meeting.now (order_of walk.old.turns.items ++ turns.now) walk.new) }
+    ensures stands { IfOk result (λ gone. gone ≡ true → StandsAt meeting.now (order_of walk.old.turns.items ++ turns.now) walk.new) }
+    ensures grown { OnOk result (Grow walk.old.numbers walk.new.numbers) }
 {
     for unit in turns {
         if !meeting.can_turn(walk, *unit) {
@@ -70,12 +73,11 @@ fn comes_back<'a>(
     requires stands { Stands meeting.now walk.old }
     ensures { IfOk result (λ back. back ≡ true → ComesBack meeting.now (order_of walk.old.turns.items) round.now) }
 {
-    let before = meeting.state_key(alloc, walk)?;
+    let before = meeting.state_number(walk);
     if !go(alloc, meeting, walk, round)? {
         return Ok(false);
     }
-    let after = meeting.state_key(alloc, walk)?;
-    Ok(after.as_slice() == before.as_slice())
+    Ok(meeting.state_number(walk) == before)
 }
 
 // Can programs that are where the walk stands go round like this for ever, with no unit kept waiting?

@@ -1,6 +1,7 @@
 //! Everything that programs can come to when they meet.
 
 ghost use Rattle.dbtg_explore.specs.Explored.{IsExplored};
+ghost use Rattle.dbtg_explore.specs.Inside.Parts.{AreNumbered};
 ghost use Rattle.dbtg_explore.specs.Inside.Visits.{HasVisited, IsThrough, IsVisited};
 ghost use Rattle.dbtg_explore.specs.Inside.Walks.{Stands, StandsAt};
 ghost use Rattle.dbtg_explore.specs.Orders.{IsMeeting};
@@ -53,9 +54,11 @@ impl Search {
     ) -> Result<(), Stop>
         requires meeting { IsMeeting meeting.now }
         requires stands { Stands meeting.now walk.old }
+        requires known { AreNumbered meeting.now walk.old.numbers self.old.found.keys self.old.found.orders }
         requires visited { IsVisited meeting.now place self.old ends.old }
         requires within { place < length self.old.found.orders }
         ensures stands { OnOk result (Stands meeting.now walk.new) }
+        ensures known { OnOk result (AreNumbered meeting.now walk.new.numbers self.new.found.keys self.new.found.orders) }
         ensures visited { OnOk result (HasVisited meeting.now place self.old self.new ends.new) }
         ensures stopped { IfErr result (λ stop. stop ≡ States → HasMoreStates meeting.now self.old.limit) }
     {

@@ -16,10 +16,10 @@ pub struct Found {
 }
 
 impl Model for Found {
-    ghost use Rattle.std.specs.Prelude.{map};
+    ghost use Rattle.std.specs.Prelude.{ℕ, List, map};
     ghost use Rattle.dbtg_explore.specs.Inside.Found.{FoundOrders};
 
-    ghost Value = { FoundOrders };
+    ghost Value = { FoundOrders (List ℕ) };
 
     ghost view = { λ f. record { keys = map (λ k. k.items) f.keys.keys; orders = f.orders.items } };
 }

@@ -1,25 +1,29 @@
-//! The state of a meeting as numbers, which tell it from others.
+//! What the parts of units say, in numbers: how a program stands, and its unit without versions.
 
-ghost use Rattle.dbtg_explore.specs.Inside.Keys.{due_numbers, how_numbers, state_numbers};
-ghost use Rattle.dbtg_explore.specs.Inside.Walks.{IsPlace};
+ghost use Rattle.dbtg_explore.specs.Inside.Keys.{due_numbers, how_numbers};
+ghost use Rattle.dbtg_explore.specs.Inside.Parts.{unit_part};
+ghost use Rattle.dbtg_explore.specs.Inside.Versions.{is_in_order};
+ghost use Rattle.dbtg_explore.specs.Inside.Walks.{AreStanding, IsPlace};
 ghost use Rattle.dbtg_explore.specs.Orders.{IsMeeting};
-ghost use Rattle.dbtg_explore.specs.States.{sequential_after, state_after};
-ghost use Rattle.dbtg_explore.specs.Versions.{unversioned};
+ghost use Rattle.dbtg_explore.specs.States.{sequential_after};
+ghost use Rattle.dbtg_explore.specs.Versions.{unversioned, unversioned_unit};
 ghost use Rattle.dbtg_going.specs.Goings.{comes_of};
-ghost use Rattle.dbtg_outcomes.specs.Results.{in_unit_order};
-ghost use Rattle.dbtg_outcomes.specs.Spelling.{image_numbers, list_numbers, unit_numbers};
-ghost use Rattle.dbtg_unit.specs.Database.State.Image.{image_of};
-ghost use Rattle.std.specs.List.{range_with_len};
-ghost use Rattle.std.specs.Prelude.{◌≡◌, ◌++◌, ◌∷◌, [], flat_map, length, IfOk, OnOk};
+ghost use Rattle.dbtg_outcomes.specs.Spelling.{unit_numbers};
+ghost use Rattle.dbtg_step.specs.Core.Whole.{state_now};
+ghost use Rattle.dbtg_step.specs.Machine.SequentialDatabase.{unit_at};
+ghost use Rattle.dbtg_unit.specs.Database.State.Legal.{Legal};
+ghost use Rattle.dbtg_unit.specs.Database.Laws.StaysLegal.{IsLegalState};
+ghost use Rattle.std.specs.Prelude.{◌≡◌, ◌<◌, ◌++◌, ◌∷◌, [], true, flat_map, option_to_list, IfOk, OnOk};
 
 use crate::meeting::Meeting;
-use crate::unversioned::{unversioned_image, unversioned_units};
+use crate::unversioned::{unversioned_unit, unversioned_units};
 use crate::walk::Walk;
 use dbtg_going::Going;
-use dbtg_outcomes::{Spelled, spell_image, spell_list};
+use dbtg_outcomes::{Spelled, spell_list};
 use dbtg_program::{Due, End};
 use dbtg_schema::Row;
-use dbtg_unit::{Image, Unit};
+use dbtg_step::WholeDatabase;
+use dbtg_unit::Unit;
 use std::alloc::{AllocError, Global};
 
 // The kind of an end, and its line.
@@ -49,71 +53,83 @@ fn spell_going(going: &Going, out: &mut Vec<u64>) -> Result<(), AllocError>
     spell_list(going.state.values(), out)
 }
 
-// Each of these programs.
-fn spell_each_going(goings: &[Going], out: &mut Vec<u64>) -> Result<(), AllocError>
-    ensures { OnOk result (out.new.items ≡ out.old.items ++ flat_map (λ g. due_numbers (comes_of g)) goings.now) }
+// How the program of a unit stands.
+fn spell_program(goings: &[Going], unit: u8, out: &mut Vec<u64>) -> Result<(), AllocError>
+    requires { 0 < unit }
+    ensures { OnOk result (out.new.items ≡ out.old.items ++ flat_map (λ g. due_numbers (comes_of g)) (option_to_list (unit_at goings.now unit))) }
 {
-    for going in goings {
-        spell_going(going, out)?;
+    match goings.get(unit as usize - 1) {
+        Some(going) => spell_going(going, out),
+        None => Ok(()),
     }
-    Ok(())
 }
 
-// How many programs there are, and then each.
-fn spell_programs(goings: &[Going], out: &mut Vec<u64>) -> Result<(), AllocError>
-    ensures { OnOk result (out.new.items ≡ out.old.items ++ list_numbers (λ g. due_numbers (comes_of g)) goings.now) }
+// A unit of the database without versions.
+fn spell_own(
+    alloc: Global,
+    database: &WholeDatabase,
+    own: &Unit,
+    out: &mut Vec<u64>,
+) -> Result<(), AllocError>
+    requires legal { Legal database.now.schema database.now.capacity (state_now database.now).database }
+    requires order { is_in_order own.now.kept ≡ true }
+    ensures { OnOk result (out.new.items ≡ out.old.items ++ unit_numbers (unversioned_unit (state_now database.now).database own.now)) }
 {
-    out.push(goings.len() as u64)?;
-    spell_each_going(goings, out)
+    let unit = unversioned_unit(alloc, database, own)?;
+    unit.spell(out)
+}
+
+// The unit with this number without versions.
+fn spell_unit(
+    alloc: Global,
+    database: &WholeDatabase,
+    unit: u8,
+    out: &mut Vec<u64>,
+) -> Result<(), AllocError>
+    requires numbered { 0 < unit }
+    requires legal { IsLegalState database.now.schema database.now.capacity (state_now database.now) }
+    ensures { OnOk result (out.new.items ≡ out.old.items ++ flat_map unit_numbers (option_to_list (unit_at (unversioned (state_now database.now)).units unit))) }
+{
+    match database.units().get(unit as usize - 1) {
+        Some(own) => spell_own(alloc, database, own, out),
+        None => Ok(()),
+    }
 }
 
 impl<'a> Meeting<'a> {
-    /// The units of a place without the versions of records, of which the image has the list.
+    /// The units of a place without versions.
     pub(crate) fn unversioned_units(
         &self,
         alloc: Global,
         walk: &Walk,
-        image: &Image,
     ) -> Result<Row<Unit>, AllocError>
         requires meeting { IsMeeting self.now }
         requires place { IsPlace self.now walk.now }
-        requires image { image.now ≡ image_of self.now.schema self.now.capacity (sequential_after self.now walk.now.database.making.history).database }
         ensures { IfOk result (λ units. units ≡ (unversioned (sequential_after self.now walk.now.database.making.history)).units) }
     {
-        // Only a legal database has all its live keys in its image, and its history says that it is legal.
+        // Its history says that the database is legal.
         let database = walk.database.database();
         let _history = database.history();
-        unversioned_units(alloc, image.versions.as_slice(), database.units())
+        unversioned_units(alloc, database, database.units())
     }
 
-    // The numbers of a place with this image and these units.
-    fn key_of(
+    /// What the part of a unit says.
+    pub(crate) fn spell_unit_part(
         &self,
         alloc: Global,
-        walk: &Walk,
-        image: &Image,
-        units: &[Unit],
-    ) -> Result<Vec<u64>, AllocError>
-        requires { IsMeeting self.now }
-        ensures { IfOk result (λ key. key.items ≡ image_numbers (in_unit_order (range_with_len 1 (length self.now.programs)) image.now) ++ (list_numbers unit_numbers units.now ++ list_numbers (λ g. due_numbers (comes_of g)) walk.now.goings.items)) }
-    {
-        let mut key = Vec::new(alloc);
-        spell_image(alloc, image, self.units(), &mut key)?;
-        spell_list(units, &mut key)?;
-        spell_programs(walk.goings.as_slice(), &mut key)?;
-        Ok(key)
-    }
-
-    /// The state of a place as numbers. Two places have the same numbers exactly if their states differ at most in the order in which units
-    /// opened an area, and in versions that tell no kept record from its own.
-    pub(crate) fn state_key(&self, alloc: Global, walk: &Walk) -> Result<Vec<u64>, AllocError>
+        database: &WholeDatabase,
+        goings: &[Going],
+        unit: u8,
+        out: &mut Vec<u64>,
+    ) -> Result<(), AllocError>
         requires meeting { IsMeeting self.now }
-        requires place { IsPlace self.now walk.now }
-        ensures { IfOk result (λ key. key.items ≡ state_numbers self.now (state_after self.now walk.now.database.making.history)) }
+        requires standing { AreStanding self.now database.now goings.now }
+        requires numbered { 0 < unit }
+        ensures { OnOk result (out.new.items ≡ out.old.items ++ unit_part self.now database.now.history unit) }
     {
-        let image = walk.database.database().image()?;
-        let units = self.unversioned_units(alloc, walk, &image)?;
-        let image = unversioned_image(alloc, image);
-        self.key_of(alloc, walk, &image, units.as_slice())
+        // Its history says that the database is legal.
+        let _history = database.history();
+        spell_program(goings, unit, out)?;
+        spell_unit(alloc, database, unit, out)
     }
 }

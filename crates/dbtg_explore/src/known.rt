@@ -8,29 +8,29 @@ use indexmap::IndexSet;
 use std::alloc::{AllocError, Global};
 use std::marker::Model;
 
-/// States, as they were found: the numbers of each, which none before it has, and the order that leads there.
+/// States, as they were found: the number of each, which none before it has, and the order that leads there.
 #[derive(Drop)]
 pub struct Known {
-    keys: IndexSet<Vec<u64>>,
+    keys: IndexSet<u32>,
     orders: Orders,
 }
 
 impl Model for Known {
-    ghost use Rattle.std.specs.Prelude.{map};
+    ghost use Rattle.std.specs.Prelude.{ℕ};
     ghost use Rattle.dbtg_explore.specs.Inside.Found.{FoundOrders};
 
-    ghost Value = { FoundOrders };
+    ghost Value = { FoundOrders ℕ };
 
-    ghost view = { λ s. record { keys = map (λ k. k.items) s.keys.keys; orders = s.orders } };
+    ghost view = { λ s. record { keys = s.keys.keys; orders = s.orders } };
 }
 
 impl Known {
     /// The state in which the programs meet, to which the empty order leads.
-    pub fn first(alloc: Global, key: Vec<u64>) -> Result<Self, AllocError>
-        ensures { IfOk result (λ known. known ≡ record { keys = key.items ∷ []; orders = [] ∷ [] }) }
+    pub fn first(alloc: Global, number: u32) -> Result<Self, AllocError>
+        ensures { IfOk result (λ known. known ≡ record { keys = number ∷ []; orders = [] ∷ [] }) }
     {
         let mut keys = IndexSet::new(alloc);
-        keys.insert(key)?;
+        keys.insert(number)?;
         Ok(Self {
             keys,
             orders: Orders::first(alloc),
@@ -44,7 +44,7 @@ impl Known {
         self.orders.len()
     }
 
-    /// The order to the state with this number, from 0.
+    /// The order to the state at this place, from 0.
     pub fn order(&self, alloc: Global, place: usize) -> Result<Vec<u8>, AllocError>
         requires { place < length self.now.orders }
         ensures { IfOk result (λ order. order.items ≡ slice_index_or self.now.orders place []) }
@@ -52,18 +52,18 @@ impl Known {
         self.orders.order(alloc, place)
     }
 
-    /// Appends the state to which one turn more leads, if its key is new. Gives its number, and whether it is new.
+    /// Appends the state to which one turn more leads, if its number is new. Gives its place, and whether it is new.
     pub fn enter(
         &mut self,
-        key: Vec<u64>,
+        number: u32,
         before: usize,
         unit: u8,
     ) -> Result<(usize, bool), AllocError>
         requires { before < length self.old.orders }
-        ensures entered { OnOk result (IsEntered self.old key.items (slice_index_or self.old.orders before [] ++ unit ∷ []) self.new) }
-        ensures new { IfOk result (λ to. to.1 ≡ true → IsPut self.old key.items (slice_index_or self.old.orders before [] ++ unit ∷ []) self.new) }
+        ensures entered { OnOk result (IsEntered self.old number (slice_index_or self.old.orders before [] ++ unit ∷ []) self.new) }
+        ensures new { IfOk result (λ to. to.1 ≡ true → IsPut self.old number (slice_index_or self.old.orders before [] ++ unit ∷ []) self.new) }
     {
-        let (place, is_new) = self.keys.insert_full(key)?;
+        let (place, is_new) = self.keys.insert_full(number)?;
         if is_new {
             self.orders.push(before, unit)?;
         }

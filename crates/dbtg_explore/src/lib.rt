@@ -11,6 +11,7 @@ mod key;
 mod known;
 mod laws;
 mod meeting;
+mod numbering;
 mod orders;
 mod search;
 mod text;

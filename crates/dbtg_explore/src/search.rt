@@ -2,9 +2,11 @@
 //! unit in rising order. So it comes to each state by the first order that leads there.
 
 ghost use Rattle.dbtg_explore.specs.Inside.Walks.{Stands, StandsAt, order_of};
-ghost use Rattle.dbtg_explore.specs.Inside.Steps.{Goes, IsAt, numbers_of};
-ghost use Rattle.dbtg_explore.specs.Orders.{IsMeeting, can_turn};
+ghost use Rattle.dbtg_explore.specs.Inside.Parts.{AreNumbered, IsNumberOf};
+ghost use Rattle.dbtg_explore.specs.Inside.Steps.{Goes, IsAt};
+ghost use Rattle.dbtg_explore.specs.Orders.{IsMeeting, can_turn, history_of};
 ghost use Rattle.dbtg_explore.specs.States.{HasMoreStates};
+ghost use Rattle.dbtg_outcomes.specs.Numbers.{Grow};
 ghost use Rattle.dbtg_outcomes.specs.declared.search.Stop.TheVariants.{States};
 ghost use Rattle.std.specs.Prelude.{◌≡◌, ◌+◌, ◌<◌, ◌++◌, ◌∷◌, [], true, length, slice_index_or, IfErr, IfOk, OnOk};
 
@@ -23,21 +25,22 @@ pub struct Search {
     pub limit: usize,
 }
 
-// The numbers of the state to which the turn of the unit leads from where the walk stands.
-fn key_after<'a>(
+// The number of the state to which the turn of the unit leads from where the walk stands.
+fn number_after<'a>(
     alloc: Global,
     meeting: &Meeting<'a>,
     walk: &mut Walk<'a>,
     unit: u8,
-) -> Result<Vec<u64>, AllocError>
+) -> Result<u32, AllocError>
     requires meeting { IsMeeting meeting.now }
     requires stands { Stands meeting.now walk.old }
     requires turn { can_turn meeting.now walk.old.database.making.history unit ≡ true }
     ensures stands { OnOk result (Stands meeting.now walk.new) }
-    ensures key { IfOk result (λ key. key.items ≡ numbers_of meeting.now (order_of walk.old.turns.items ++ unit ∷ [])) }
+    ensures grown { OnOk result (Grow walk.old.numbers walk.new.numbers) }
+    ensures number { IfOk result (IsNumberOf meeting.now walk.new.numbers (history_of meeting.now (order_of walk.old.turns.items ++ unit ∷ []))) }
 {
     meeting.take_turn(alloc, walk, unit)?;
-    meeting.state_key(alloc, walk)
+    Ok(meeting.state_number(walk))
 }
 
 impl Search {
@@ -51,11 +54,12 @@ impl Search {
         requires meeting { IsMeeting meeting.now }
         requires stands { StandsAt meeting.now [] walk.now }
         ensures at { IfOk result (IsAt meeting.now 0 0) }
+        ensures known { IfOk result (λ search. AreNumbered meeting.now walk.now.numbers search.found.keys search.found.orders) }
         ensures limit { IfOk result (λ search. search.limit ≡ limit) }
         ensures stopped { IfErr result (λ stop. stop ≡ States → HasMoreStates meeting.now limit) }
     {
-        let key = meeting.state_key(alloc, walk)?;
-        let found = Known::first(alloc, key)?;
+        let number = meeting.state_number(walk);
+        let found = Known::first(alloc, number)?;
         if limit < found.len() {
             return Err(Stop::States);
         }
@@ -77,15 +81,17 @@ impl Search {
     ) -> Result<(), Stop>
         requires meeting { IsMeeting meeting.now }
         requires at { IsAt meeting.now place unit self.old }
+        requires known { AreNumbered meeting.now walk.old.numbers self.old.found.keys self.old.found.orders }
         requires within { place < length self.old.found.orders }
         requires here { StandsAt meeting.now (slice_index_or self.old.found.orders place []) walk.old }
         requires turn { can_turn meeting.now walk.old.database.making.history unit ≡ true }
         ensures stands { OnOk result (Stands meeting.now walk.new) }
+        ensures known { OnOk result (AreNumbered meeting.now walk.new.numbers self.new.found.keys self.new.found.orders) }
         ensures goes { OnOk result (Goes meeting.now place (unit + 1) self.old self.new) }
         ensures stopped { IfErr result (λ stop. stop ≡ States → HasMoreStates meeting.now self.old.limit) }
     {
-        let key = key_after(alloc, meeting, walk, unit)?;
-        let (to, _is_new) = self.found.enter(key, place, unit)?;
+        let number = number_after(alloc, meeting, walk, unit)?;
+        let (to, _is_new) = self.found.enter(number, place, unit)?;
         self.edges.push(Edge {
             from: place,
             unit,
@@ -108,9 +114,11 @@ impl Search {
     ) -> Result<(), Stop>
         requires meeting { IsMeeting meeting.now }
         requires at { IsAt meeting.now place unit self.old }
+        requires known { AreNumbered meeting.now walk.old.numbers self.old.found.keys self.old.found.orders }
         requires within { place < length self.old.found.orders }
         requires stands { Stands meeting.now walk.old }
         ensures stands { OnOk result (Stands meeting.now walk.new) }
+        ensures known { OnOk result (AreNumbered meeting.now walk.new.numbers self.new.found.keys self.new.found.orders) }
         ensures goes { OnOk result (Goes meeting.now place (unit + 1) self.old self.new) }
         ensures stopped { IfErr result (λ stop. stop ≡ States → HasMoreStates meeting.now self.old.limit) }
     {
@@ -132,9 +140,11 @@ impl Search {
     ) -> Result<(), Stop>
         requires meeting { IsMeeting meeting.now }
         requires at { IsAt meeting.now place 0 self.old }
+        requires known { AreNumbered meeting.now walk.old.numbers self.old.found.keys self.old.found.orders }
         requires within { place < length self.old.found.orders }
         requires stands { Stands meeting.now walk.old }
         ensures stands { OnOk result (Stands meeting.now walk.new) }
+        ensures known { OnOk result (AreNumbered meeting.now walk.new.numbers self.new.found.keys self.new.found.orders) }
         ensures goes { OnOk result (Goes meeting.now (place + 1) 0 self.old self.new) }
         ensures stopped { IfErr result (λ stop. stop ≡ States → HasMoreStates meeting.now self.old.limit) }
     {

@@ -82,7 +82,7 @@ impl<'a> Meeting<'a> {
         ensures { IfOk result (λ text. text.items ≡ state_text self.now (without_versions (state_after self.now walk.now.database.making.history))) }
     {
         let image = walk.database.database().image()?;
-        let units = self.unversioned_units(alloc, walk, &image)?;
+        let units = self.unversioned_units(alloc, walk)?;
         let reached = reached_of_each(alloc, walk.goings.as_slice())?;
         let mut run = Run {
             results: Row::of(Vec::new(alloc)),

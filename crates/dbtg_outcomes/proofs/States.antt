@@ -10,12 +10,17 @@ pub mod Entered
 pub mod First
 pub mod Histories
 pub mod Layers
+pub mod LeadOn
 pub mod Noted
+pub mod Numbers
 pub mod Placed
+pub mod PutCells
 pub mod Results
 pub mod Runs
 pub mod SameImages
+pub mod SameParts
 pub mod SameStates
 pub mod Searched
+pub mod ShownParts
 pub mod States
 pub mod Walks

@@ -3,7 +3,9 @@
 pub mod Gathered
 pub mod Given
 pub mod Grouped
+pub mod Numbers
 pub mod Outcomes
+pub mod Parts
 pub mod Search
 pub mod Spelling
 pub mod Statuses

@@ -4,8 +4,10 @@ pub mod Counted
 pub mod Groups
 pub mod Laws
 pub mod Named
+pub mod Numbers
 pub mod Orders
 pub mod Outcomes
+pub mod Parts
 pub mod Results
 pub mod Spelling
 pub mod Wishes

@@ -1,7 +1,7 @@
-//! Orders in groups: those of one group have the same key. The turns of the first order of each group are kept, with the number of orders.
-ghost use Rattle.std.specs.Prelude.{◌≡◌, ◌++◌, ◌∷◌, ◌<◌, [], false, length, map, IfOk, IfSome, IfNone, OnOk};
-ghost use Rattle.dbtg_outcomes.specs.Inside.Grouped.{IsAdded, IsAt, keys_of};
-ghost use Rattle.dbtg_outcomes.specs.Groups.{among};
+//! Orders in groups: those of one group have the same key. The turns of the first order of each group are kept, with the number of orders,
+//! under a number that stands for the key.
+ghost use Rattle.std.specs.Prelude.{◌≡◌, ◌++◌, ◌∷◌, [], length, map, IfOk, IfSome, IfNone, OnOk};
+ghost use Rattle.dbtg_outcomes.specs.Inside.Grouped.{IsAdded, IsAt, Lacks};
 
 use crate::count::sum_of;
 use crate::turns::Turn;
@@ -17,19 +17,18 @@ pub struct Group {
     pub orders: Option<u64>,
 }
 
-/// Groups by their keys, in the order in which their first orders came.
+/// Groups by their numbers, in the order in which their first orders came.
 #[derive(Drop)]
 pub struct Groups {
-    groups: IndexMap<Vec<u64>, Group>,
+    groups: IndexMap<u32, Group>,
 }
 
 impl Model for Groups {
-    ghost use Rattle.std.specs.Prelude.{ℕ, List, map};
-    ghost use Rattle.dbtg_outcomes.specs.declared.groups.Group.{Group};
+    ghost use Rattle.dbtg_outcomes.specs.Inside.Grouped.{Numbered};
 
-    ghost Value = { List (List ℕ × Group) };
+    ghost Value = { Numbered };
 
-    ghost view = { λ g. map (λ e. (e.0.items, e.1)) g.groups.entries };
+    ghost view = { λ g. g.groups.entries };
 }
 
 impl Groups {
@@ -49,41 +48,39 @@ impl Groups {
         self.groups.len()
     }
 
-    // The place of the group with this key.
-    fn find(&self, key: &[u64]) -> Option<usize>
-        ensures found { IfSome result (IsAt self.now key.now) }
-        ensures absent { IfNone result (among (keys_of self.now) key.now ≡ false) }
+    // The place of the group under this number.
+    fn find(&self, number: u32) -> Option<usize>
+        ensures found { IfSome result (IsAt self.now number) }
+        ensures absent { IfNone result (Lacks self.now number) }
     {
-        self.groups.get_index_of(key)
+        self.groups.get_index_of(&number)
     }
 
     // Appends a group.
-    fn enter(&mut self, key: Vec<u64>, group: Group) -> Result<(), AllocError>
-        requires { among (keys_of self.old) key.items ≡ false }
-        ensures { OnOk result (self.new ≡ self.old ++ (key.items, group) ∷ []) }
+    fn enter(&mut self, number: u32, group: Group) -> Result<(), AllocError>
+        requires { Lacks self.old number }
+        ensures { OnOk result (self.new ≡ self.old ++ (number, group) ∷ []) }
     {
-        let mut key = key;
-        key.shrink_to_fit();
-        self.groups.insert(key, group)?;
+        self.groups.insert(number, group)?;
         Ok(())
     }
 
-    /// Adds an order that stands for this many orders: to the group with its key, or as a new group after the others.
-    pub fn add(&mut self, key: Vec<u64>, group: Group) -> Result<(), AllocError>
-        ensures { OnOk result (IsAdded self.old key.items group self.new) }
+    /// Adds an order that stands for this many orders: to the group under its number, or as a new group after the others.
+    pub fn add(&mut self, number: u32, group: Group) -> Result<(), AllocError>
+        ensures { OnOk result (IsAdded self.old number group self.new) }
     {
-        match self.find(key.as_slice()) {
+        match self.find(number) {
             Some(at) => {
                 if let Some(known) = self.groups.get_index_mut(at) {
                     known.orders = sum_of(known.orders, group.orders);
                 }
                 Ok(())
             }
-            None => self.enter(key, group),
+            None => self.enter(number, group),
         }
     }
 
-    /// The groups in their order, without their keys.
+    /// The groups in their order, without their numbers.
     pub fn into_groups(self, alloc: Global) -> Result<Vec<Group>, AllocError>
         ensures { IfOk result (λ groups. groups.items ≡ map (λ g. g.1) self) }
     {

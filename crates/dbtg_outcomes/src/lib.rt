@@ -3,6 +3,7 @@
 
 mod answered;
 mod brief;
+mod contents;
 mod count;
 mod facts;
 mod first;
@@ -11,6 +12,8 @@ mod laws;
 mod meeting;
 mod names;
 mod notes;
+mod numbering;
+mod numbers;
 mod outcomes;
 mod parts;
 mod search;
@@ -23,14 +26,15 @@ mod wishes;
 
 pub use answered::Answered;
 pub use brief::{Told, none_before, push_shown};
+pub use contents::Spelling;
 pub use facts::named;
 pub use laws::{
     every_history_comes_out, every_run_comes_out, names_tell_records_apart,
     order_of_opening_is_no_state, orders_are_all_merges,
 };
 pub use meeting::{Meeting, as_numbers};
+pub use numbers::Numbers;
 pub use outcomes::{OneResult, Outcomes, all_outcomes};
-pub use parts::spell_image;
 pub use search::Stop;
 pub use spelled::{Spelled, spell_list};
 pub use told::usage_by_unit;

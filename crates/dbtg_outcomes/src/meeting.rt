@@ -1,6 +1,5 @@
 //! Scripts that run at the same time, and what one order of their statements leads to.
-ghost use Rattle.std.specs.Prelude.{◌≡◌, ◌++◌, ◌∷◌, ◌<◌, ◌≤◌, [], true, length, map, IfOk, OnOk};
-ghost use Rattle.std.specs.List.{range_with_len};
+ghost use Rattle.std.specs.Prelude.{◌≡◌, ◌++◌, ◌∷◌, ◌<◌, ◌≤◌, [], true, length, IfOk, OnOk};
 ghost use Rattle.dbtg_unit.specs.Database.Statements.Fits.{fits};
 ghost use Rattle.dbtg_unit.specs.Database.Laws.Replay.{IsHistoryOf, entries_of};
 ghost use Rattle.dbtg_unit.specs.Database.Laws.Replaying.{statements_of};
@@ -8,12 +7,10 @@ ghost use Rattle.dbtg_step.specs.Core.Whole.{HasMade};
 ghost use Rattle.dbtg_outcomes.specs.Outcomes.{HasStatus, IsMeeting};
 ghost use Rattle.dbtg_outcomes.specs.Inside.Walks.{IsMaking};
 ghost use Rattle.dbtg_outcomes.specs.Brief.{told_of};
-ghost use Rattle.dbtg_outcomes.specs.Results.{answers_told, placed_told, result_text, state_key, told_text};
+ghost use Rattle.dbtg_outcomes.specs.Results.{answers_told, placed_told, result_text, told_text};
 
 use crate::brief::Told;
 use crate::facts::named;
-use crate::parts::spell_image;
-use crate::spelled::{Spelled, spell_list};
 use crate::told::{answers_by_unit, placed_by_unit, result_text, usage_by_unit};
 use dbtg_schema::{Row, Schema};
 use dbtg_script::push_run;
@@ -43,21 +40,10 @@ impl<'a> Model for Meeting<'a> {
 }
 
 // How many statements the unit has made.
-fn made_by(history: &[Entry], unit: u8) -> usize
+pub(crate) fn made_by(history: &[Entry], unit: u8) -> usize
     ensures { result ≡ length (entries_of unit history.now) }
 {
     history.iter().filter(|entry| entry.unit == unit).count()
-}
-
-/// How many statements each unit has made.
-fn made_by_each(alloc: Global, history: &[Entry], units: u8) -> Result<Row<u64>, AllocError>
-    ensures { IfOk result (λ made. made ≡ map (λ u. length (entries_of u history.now)) (range_with_len 1 units)) }
-{
-    let mut made = Row::of(Vec::new(alloc));
-    for before in 0..units {
-        made.push(made_by(history, before + 1) as u64)?;
-    }
-    Ok(made)
 }
 
 /// Bytes as numbers.
@@ -108,40 +94,21 @@ impl<'a> Meeting<'a> {
         }
     }
 
-    /// The state of a database as numbers: everything on which what comes after it depends.
-    pub(crate) fn state_key(
-        &self,
-        alloc: Global,
-        database: &WholeDatabase,
-    ) -> Result<Vec<u64>, AllocError>
-        requires meeting { IsMeeting self.now }
-        requires making { IsMaking self.now (statements_of database.now.history) database.now }
-        ensures { IfOk result (λ key. key.items ≡ state_key self.now (statements_of database.now.history)) }
-    {
-        let history = database.history();
-        let mut key = Vec::new(alloc);
-        made_by_each(alloc, history, self.units())?.spell(&mut key)?;
-        spell_image(alloc, &database.image()?, self.units(), &mut key)?;
-        spell_list(database.units(), &mut key)?;
-        self.answers(alloc, history)?.spell(&mut key)?;
-        Ok(key)
-    }
-
-    /// The text of the result to which the statements of a database lead, byte by byte.
+    /// What tells the result to which the statements of a database lead: its text.
     pub(crate) fn result_key(
         &self,
         alloc: Global,
         database: &WholeDatabase,
-    ) -> Result<Vec<u64>, AllocError>
+    ) -> Result<Vec<u8>, AllocError>
         requires meeting { IsMeeting self.now }
         requires making { IsMaking self.now (statements_of database.now.history) database.now }
-        ensures { IfOk result (λ key. key.items ≡ result_text self.now (statements_of database.now.history)) }
+        ensures { IfOk result (λ text. text.items ≡ result_text self.now (statements_of database.now.history)) }
     {
         let answers = self.answers(alloc, database.history())?;
         let mut image = database.image()?;
         let units = database.units();
         let text = result_text(alloc, self.schema, answers.as_slice(), &mut image, units)?;
-        as_numbers(alloc, text.as_slice())
+        Vec::from_slice(alloc, text.as_slice())
     }
 
     // The answers of a history with the places of their statements, if they tell results apart.

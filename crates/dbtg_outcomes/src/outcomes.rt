@@ -16,6 +16,7 @@ use crate::search::{Search, Stop};
 use crate::turns::units_of;
 use crate::walk::Walk;
 use crate::watch::Watch;
+use dbtg_interned::Texts;
 use dbtg_schema::Row;
 use std::alloc::{AllocError, Global};
 
@@ -69,19 +70,21 @@ fn join_result<'a>(
     walk: &mut Walk<'a>,
     group: &Group,
     results: &mut Groups,
+    texts: &mut Texts,
 ) -> Result<(), AllocError>
     requires meeting { IsMeeting meeting.now }
     requires stands { Stands meeting.now walk.old }
     requires group { HaveStatements meeting.now group.now }
     ensures stands { OnOk result (Stands meeting.now walk.new) }
-    ensures joins { OnOk result (Joins meeting.now group.now results.old results.new) }
+    ensures joins { OnOk result (Joins meeting.now group.now texts.old texts.new results.old results.new) }
 {
     let turns = group.turns.as_slice();
     meeting.go_to(alloc, walk, turns)?;
-    let key = meeting.result_key(alloc, walk.database.database())?;
+    let text = meeting.result_key(alloc, walk.database.database())?;
+    let number = texts.enter(text)?;
     let turns = Row::of(Vec::from_slice(alloc, turns)?);
     let orders = group.orders;
-    results.add(key, Group { turns, orders })
+    results.add(number, Group { turns, orders })
 }
 
 // The groups of the same result.
@@ -96,9 +99,10 @@ fn by_result<'a>(
     requires groups { All (HaveStatements meeting.now) last.now }
     ensures { IfOk result (λ groups. AreByResult meeting.now last.now groups.items) }
 {
+    let mut texts = Texts::new(alloc);
     let mut results = Groups::none(alloc);
     for group in last {
-        join_result(alloc, meeting, walk, group, &mut results)?;
+        join_result(alloc, meeting, walk, group, &mut results, &mut texts)?;
     }
     results.into_groups(alloc)
 }

@@ -1,15 +1,11 @@
 //! The parts of a database and of its units, spelled as numbers.
-ghost use Rattle.std.specs.Prelude.{◌≡◌, ◌++◌, OnOk};
-ghost use Rattle.std.specs.List.{range_with_len};
-ghost use Rattle.dbtg_outcomes.specs.Results.{in_unit_order};
-ghost use Rattle.dbtg_outcomes.specs.Spelling.{stored_numbers, currency_numbers, image_numbers, kept_numbers, key_numbers, mode_numbers, owner_numbers, place_numbers, unit_numbers, value_numbers};
+ghost use Rattle.dbtg_outcomes.specs.Spelling.{currency_numbers, kept_numbers, key_numbers, mode_numbers, owner_numbers, place_numbers, unit_numbers, value_numbers};
 ghost use Rattle.dbtg_outcomes.specs.Inside.Spelling.{currency_apart, kept_apart, key_apart, mode_apart, owner_apart, place_apart, unit_apart, value_apart};
 
 use crate::spelled::{Spelled, spell_list};
-use crate::told::usage_by_unit;
 use dbtg_cells::{DbKey, Mode, Owner, Value};
-use dbtg_unit::{Currency, Image, Kept, Place, Unit};
-use std::alloc::{AllocError, Global};
+use dbtg_unit::{Currency, Kept, Place, Unit};
+use std::alloc::AllocError;
 
 impl Spelled for DbKey {
     ghost numbers = { key_numbers };
@@ -126,29 +122,4 @@ impl Spelled for Unit {
     }
 
     ghost apart = { unit_apart };
-}
-
-// Records, versions and lists.
-fn spell_stored(image: &Image, out: &mut Vec<u64>) -> Result<(), AllocError>
-    ensures { OnOk result (out.new.items ≡ out.old.items ++ stored_numbers image.now) }
-{
-    image.records.spell(out)?;
-    image.versions.spell(out)?;
-    image.lists.spell(out)
-}
-
-/// All of an image, in which the units that have an area open are in the order of their numbers.
-pub fn spell_image(
-    alloc: Global,
-    image: &Image,
-    units: u8,
-    out: &mut Vec<u64>,
-) -> Result<(), AllocError>
-    ensures { OnOk result (out.new.items ≡ out.old.items ++ image_numbers (in_unit_order (range_with_len 1 units) image.now)) }
-{
-    let usage = usage_by_unit(alloc, image.usage.as_slice(), units)?;
-    spell_stored(image, out)?;
-    image.next.spell(out)?;
-    image.last.spell(out)?;
-    usage.spell(out)
 }

@@ -2,13 +2,12 @@
 //! with the first order that leads there and the number of all orders that do.
 ghost use Rattle.std.specs.Prelude.{◌≡◌, ◌≤◌, ◌<◌, ◌∷◌, [], true, is_some, length, All, IfErr, IfOk, MatchResult, OnOk};
 ghost use Rattle.dbtg_outcomes.specs.declared.search.Stop.TheVariants.{Memory, States};
-ghost use Rattle.dbtg_outcomes.specs.Inside.Grouped.{IsAdded};
 ghost use Rattle.dbtg_outcomes.specs.Orders.{count_statements, others};
 ghost use Rattle.dbtg_outcomes.specs.Outcomes.{IsMeeting, count_states, states_within};
-ghost use Rattle.dbtg_outcomes.specs.Results.{state_key, units_of};
+ghost use Rattle.dbtg_outcomes.specs.Results.{units_of};
 ghost use Rattle.dbtg_outcomes.specs.Inside.Search.{IsAt};
 ghost use Rattle.dbtg_outcomes.specs.Inside.Steps.{Advances, Extends, ExtendsAll, HaveStatements, IsAtState, IsOver, IsUnderWay, LeadToMore};
-ghost use Rattle.dbtg_outcomes.specs.Inside.Walks.{Stands, next_turn, order_of, statement_at};
+ghost use Rattle.dbtg_outcomes.specs.Inside.Walks.{Stands, next_turn, statement_at};
 
 use crate::groups::{Group, Groups};
 use crate::meeting::Meeting;
@@ -44,23 +43,6 @@ impl<T: Drop> From<AllocFailed<T>> for Stop {
 }
 
 impl<'a> Meeting<'a> {
-    // Adds the state where the walk stands, to which this many orders lead.
-    fn add_state(
-        &self,
-        alloc: Global,
-        walk: &Walk,
-        orders: Option<u64>,
-        next: &mut Groups,
-    ) -> Result<(), AllocError>
-        requires meeting { IsMeeting self.now }
-        requires stands { Stands self.now walk.now }
-        ensures { OnOk result (IsAdded next.old (state_key self.now (order_of self.now walk.now.turns.items)) (record { turns = walk.now.turns.items; orders = orders }) next.new) }
-    {
-        let key = self.state_key(alloc, walk.database.database())?;
-        let turns = Row::of(Vec::from_slice(alloc, walk.turns.as_slice())?);
-        next.add(key, Group { turns, orders })
-    }
-
     // Extends the order of a group by this turn.
     fn extend_with(
         &self,
@@ -76,10 +58,13 @@ impl<'a> Meeting<'a> {
         requires turn { turn ≡ next_turn turn.unit group.now.turns }
         requires there { is_some (statement_at self.now.scripts turn) ≡ true }
         ensures stands { OnOk result (Stands self.now walk.new) }
-        ensures extends { OnOk result (Extends self.now group.now (turn.unit ∷ []) next.old next.new walk.old.notes.items walk.new.notes.items) }
+        ensures extends { OnOk result (Extends self.now group.now (turn.unit ∷ []) next.old next.new walk.old walk.new) }
     {
         let status = self.turned(alloc, walk, group.turns.as_slice(), turn)?;
-        self.add_state(alloc, walk, group.orders, next)?;
+        let number = self.state_number(walk);
+        let turns = Row::of(Vec::from_slice(alloc, walk.turns.as_slice())?);
+        let orders = group.orders;
+        next.add(number, Group { turns, orders })?;
         let note = Note {
             unit: turn.unit,
             place: turn.place,
@@ -101,7 +86,7 @@ impl<'a> Meeting<'a> {
         requires stands { Stands self.now walk.old }
         requires group { HaveStatements self.now group.now }
         ensures stands { OnOk result (Stands self.now walk.new) }
-        ensures extends { OnOk result (Extends self.now group.now (unit ∷ []) next.old next.new walk.old.notes.items walk.new.notes.items) }
+        ensures extends { OnOk result (Extends self.now group.now (unit ∷ []) next.old next.new walk.old walk.new) }
     {
         let turn = next_turn(group.turns.as_slice(), unit);
         match self.statement_at(turn) {
@@ -122,7 +107,7 @@ impl<'a> Meeting<'a> {
         requires stands { Stands self.now walk.old }
         requires group { HaveStatements self.now group.now }
         ensures stands { OnOk result (Stands self.now walk.new) }
-        ensures extends { OnOk result (Extends self.now group.now (units_of self.now) next.old next.new walk.old.notes.items walk.new.notes.items) }
+        ensures extends { OnOk result (Extends self.now group.now (units_of self.now) next.old next.new walk.old walk.new) }
     {
         for before in 0..self.units() {
             self.extend_by(alloc, walk, group, before + 1, next)?;
@@ -144,7 +129,7 @@ impl<'a> Meeting<'a> {
         requires stands { Stands self.now walk.old }
         requires groups { All (HaveStatements self.now) layer.now }
         ensures stands { OnOk result (Stands self.now walk.new) }
-        ensures all { IfOk result (λ next. ExtendsAll self.now layer.now next walk.old.notes.items walk.new.notes.items) }
+        ensures all { IfOk result (λ next. ExtendsAll self.now layer.now next walk.old walk.new) }
         ensures few { IfOk result (λ next. length next ≤ most) }
         ensures stopped { IfErr result (λ stop. stop ≡ States → LeadToMore self.now layer.now most) }
     {

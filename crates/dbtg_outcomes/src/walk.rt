@@ -1,20 +1,26 @@
 //! A walk from state to state: a database that stands after some turns, and goes to others by way of the turns that both begin with.
-ghost use Rattle.std.specs.Prelude.{◌≡◌, ◌∷◌, ◌++◌, [], true, is_some, option_map, IfOk, OnOk};
+ghost use Rattle.std.specs.Prelude.{◌≡◌, ◌≤◌, ◌∷◌, ◌++◌, [], true, length, is_some, option_map, IfOk, OnOk};
 ghost use Rattle.dbtg_outcomes.specs.Outcomes.{IsMeeting};
+ghost use Rattle.dbtg_outcomes.specs.Numbers.{Grow};
+ghost use Rattle.dbtg_outcomes.specs.Inside.Numbers.{IsNumberOf};
 ghost use Rattle.dbtg_outcomes.specs.Inside.Walks.{AreTaken, HasStatusIn, HasTaken, IsTakenBack, Stands, have_statements, order_of, statement_at};
 
 use crate::meeting::Meeting;
 use crate::notes::Note;
+use crate::numbers::Numbers;
 use crate::turns::{Turn, shared_by};
 use dbtg_step::{ReversibleDatabase, WholeDatabase};
 use dbtg_unit::Statement;
 use std::alloc::{AllocError, Global};
 
-/// A database that stands after these turns, and the statuses that were noted on the way.
+/// A database that stands after these turns, the numbers of the states that it came by, the first before all turns, and the statuses
+/// that were noted on the way.
 #[derive(Drop)]
 pub struct Walk<'a> {
     pub database: ReversibleDatabase<'a>,
     pub turns: Vec<Turn>,
+    pub states: Vec<u32>,
+    pub numbers: Numbers,
     pub notes: Vec<Note>,
 }
 
@@ -22,10 +28,12 @@ impl<'a> Walk<'a> {
     // Takes back the turns behind the first, which are this many.
     fn take_back_to(&mut self, count: usize)
         requires stays { self.old.database.stays ≡ 0 }
+        requires within { count ≤ length self.old.turns.items }
         ensures { IsTakenBack count self.old self.new }
     {
         self.database.take_back_to(count);
         self.turns.truncate(count);
+        self.states.truncate(count + 1);
     }
 }
 
@@ -37,9 +45,15 @@ impl<'a> Meeting<'a> {
         ensures notes { IfOk result (λ walk. walk.notes.items ≡ notes.items) }
     {
         let database = WholeDatabase::opening(alloc, self.schema, self.capacity, self.units())?;
+        let mut numbers = self.no_numbers(alloc)?;
+        let number = self.opening_number(alloc, &mut numbers, &database)?;
+        let mut states = Vec::new(alloc);
+        states.push(number)?;
         Ok(Walk {
             database: ReversibleDatabase::of(alloc, database),
             turns: Vec::new(alloc),
+            states,
+            numbers,
             notes,
         })
     }
@@ -66,9 +80,14 @@ impl<'a> Meeting<'a> {
     {
         match self.statement_at(turn) {
             Some(statement) => {
+                let before = walk.states[walk.turns.len()];
                 let statement = statement.copy(alloc)?;
                 walk.turns.push(turn)?;
-                walk.database.make(turn.unit, statement)
+                walk.database.make(turn.unit, statement)?;
+                let (numbers, database) = (&mut walk.numbers, &walk.database);
+                let number = self.next_number(alloc, numbers, database, before, turn.unit)?;
+                walk.states.push(number)?;
+                Ok(())
             }
             None => Ok(()),
         }
@@ -105,6 +124,7 @@ impl<'a> Meeting<'a> {
         ensures stands { OnOk result (Stands self.now walk.new) }
         ensures turns { OnOk result (walk.new.turns.items ≡ turns.now) }
         ensures notes { OnOk result (walk.new.notes.items ≡ walk.old.notes.items) }
+        ensures grown { OnOk result (Grow walk.old.numbers walk.new.numbers) }
     {
         let shared = shared_by(walk.turns.as_slice(), turns);
         walk.take_back_to(shared);
@@ -126,6 +146,7 @@ impl<'a> Meeting<'a> {
         ensures stands { OnOk result (Stands self.now walk.new) }
         ensures turns { OnOk result (walk.new.turns.items ≡ turns.now ++ turn ∷ []) }
         ensures notes { OnOk result (walk.new.notes.items ≡ walk.old.notes.items) }
+        ensures grown { OnOk result (Grow walk.old.numbers walk.new.numbers) }
         ensures status { IfOk result (HasStatusIn self.now (order_of self.now turns.now) turn) }
     {
         self.go_to(alloc, walk, turns)?;
@@ -133,5 +154,15 @@ impl<'a> Meeting<'a> {
         self.take_turn(alloc, walk, turn)?;
         let made = &walk.database.database().history()[before];
         Ok(made.answer.status.code(&made.statement))
+    }
+
+    /// The number of the state where the walk stands.
+    pub(crate) fn state_number(&self, walk: &Walk) -> u32
+        requires { Stands self.now walk.now }
+        ensures { IsNumberOf self.now walk.now.numbers (order_of self.now walk.now.turns.items) result }
+    {
+        // Unused here; the contract mentions it.
+        let _units = self.scripts.len();
+        walk.states[walk.turns.len()]
     }
 }

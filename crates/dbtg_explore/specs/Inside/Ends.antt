@@ -27,7 +27,7 @@ pub record AreFailuresOf (m : Meeting) (seen : List (List ℕ)) (failures : List
   pub in_order : ArePairwise FailsBefore failures
 
 -- the results after these orders, each under its text
-pub record AreResultsOf (m : Meeting) (seen : List (List ℕ)) (results : FoundOrders) : Type 0 where
+pub record AreResultsOf (m : Meeting) (seen : List (List ℕ)) (results : FoundOrders (List ℕ)) : Type 0 where
   pub firsts : AreFirsts (IsEnd m) (result_text m) seen results.orders
   pub keys_are : results.keys ≡ map (result_text m) results.orders
 
@@ -41,7 +41,7 @@ abbrev pub IsBehind : List (List ℕ) → List ℕ → Type 0
 IsBehind seen o = (p : List ℕ) → Contains seen p → IsBefore p o
 
 -- the result of one more order is noted, which comes after all others
-abbrev pub NotesResult : Meeting → List ℕ → FoundOrders → FoundOrders → Type 0
+abbrev pub NotesResult : Meeting → List ℕ → FoundOrders (List ℕ) → FoundOrders (List ℕ) → Type 0
 NotesResult m o old new = (seen : List (List ℕ)) → IsBehind seen o → AreResultsOf m seen old → AreResultsOf m (seen ++ o ∷ []) new
 
 -- and so are its failures

@@ -1,16 +1,10 @@
--- States as numbers, which tell them apart.
-use Rattle.std.specs.Prelude.{ℕ, List, [], ◌∷◌, ◌++◌, length}
-use Rattle.std.specs.List.{range_with_len}
-use Rattle.dbtg_unit.specs.Database.State.Image.{image_of}
+-- Programs as numbers, which tell them apart.
+use Rattle.std.specs.Prelude.{ℕ, List, [], ◌∷◌, ◌++◌}
 use Rattle.dbtg_program.specs.declared.program.End.{End}
 use Rattle.dbtg_program.specs.declared.program.End.TheVariants.{Stop, Assert, Size, Astray}
 use Rattle.dbtg_program.specs.States.{ProgramState}
 use Rattle.dbtg_program.specs.Going.{Due, due, ended}
-use Rattle.dbtg_outcomes.specs.Results.{in_unit_order}
-use Rattle.dbtg_outcomes.specs.Spelling.{image_numbers, list_numbers, unit_numbers, value_numbers}
-use Rattle.dbtg_explore.specs.Orders.{Meeting}
-use Rattle.dbtg_explore.specs.States.{MeetingState}
-use Rattle.dbtg_explore.specs.Versions.{unversioned}
+use Rattle.dbtg_outcomes.specs.Spelling.{list_numbers, value_numbers}
 
 -- for a program's state the sentence, the status and the values
 abbrev pub program_numbers : ProgramState → List ℕ
@@ -27,10 +21,3 @@ how_numbers (Astray line) = 4 ∷ line ∷ []
 abbrev pub due_numbers : Due → List ℕ
 due_numbers (due state s) = 0 ∷ 0 ∷ program_numbers state
 due_numbers (ended state how) = how_numbers how ++ program_numbers state
-
--- for a state the database without versions and without the order in which units opened an area, the units without versions, and the
--- programs
-abbrev pub state_numbers : Meeting → MeetingState → List ℕ
-state_numbers m state =
-    image_numbers (in_unit_order (range_with_len 1 (length m.programs)) (record (image_of m.schema m.capacity state.sequential.database) { versions = [] }))
-    ++ (list_numbers unit_numbers (unversioned state.sequential).units ++ list_numbers due_numbers state.programs)

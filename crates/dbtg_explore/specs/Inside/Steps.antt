@@ -1,24 +1,18 @@
 -- What the code of a search holds.
 -- m is a meeting, o is an order, i is the place of an order that is found, u is a unit.
-use Rattle.std.specs.Prelude.{ℕ, ◌≡◌, ◌≤◌, ◌++◌, Bool, List, length, map}
+use Rattle.std.specs.Prelude.{ℕ, ◌≡◌, ◌≤◌, ◌++◌, Bool, List, length}
 use Rattle.dbtg_explore.specs.declared.search.Search as given
-use Rattle.dbtg_explore.specs.Inside.Keys.{state_numbers}
 use Rattle.dbtg_explore.specs.Inside.Search.{IsUnderWay}
 use Rattle.dbtg_explore.specs.Orders.{IsOrder, Meeting, can_turn, history_of}
-use Rattle.dbtg_explore.specs.States.{essence_of, state_of}
+use Rattle.dbtg_explore.specs.States.{essence_of}
 
 -- the unit can have its turn after the order
 abbrev pub can_follow : Meeting → List ℕ → ℕ → Bool
 can_follow m o u = can_turn m (history_of m o) u
 
--- the numbers of the state after an order
-abbrev pub numbers_of : Meeting → List ℕ → List ℕ
-numbers_of m o = state_numbers m (state_of m o)
-
--- the search is at place i and unit u, and has each order under the numbers of its state
+-- the search is at place i and unit u
 pub record IsAt (m : Meeting) (i u : ℕ) (s : given.Search) : Type 0 where
   pub under_way : IsUnderWay (IsOrder m) (can_follow m) (essence_of m) s.found.orders i u
-  pub keys_are : s.found.keys ≡ map (numbers_of m) s.found.orders
   pub few : length s.found.orders ≤ s.limit
 
 -- it has gone on to place i and unit u, and kept what it had found

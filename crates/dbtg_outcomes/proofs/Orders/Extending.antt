@@ -1,5 +1,6 @@
 -- Groups that continue with the next statements of units.
--- m is a meeting, g a group, u a unit, x a statement, w an order with a weight.
+-- m is a meeting, g a group, u a unit, x a statement, w an order with a weight; k, l, n are a walk one after another, and so are the groups
+-- a, b, c.
 use Rattle.std.proofs.Common.{◌≡◌, refl, sym, ◌∙◌, ap, subst, ℕ, ◌+◌, ◌<◌, ◌≤◌, List, [], ◌∷◌, ◌++◌, length, get_or, take, drop, true, Option, Some, None, arith, append_assoc, append-nil}
 use Rattle.std.specs.Prelude.{◌&&◌, is_some, option_map, option_to_list}
 use Rattle.std.specs.List.{range_with_len}
@@ -10,15 +11,18 @@ use Rattle.dbtg_unit.specs.declared.statement.Statement.{Statement}
 use Rattle.dbtg_outcomes.specs.declared.groups.Group.{Group}
 use Rattle.dbtg_outcomes.specs.declared.notes.Note.{Note}
 use Rattle.dbtg_outcomes.specs.declared.turns.Turn.{Turn}
+use Rattle.dbtg_outcomes.specs.declared.walk.Walk.{Walk}
 use Rattle.dbtg_outcomes.specs.Inside.Gathered.{each_of, gathered}
-use Rattle.dbtg_outcomes.specs.Inside.Grouped.{IsAdded}
+use Rattle.dbtg_outcomes.specs.Inside.Grouped.{IsAdded, Numbered}
+use Rattle.dbtg_outcomes.specs.Numbers.{AreNumbers, Grow, Numbers}
+use Rattle.dbtg_outcomes.specs.Inside.Numbers.{IsNumberOf}
 use Rattle.dbtg_outcomes.specs.Orders.{extended, extended_by, made, next_of}
 use Rattle.dbtg_outcomes.specs.Outcomes.{HasStatus}
 use Rattle.dbtg_outcomes.specs.Results.{Meeting, state_key, units_of}
-use Rattle.dbtg_outcomes.specs.Inside.Search.{AreHeld, AreNoted, Hold, IsHeld}
+use Rattle.dbtg_outcomes.specs.Inside.Search.{AreHeld, AreNoted, IsHeld}
 use Rattle.dbtg_outcomes.specs.Inside.Statuses.{HasNoted}
 use Rattle.dbtg_outcomes.specs.Inside.Walks.{HasStatusIn, LeadTo, have_statements, next_turn, order_of, statement_at}
-use Rattle.dbtg_outcomes.specs.Inside.Steps.{Extends, ExtendsAll, LeadToMore, next_orders, nexts, with_each}
+use Rattle.dbtg_outcomes.specs.Inside.Steps.{Extends, ExtendsAll, HoldStates, LeadToMore, next_orders, nexts, with_each}
 use Rattle.dbtg_outcomes.proofs.Lists.Gathered.{each_append, gathered_append, gathered_longer}
 use Rattle.dbtg_outcomes.proofs.States.Layers.{stand_length}
 use Rattle.dbtg_outcomes.proofs.Orders.Nexts.{hold_ended, hold_extended, noted_extended}
@@ -29,30 +33,36 @@ use Rattle.dbtg_outcomes.proofs.Lists.Ranges.{next_range}
 module _ (m : Meeting) where
   -- ONE GROUP, UNIT BY UNIT
 
-  pub extends_none : (g : Group) (gs : List (List ℕ × Group)) (notes : List Note) → Extends m g [] gs gs notes notes
-  extends_none g gs notes = record {
-    holds = λ seen w held hold. subst (λ (ws : List (List (ℕ × Statement) × ℕ)). Hold m (state_key m) gs ws) (sym (append-nil seen)) hold;
-    noted = noted_nothing m notes;
+  pub extends_none : (g : Group) (gs : Numbered) (w : Walk) → Extends m g [] gs gs w w
+  extends_none g gs walk = record {
+    holds = λ seen w held hold. subst (λ (ws : List (List (ℕ × Statement) × ℕ)). HoldStates m walk.numbers gs ws) (sym (append-nil seen)) hold;
+    noted = noted_nothing m walk.notes.items;
   }
 
+  -- the walk has gone on to where one statement more is made, and the state there has this number
+  pub record IsNumbered (ts : List Turn) (old new : Walk) (n : ℕ) : Type 0 where
+    pub grown : Grow old.numbers new.numbers
+    pub sound : AreNumbers new.numbers
+    pub is : IsNumberOf m new.numbers (order_of m ts) n
+
   -- a group continues with the next statement of one unit
-  pub extends_one : (g : Group) (u : ℕ) (x : Statement) (ts : List Turn) (place status : ℕ) (old new : List (List ℕ × Group)) (before after : List Note) → next_of m.scripts (order_of m g.turns) u ≡ Some x → LeadTo m ts (order_of m g.turns ++ (u, x) ∷ []) → HasStatus m (order_of m g.turns) u x status → place ≡ made u (order_of m g.turns) → IsAdded old (state_key m (order_of m ts)) (record { turns = ts; orders = g.orders }) new → HasNoted before (record { unit = u; place = place; status = status }) after → Extends m g (u ∷ []) old new before after
-  extends_one g u x ts place status old new before after e leads has p added noted = record {
+  pub extends_one : (g : Group) (u : ℕ) (x : Statement) (ts : List Turn) (n place status : ℕ) (old new : Numbered) (k l : Walk) → next_of m.scripts (order_of m g.turns) u ≡ Some x → LeadTo m ts (order_of m g.turns ++ (u, x) ∷ []) → HasStatus m (order_of m g.turns) u x status → place ≡ made u (order_of m g.turns) → IsNumbered ts k l n → IsAdded old n (record { turns = ts; orders = g.orders }) new → HasNoted k.notes.items (record { unit = u; place = place; status = status }) l.notes.items → Extends m g (u ∷ []) old new k l
+  extends_one g u x ts n place status old new k l e leads has p number added noted = record {
     holds = λ seen w held hold.
-        subst (λ (os : List (List (ℕ × Statement))). Hold m (state_key m) new (seen ++ each_of w.1 os)) (sym (append-nil (extended_by m.scripts w.0 u)))
-        (hold_extended m g u x ts (state_key m (order_of m ts)) old new e leads refl added seen w held hold);
-    noted = noted_extended m (order_of m g.turns) u x place status before after e has p noted;
+        subst (λ (os : List (List (ℕ × Statement))). HoldStates m l.numbers new (seen ++ each_of w.1 os)) (sym (append-nil (extended_by m.scripts w.0 u)))
+        (hold_extended m g u x ts n k.numbers l.numbers old new e leads number.grown number.sound number.is added seen w held hold);
+    noted = noted_extended m (order_of m g.turns) u x place status k.notes.items l.notes.items e has p noted;
   }
 
   -- the same, turn by turn
-  pub extends_turn : (g : Group) (t : Turn) (ts : List Turn) (status : ℕ) (old new : List (List ℕ × Group)) (before after : List Note) → have_statements m g.turns ≡ true → t ≡ next_turn t.unit g.turns → is_some (statement_at m.scripts t) ≡ true → ts ≡ g.turns ++ t ∷ [] → HasStatusIn m (order_of m g.turns) t status → IsAdded old (state_key m (order_of m ts)) (record { turns = ts; orders = g.orders }) new → HasNoted before (record { unit = t.unit; place = t.place; status = status }) after → Extends m g (t.unit ∷ []) old new before after
-  extends_turn g t ts status old new before after have next there turns has added noted =
+  pub extends_turn : (g : Group) (t : Turn) (ts : List Turn) (n status : ℕ) (old new : Numbered) (k l : Walk) → have_statements m g.turns ≡ true → t ≡ next_turn t.unit g.turns → is_some (statement_at m.scripts t) ≡ true → ts ≡ g.turns ++ t ∷ [] → HasStatusIn m (order_of m g.turns) t status → IsNumbered ts k l n → IsAdded old n (record { turns = ts; orders = g.orders }) new → HasNoted k.notes.items (record { unit = t.unit; place = t.place; status = status }) l.notes.items → Extends m g (t.unit ∷ []) old new k l
+  extends_turn g t ts n status old new k l have next there turns has number added noted =
       by (next_of m.scripts (order_of m g.turns) t.unit) refl
     where
       at : statement_at m.scripts t ≡ option_map (λ x. (t.unit, x)) (next_of m.scripts (order_of m g.turns) t.unit)
       at = ap (statement_at m.scripts) next ∙ next_there m t.unit g.turns have
 
-      by : (x : Option Statement) → next_of m.scripts (order_of m g.turns) t.unit ≡ x → Extends m g (t.unit ∷ []) old new before after
+      by : (x : Option Statement) → next_of m.scripts (order_of m g.turns) t.unit ≡ x → Extends m g (t.unit ∷ []) old new k l
       by None e = absurd (false≢true (sym (ap is_some (at ∙ ap (option_map {T = Statement} {U = ℕ × Statement} (λ x. (t.unit, x))) e)) ∙ there))
       by (Some x) e =
           let is : statement_at m.scripts t ≡ Some (t.unit, x) = at ∙ ap (option_map {T = Statement} {U = ℕ × Statement} (λ x. (t.unit, x))) e in
@@ -61,40 +71,40 @@ module _ (m : Meeting) where
             order_is = ap (order_of m) turns ∙ order_append m g.turns (t ∷ []) ∙ ap (λ (o : List (ℕ × Statement)). order_of m g.turns ++ o) one;
             there = ap (have_statements m) turns ∙ there_both m g.turns (t ∷ []) have (ap (λ (o : Option (ℕ × Statement)). is_some o && true) is);
           } in
-          extends_one g t.unit x ts t.place status old new before after e leads (has x is) (ap (λ (u : Turn). u.place) next ∙ sym (made_in_turns m t.unit g.turns have)) added noted
+          extends_one g t.unit x ts n t.place status old new k l e leads (has x is) (ap (λ (u : Turn). u.place) next ∙ sym (made_in_turns m t.unit g.turns have)) number added noted
 
   -- a unit at the end of its script adds nothing
-  pub extends_ended : (g : Group) (u : ℕ) (gs : List (List ℕ × Group)) (notes : List Note) → next_of m.scripts (order_of m g.turns) u ≡ None → Extends m g (u ∷ []) gs gs notes notes
-  extends_ended g u gs notes none = record {
+  pub extends_ended : (g : Group) (u : ℕ) (gs : Numbered) (k : Walk) → next_of m.scripts (order_of m g.turns) u ≡ None → Extends m g (u ∷ []) gs gs k k
+  extends_ended g u gs k none = record {
     holds = λ seen w held hold.
-        subst (λ (os : List (List (ℕ × Statement))). Hold m (state_key m) gs (seen ++ each_of w.1 os)) (sym (append-nil (extended_by m.scripts w.0 u)))
-        (hold_ended m u g gs none seen w held hold);
-    noted = noted_none m (order_of m g.turns) u notes none;
+        subst (λ (os : List (List (ℕ × Statement))). HoldStates m k.numbers gs (seen ++ each_of w.1 os)) (sym (append-nil (extended_by m.scripts w.0 u)))
+        (hold_ended m u g k.numbers gs none seen w held hold);
+    noted = noted_none m (order_of m g.turns) u k.notes.items none;
   }
 
-  pub extends_no_turn : (g : Group) (t : Turn) (u : ℕ) (gs : List (List ℕ × Group)) (notes : List Note) → have_statements m g.turns ≡ true → t ≡ next_turn u g.turns → statement_at m.scripts t ≡ None → Extends m g (u ∷ []) gs gs notes notes
-  extends_no_turn g t u gs notes have next none = extends_ended g u gs notes (by (next_of m.scripts (order_of m g.turns) u) (sym (next_there m u g.turns have) ∙ ap (statement_at m.scripts) (sym next) ∙ none))
+  pub extends_no_turn : (g : Group) (t : Turn) (u : ℕ) (gs : Numbered) (k : Walk) → have_statements m g.turns ≡ true → t ≡ next_turn u g.turns → statement_at m.scripts t ≡ None → Extends m g (u ∷ []) gs gs k k
+  extends_no_turn g t u gs k have next none = extends_ended g u gs k (by (next_of m.scripts (order_of m g.turns) u) (sym (next_there m u g.turns have) ∙ ap (statement_at m.scripts) (sym next) ∙ none))
     where
       by : (x : Option Statement) → option_map {T = Statement} {U = ℕ × Statement} (λ x. (u, x)) x ≡ None → x ≡ None
       by None e = refl
       by (Some x) e = absurd (cc (e))
 
-  pub extends_more : (g : Group) (us vs : List ℕ) (a b c : List (List ℕ × Group)) (k l n : List Note) → Extends m g us a b k l → Extends m g vs b c l n → Extends m g (us ++ vs) a c k n
+  pub extends_more : (g : Group) (us vs : List ℕ) (a b c : Numbered) (k l n : Walk) → Extends m g us a b k l → Extends m g vs b c l n → Extends m g (us ++ vs) a c k n
   extends_more g us vs a b c k l n h r = record {
     holds = λ seen w held hold.
         let first = each_of w.1 (extended m.scripts w.0 us) in
         let rest = each_of w.1 (extended m.scripts w.0 vs) in
         let both : first ++ rest ≡ each_of w.1 (extended m.scripts w.0 (us ++ vs)) =
         sym (ap (each_of w.1) (flat_map-append (extended_by m.scripts w.0) us vs) ∙ each_append w.1 (extended m.scripts w.0 us) (extended m.scripts w.0 vs)) in
-        subst (λ (ws : List (List (ℕ × Statement) × ℕ)). Hold m (state_key m) c ws) (append_assoc seen first rest ∙ ap (λ (ws : List (List (ℕ × Statement) × ℕ)). seen ++ ws) both)
+        subst (λ (ws : List (List (ℕ × Statement) × ℕ)). HoldStates m n.numbers c ws) (append_assoc seen first rest ∙ ap (λ (ws : List (List (ℕ × Statement) × ℕ)). seen ++ ws) both)
         (r.holds (seen ++ first) w held (h.holds seen w held hold));
     noted =
-        subst (λ (ps : List (List (ℕ × Statement) × ℕ)). AreNoted m ps k n) (sym (map-append {B = List (ℕ × Statement) × ℕ} (λ u. (order_of m g.turns, u)) us vs))
-        (noted_append m (with_each (order_of m g.turns) us) (with_each (order_of m g.turns) vs) k l n h.noted r.noted);
+        subst (λ (ps : List (List (ℕ × Statement) × ℕ)). AreNoted m ps k.notes.items n.notes.items) (sym (map-append {B = List (ℕ × Statement) × ℕ} (λ u. (order_of m g.turns, u)) us vs))
+        (noted_append m (with_each (order_of m g.turns) us) (with_each (order_of m g.turns) vs) k.notes.items l.notes.items n.notes.items h.noted r.noted);
   }
 
   -- the next unit
-  pub extends_next : (g : Group) (before : ℕ) (a b c : List (List ℕ × Group)) (k l n : List Note) → Extends m g (range_with_len 1 before) a b k l → Extends m g ((before + 1) ∷ []) b c l n → Extends m g (range_with_len 1 (before + 1)) a c k n
+  pub extends_next : (g : Group) (before : ℕ) (a b c : Numbered) (k l n : Walk) → Extends m g (range_with_len 1 before) a b k l → Extends m g ((before + 1) ∷ []) b c l n → Extends m g (range_with_len 1 (before + 1)) a c k n
   extends_next g before a b c k l n h r =
       subst (λ (us : List ℕ). Extends m g us a c k n) (sym (next_range before)) (extends_more g (range_with_len 1 before) ((before + 1) ∷ []) a b c k l n h r)
 
@@ -134,14 +144,14 @@ module _ (m : Meeting) where
       let one = one_held g parts.rest parts.rests in
       record { front = parts.front; last = one.0; is = ap (λ (l : List (List (ℕ × Statement) × ℕ)). parts.front ++ l) (sym one.1) ∙ parts.is; fronts = parts.fronts; held = one.2 }
 
-  hold_nothing : (ws : List (List (ℕ × Statement) × ℕ)) → AreHeld m [] ws → Hold m (state_key m) [] (next_orders m ws)
-  hold_nothing [] h = tt
-  hold_nothing (w ∷ ws) h = absurd h
+  hold_nothing : (numbers : Numbers) (ws : List (List (ℕ × Statement) × ℕ)) → AreHeld m [] ws → HoldStates m numbers [] (next_orders m ws)
+  hold_nothing numbers [] h = tt
+  hold_nothing numbers (w ∷ ws) h = absurd h
 
-  pub extends_nothing : (notes : List Note) → ExtendsAll m [] [] notes notes
-  extends_nothing notes = record { holds = hold_nothing; noted = noted_nothing m notes }
+  pub extends_nothing : (k : Walk) → ExtendsAll m [] [] k k
+  extends_nothing k = record { holds = hold_nothing k.numbers; noted = noted_nothing m k.notes.items }
 
-  pub extends_last : (gs : List Group) (g : Group) (a b : List (List ℕ × Group)) (k l n : List Note) → ExtendsAll m gs a k l → Extends m g (units_of m) a b l n → ExtendsAll m (gs ++ g ∷ []) b k n
+  pub extends_last : (gs : List Group) (g : Group) (a b : Numbered) (k l n : Walk) → ExtendsAll m gs a k l → Extends m g (units_of m) a b l n → ExtendsAll m (gs ++ g ∷ []) b k n
   extends_last gs g a b k l n h r = record {
     holds = λ ws held.
         let at = last_held gs g ws held in
@@ -150,25 +160,25 @@ module _ (m : Meeting) where
         ap (λ (l : List (List (ℕ × Statement) × ℕ)). next_orders m at.front ++ l) (sym (append-nil of_last))
         ∙ sym (flat_map-append (λ (w : List (ℕ × Statement) × ℕ). each_of w.1 (extended m.scripts w.0 (units_of m))) at.front (at.last ∷ []))
         ∙ ap (next_orders m) at.is in
-        subst (λ (l : List (List (ℕ × Statement) × ℕ)). Hold m (state_key m) b l) all (r.holds (next_orders m at.front) at.last at.held (h.holds at.front at.fronts));
+        subst (λ (l : List (List (ℕ × Statement) × ℕ)). HoldStates m n.numbers b l) all (r.holds (next_orders m at.front) at.last at.held (h.holds at.front at.fronts));
     noted =
         let all : nexts m gs ++ with_each (order_of m g.turns) (units_of m) ≡ nexts m (gs ++ g ∷ []) =
         ap (λ (l : List (List (ℕ × Statement) × ℕ)). nexts m gs ++ l) (sym (append-nil (with_each (order_of m g.turns) (units_of m))))
         ∙ sym (flat_map-append (λ (f : Group). with_each (order_of m f.turns) (units_of m)) gs (g ∷ [])) in
-        subst (λ (ps : List (List (ℕ × Statement) × ℕ)). AreNoted m ps k n) all (noted_append m (nexts m gs) (with_each (order_of m g.turns) (units_of m)) k l n h.noted r.noted);
+        subst (λ (ps : List (List (ℕ × Statement) × ℕ)). AreNoted m ps k.notes.items n.notes.items) all (noted_append m (nexts m gs) (with_each (order_of m g.turns) (units_of m)) k.notes.items l.notes.items n.notes.items h.noted r.noted);
   }
 
   -- the next group of a layer
-  pub extends_group : (layer : List Group) (i : ℕ) (g : Group) (a b : List (List ℕ × Group)) (k l n : List Note) → i < length layer → g ≡ get_or layer i g → ExtendsAll m (take i layer) a k l → Extends m g (units_of m) a b l n → ExtendsAll m (take (i + 1) layer) b k n
+  pub extends_group : (layer : List Group) (i : ℕ) (g : Group) (a b : Numbered) (k l n : Walk) → i < length layer → g ≡ get_or layer i g → ExtendsAll m (take i layer) a k l → Extends m g (units_of m) a b l n → ExtendsAll m (take (i + 1) layer) b k n
   extends_group layer i g a b k l n low is h r =
       let next : take i layer ++ g ∷ [] ≡ take (i + 1) layer = ap (λ (f : Group). take i layer ++ f ∷ []) is ∙ sym (take_more layer i g low) in
       subst (λ (gs : List Group). ExtendsAll m gs b k n) next (extends_last (take i layer) g a b k l n h r)
 
   -- if some of the groups lead to more states than this, all of them do
-  lead_on : (gs hs : List Group) (new : List (List ℕ × Group)) (k n : List Note) (most : ℕ) → ExtendsAll m gs new k n → most < length new → LeadToMore m (gs ++ hs) most
+  lead_on : (gs hs : List Group) (new : Numbered) (k n : Walk) (most : ℕ) → ExtendsAll m gs new k n → most < length new → LeadToMore m (gs ++ hs) most
   lead_on gs hs new k n most h many = λ ws held.
       let parts = split gs hs ws held in
-      let long : length new ≡ length (gathered (state_key m) [] (next_orders m parts.front)) = stand_length m (state_key m) new (gathered (state_key m) [] (next_orders m parts.front)) (h.holds parts.front parts.fronts) in
+      let long : length new ≡ length (gathered (state_key m) [] (next_orders m parts.front)) = stand_length m (IsNumberOf m n.numbers) new (gathered (state_key m) [] (next_orders m parts.front)) (h.holds parts.front parts.fronts) in
       let grown : length (gathered (state_key m) [] (next_orders m parts.front)) ≤ length (gathered (state_key m) (gathered (state_key m) [] (next_orders m parts.front)) (next_orders m parts.rest)) = gathered_longer (state_key m) (gathered (state_key m) [] (next_orders m parts.front)) (next_orders m parts.rest) in
       let all : gathered (state_key m) (gathered (state_key m) [] (next_orders m parts.front)) (next_orders m parts.rest) ≡ gathered (state_key m) [] (next_orders m ws) =
       sym (gathered_append (state_key m) [] (next_orders m parts.front) (next_orders m parts.rest))
@@ -176,7 +186,7 @@ module _ (m : Meeting) where
       let count : length (gathered (state_key m) (gathered (state_key m) [] (next_orders m parts.front)) (next_orders m parts.rest)) ≡ length (gathered (state_key m) [] (next_orders m ws)) = ap (λ (l : List (List (ℕ × Statement) × ℕ)). length l) all in
       omega arith
 
-  pub lead_to_more : (layer : List Group) (i : ℕ) (g : Group) (a b : List (List ℕ × Group)) (k l n : List Note) (most : ℕ) → i < length layer → g ≡ get_or layer i g → ExtendsAll m (take i layer) a k l → Extends m g (units_of m) a b l n → most < length b → LeadToMore m layer most
+  pub lead_to_more : (layer : List Group) (i : ℕ) (g : Group) (a b : Numbered) (k l n : Walk) (most : ℕ) → i < length layer → g ≡ get_or layer i g → ExtendsAll m (take i layer) a k l → Extends m g (units_of m) a b l n → most < length b → LeadToMore m layer most
   lead_to_more layer i g a b k l n most low is h r many =
       subst (λ (gs : List Group). LeadToMore m gs most) (take-append-drop (i + 1) layer)
       (lead_on (take (i + 1) layer) (drop (i + 1) layer) b k n most (extends_group layer i g a b k l n low is h r) many)

@@ -3,6 +3,7 @@
 use Rattle.std.proofs.Common.{◌≡◌, true, refl, sym, ◌∙◌, ap, subst, ℕ, ◌+◌, ◌-◌, ◌<◌, List, [], ◌∷◌, ◌++◌, length, get_or, take, map, Option, Some, arith}
 use Rattle.std.proofs.lemmas.List.{take_more}
 use Rattle.dbtg_unit.specs.declared.statement.Statement.{Statement}
+use Rattle.dbtg_interned.specs.Kept.{IsOnce, Keeps}
 use Rattle.dbtg_outcomes.specs.declared.groups.Group.{Group}
 use Rattle.dbtg_outcomes.specs.declared.notes.Note.{Note}
 use Rattle.dbtg_outcomes.specs.declared.outcomes.Outcomes as given
@@ -11,18 +12,20 @@ use Rattle.dbtg_outcomes.specs.declared.turns.Turn.{Turn}
 use Rattle.dbtg_outcomes.specs.Counted.{counted}
 use Rattle.dbtg_outcomes.specs.Inside.Gathered.{gathered}
 use Rattle.dbtg_outcomes.specs.Inside.Given.{all_orders, one_result}
-use Rattle.dbtg_outcomes.specs.Inside.Grouped.{IsAdded, sum_of}
+use Rattle.dbtg_outcomes.specs.Inside.Grouped.{IsAdded, Numbered, sum_of}
+use Rattle.dbtg_outcomes.specs.Inside.Numbers.{IsTextOf}
 use Rattle.dbtg_outcomes.specs.Groups.{groups}
 use Rattle.dbtg_outcomes.specs.Orders.{count_statements, orders, others}
 use Rattle.dbtg_outcomes.specs.Outcomes.{AreOutcomes, IsMeeting, result_of}
 use Rattle.dbtg_outcomes.specs.Results.{Meeting, result_text}
-use Rattle.dbtg_outcomes.specs.Inside.Search.{AreHeld, Hold, IsAt, IsHeld, layer}
+use Rattle.dbtg_outcomes.specs.Inside.Search.{AreHeld, IsAt, IsHeld, layer}
 use Rattle.dbtg_outcomes.specs.Inside.Statuses.{AreAllAnswered, AreOfNotes}
-use Rattle.dbtg_outcomes.specs.Inside.Steps.{AreByResult, HoldAll, Joins}
+use Rattle.dbtg_outcomes.specs.Inside.Steps.{AreByResult, HoldAll, HoldResults, Joins}
 use Rattle.dbtg_outcomes.specs.Inside.Walks.{LeadTo, have_statements, order_of}
 use Rattle.dbtg_outcomes.proofs.Orders.Extending.{last_held}
 use Rattle.dbtg_outcomes.proofs.Lists.Gathered.{gathered_is, total_groups}
-use Rattle.dbtg_outcomes.proofs.States.Layers.{stand_alone, sum_counted}
+use Rattle.dbtg_outcomes.proofs.States.Layers.{stand_alone, stand_later, sum_counted}
+use Rattle.dbtg_outcomes.proofs.States.Numbers.{text_later, text_same, text_tells}
 use Rattle.dbtg_outcomes.proofs.Orders.Nexts.{hold_next}
 use Rattle.dbtg_outcomes.proofs.Orders.Turns.{units_are}
 use Rattle.dbtg_outcomes.proofs.States.Searched.{all_statuses}
@@ -32,35 +35,37 @@ use Rattle.dbtg_outcomes.proofs.Lists.Weights.{total}
 module _ (m : Meeting) where
   -- GROUP INTO GROUP
 
-  pub joins_one : (g : Group) (ts : List Turn) (key : List ℕ) (old new : List (List ℕ × Group)) → have_statements m g.turns ≡ true → ts ≡ g.turns → key ≡ result_text m (order_of m g.turns) → IsAdded old key (record { turns = ts; orders = g.orders }) new → Joins m g old new
-  joins_one g ts key old new there same k added = record {
+  pub joins_one : (g : Group) (ts : List Turn) (n : ℕ) (before after : List (List ℕ)) (old new : Numbered) → have_statements m g.turns ≡ true → ts ≡ g.turns → Keeps before after → IsOnce after → IsTextOf m after (order_of m g.turns) n → IsAdded old n (record { turns = ts; orders = g.orders }) new → Joins m g before after old new
+  joins_one g ts n before after old new there same kept are is added = record {
     holds = λ seen w held hold.
         let own : IsHeld m (record { turns = ts; orders = g.orders }) w = record { turns = subst (λ (us : List Turn). LeadTo m us w.0) (sym same) held.turns; orders_are = held.orders_are } in
-        hold_next m (result_text m) old new seen key (record { turns = ts; orders = g.orders }) w.0 w.1 hold (k ∙ ap (result_text m) held.turns.order_is) own added;
+        hold_next m (result_text m) (IsTextOf m after) (text_tells m after) (text_same m after are) old new seen n (record { turns = ts; orders = g.orders }) w.0 w.1
+        (stand_later m (IsTextOf m before) (IsTextOf m after) (text_later m before after kept) old (gathered (result_text m) [] seen) hold)
+        (subst (λ (o : List (ℕ × Statement)). IsTextOf m after o n) held.turns.order_is is) own added;
   }
 
-  hold_nothing : (ws : List (List (ℕ × Statement) × ℕ)) → AreHeld m [] ws → Hold m (result_text m) [] ws
-  hold_nothing [] h = tt
-  hold_nothing (w ∷ ws) h = absurd h
+  hold_nothing : (texts : List (List ℕ)) (ws : List (List (ℕ × Statement) × ℕ)) → AreHeld m [] ws → HoldResults m texts [] ws
+  hold_nothing texts [] h = tt
+  hold_nothing texts (w ∷ ws) h = absurd h
 
-  pub holds_nothing : HoldAll m [] []
-  holds_nothing = record { holds = hold_nothing }
+  pub holds_nothing : (texts : List (List ℕ)) → HoldAll m [] texts []
+  holds_nothing texts = record { holds = hold_nothing texts }
 
   -- the next group of the last layer
-  pub holds_next : (last : List Group) (i : ℕ) (g : Group) (old new : List (List ℕ × Group)) → i < length last → g ≡ get_or last i g → HoldAll m (take i last) old → Joins m g old new → HoldAll m (take (i + 1) last) new
-  holds_next last i g old new low is h joins =
+  pub holds_next : (last : List Group) (i : ℕ) (g : Group) (before after : List (List ℕ)) (old new : Numbered) → i < length last → g ≡ get_or last i g → HoldAll m (take i last) before old → Joins m g before after old new → HoldAll m (take (i + 1) last) after new
+  holds_next last i g before after old new low is h joins =
       let next : take i last ++ g ∷ [] ≡ take (i + 1) last = ap (λ (f : Group). take i last ++ f ∷ []) is ∙ sym (take_more last i g low) in
-      subst (λ (gs : List Group). HoldAll m gs new) next (record {
+      subst (λ (gs : List Group). HoldAll m gs after new) next (record {
         holds = λ ws held.
             let at = last_held m (take i last) g ws held in
-            subst (λ (l : List (List (ℕ × Statement) × ℕ)). Hold m (result_text m) new l) at.is (joins.holds at.front at.last at.held (h.holds at.front at.fronts));
+            subst (λ (l : List (List (ℕ × Statement) × ℕ)). HoldResults m after new l) at.is (joins.holds at.front at.last at.held (h.holds at.front at.fronts));
       })
 
-  pub grouped_by_result : (last : List Group) (results : List (List ℕ × Group)) (new : List Group) → HoldAll m last results → new ≡ map (λ g. g.1) results → AreByResult m last new
-  grouped_by_result last results new h is = record {
+  pub grouped_by_result : (last : List Group) (texts : List (List ℕ)) (results : Numbered) (new : List Group) → HoldAll m last texts results → new ≡ map (λ g. g.1) results → AreByResult m last new
+  grouped_by_result last texts results new h is = record {
     held = λ ws held.
         subst (λ (gs : List Group). AreHeld m gs (gathered (result_text m) [] ws)) (sym is)
-        (stand_alone m (result_text m) results (gathered (result_text m) [] ws) (h.holds ws held));
+        (stand_alone m (IsTextOf m texts) results (gathered (result_text m) [] ws) (h.holds ws held));
   }
 
   -- AS THEY ARE RETURNED

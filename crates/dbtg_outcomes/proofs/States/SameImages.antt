@@ -81,7 +81,7 @@ contents_same None q h g e = absurd (false≢true h)
 contents_same (Some r) None h g e = absurd (false≢true g)
 contents_same (Some r) (Some q) h g e = ap Some e
 
-list_same : (l m : Option (List DbKey)) → is_some l ≡ true → is_some m ≡ true → unwrap_or l [] ≡ unwrap_or m [] → l ≡ m
+pub list_same : (l m : Option (List DbKey)) → is_some l ≡ true → is_some m ≡ true → unwrap_or l [] ≡ unwrap_or m [] → l ≡ m
 list_same None m h g e = absurd (false≢true h)
 list_same (Some l) None h g e = absurd (false≢true g)
 list_same (Some l) (Some m) h g e = ap Some e
@@ -136,7 +136,7 @@ module _ (es : List (ℕ × Mode)) where
       different low high false is = refl
       different low high true is = let same = eqb-true e.0 u is in absurd (⊎_elim (λ none. omega (arith, low, same, none)) (λ above. omega (arith, high, same, above)) out)
 
-uses_from : (n : ℕ) (es fs : List (ℕ × Mode)) → list_all (λ e. nat_lt 0 e.0 && nat_le e.0 n) es ≡ true → list_all (λ e. nat_lt 0 e.0 && nat_le e.0 n) fs ≡ true
+pub uses_from : (n : ℕ) (es fs : List (ℕ × Mode)) → list_all (λ e. nat_lt 0 e.0 && nat_le e.0 n) es ≡ true → list_all (λ e. nat_lt 0 e.0 && nat_le e.0 n) fs ≡ true
     → by_unit (range_with_len 1 n) es ≡ by_unit (range_with_len 1 n) fs → (u : ℕ) → uses_of u es ≡ uses_of u fs
 uses_from n es fs all all' same u =
     ⊎_elim

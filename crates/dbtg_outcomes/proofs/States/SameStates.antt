@@ -30,7 +30,7 @@ use Rattle.dbtg_outcomes.proofs.Orders.Begun.{made_more}
 -- ONE MORE STATEMENT
 
 module _ (m : Meeting) where
-  state_more : (state : State) (o : List (ℕ × Statement)) (s : ℕ × Statement) → state_after m.schema m.capacity state (o ++ s ∷ []) ≡ state_after m.schema m.capacity (state_after m.schema m.capacity state o) (s ∷ [])
+  pub state_more : (state : State) (o : List (ℕ × Statement)) (s : ℕ × Statement) → state_after m.schema m.capacity state (o ++ s ∷ []) ≡ state_after m.schema m.capacity (state_after m.schema m.capacity state o) (s ∷ [])
   state_more state [] s = refl
   state_more state (t ∷ o) s = state_more (after_effect state t.0 (effect_of_unit m.schema m.capacity state t.0 t.1)) o s
 
@@ -40,7 +40,7 @@ module _ (m : Meeting) where
       ap (λ l. entry_in m.schema m.capacity state t ++ l) (entries_more (after_effect state t.0 (effect_of_unit m.schema m.capacity state t.0 t.1)) o s)
       ∙ sym (append_assoc (entry_in m.schema m.capacity state t) _ _)
 
-  answers_more : (u : ℕ) (o : List (ℕ × Statement)) (s : ℕ × Statement) → unit_answers m (o ++ s ∷ []) u ≡ unit_answers m o u ++ answers_text m.schema (entries_of u (entry_in m.schema m.capacity (state_of m o) s))
+  pub answers_more : (u : ℕ) (o : List (ℕ × Statement)) (s : ℕ × Statement) → unit_answers m (o ++ s ∷ []) u ≡ unit_answers m o u ++ answers_text m.schema (entries_of u (entry_in m.schema m.capacity (state_of m o) s))
   answers_more u o s =
       let before : List Entry = entries_in m.schema m.capacity (opening_state m.schema (length m.scripts)) o in
       let new : List Entry = entry_in m.schema m.capacity (state_of m o) s in
@@ -115,7 +115,7 @@ module _ (m : Meeting) where
 
   -- THE SAME NEXT STATES
 
-  key_from_state : (o p : List (ℕ × Statement)) → SameState o p → state_key m o ≡ state_key m p
+  pub key_from_state : (o p : List (ℕ × Statement)) → SameState o p → state_key m o ≡ state_key m p
   key_from_state o p h =
       let counts : map (λ u. made u o) (units_of m) ≡ map (λ u. made u p) (units_of m) = map_agrees_on_list (λ u. made u o) (λ u. made u p) (units_of m) h.made_same in
       λ i. list_numbers one_number (counts i) ++ (image_numbers (image_same o p h i) ++ (list_numbers unit_numbers (h.state_same i).units ++ list_numbers (list_numbers one_number) (same_told_texts o p h i)))

@@ -18,6 +18,8 @@ use Rattle.dbtg_outcomes.specs.declared.search.Search as given
 use Rattle.dbtg_outcomes.specs.declared.turns.Turn.{Turn}
 use Rattle.dbtg_outcomes.specs.declared.walk.Walk.{Walk}
 use Rattle.dbtg_outcomes.specs.Inside.Gathered.{gathered}
+use Rattle.dbtg_outcomes.specs.Inside.Grouped.{Numbered}
+use Rattle.dbtg_outcomes.specs.Inside.Numbers.{IsNumberOf}
 use Rattle.dbtg_outcomes.specs.Orders.{completed, count_statements, made, made_first, next_of, orders, orders_after, others}
 use Rattle.dbtg_outcomes.specs.Outcomes.{AreStatuses, Comes, IsMeeting, count_states, states_within}
 use Rattle.dbtg_outcomes.specs.Results.{Meeting, state_key, units_of}
@@ -180,8 +182,8 @@ module _ (m : Meeting) where
   -- ONE MORE STATEMENT
 
   -- a search with one more statement
-  pub record IsNextSearch (old new : given.Search) (next : List (List ℕ × Group)) : Type 0 where
-    pub all : ExtendsAll m old.layer.items next old.walk.notes.items new.walk.notes.items
+  pub record IsNextSearch (old new : given.Search) (next : Numbered) : Type 0 where
+    pub all : ExtendsAll m old.layer.items next old.walk new.walk
     pub few : length next ≤ old.limit - old.states
     pub layer_is : new.layer.items ≡ map (λ g. g.1) next
     pub states_are : new.states ≡ old.states + length next
@@ -201,7 +203,7 @@ module _ (m : Meeting) where
         let over : old.limit < states_within m (suc n) = omega arith in
         subst (λ (k : ℕ). old.limit < states_within m k) next over
 
-    module _ (new : given.Search) (next : List (List ℕ × Group)) (h : IsNextSearch old new next) where
+    module _ (new : given.Search) (next : Numbered) (h : IsNextSearch old new next) where
       new_all : (o : List (ℕ × Statement)) (u : ℕ) (x : Statement) → Contains (orders_after m.first m.scripts n) o → Contains (units_of m) u → next_of m.scripts o u ≡ Some x → HasNote m new.walk.notes.items o u x
       new_all o u x c d e =
           let has = has_group (state_key m) (orders_after m.first m.scripts n) o (contains_in (orders_after m.first m.scripts n) o c) in
@@ -224,9 +226,9 @@ module _ (m : Meeting) where
       pub at_next : IsAt m (suc n) new
       at_next =
           let stands = h.all.holds (layer m n) at.held in
-          let long : length next ≡ length (layer m (suc n)) = stand_length m (state_key m) next _ stands ∙ ap length gathers in
+          let long : length next ≡ length (layer m (suc n)) = stand_length m (IsNumberOf m new.walk.numbers) next _ stands ∙ ap length gathers in
           record {
-            held = subst (λ (gs : List Group). AreHeld m gs (layer m (suc n))) (sym h.layer_is) (subst (λ (ws : List (List (ℕ × Statement) × ℕ)). AreHeld m (map (λ g. g.1) next) ws) gathers (stand_alone m (state_key m) next _ stands));
+            held = subst (λ (gs : List Group). AreHeld m gs (layer m (suc n))) (sym h.layer_is) (subst (λ (ws : List (List (ℕ × Statement) × ℕ)). AreHeld m (map (λ g. g.1) next) ws) gathers (stand_alone m (IsNumberOf m new.walk.numbers) next _ stands));
             states_are = h.states_are ∙ (λ i. at.states_are i + long i);
             stands = h.stands;
             within = let few = h.few in let before = at.within in let now = h.states_are in let same = h.limit_is in omega arith;
@@ -250,13 +252,13 @@ module _ (m : Meeting) where
       omega arith
 
   -- the search goes on by one statement if there is memory
-  pub advances_one : IsMeeting m → (old new : given.Search) (seen : List Group) (next : List (List ℕ × Group)) (count : ℕ) → seen ≡ old.layer.items → ExtendsAll m seen next old.walk.notes.items new.walk.notes.items → length next ≤ old.limit - old.states → count ≡ length next → new.layer.items ≡ map (λ g. g.1) next → new.states ≡ old.states + count → new.limit ≡ old.limit → Stands m new.walk → Advances m 1 old new
+  pub advances_one : IsMeeting m → (old new : given.Search) (seen : List Group) (next : Numbered) (count : ℕ) → seen ≡ old.layer.items → ExtendsAll m seen next old.walk new.walk → length next ≤ old.limit - old.states → count ≡ length next → new.layer.items ≡ map (λ g. g.1) next → new.states ≡ old.states + count → new.limit ≡ old.limit → Stands m new.walk → Advances m 1 old new
   advances_one meets old new seen next count same all few long layer_is states_are limit_is stands = record {
     at = λ n at.
         let more : suc n ≡ n + 1 = omega arith in
         subst (λ (k : ℕ). IsAt m k new) more
         (at_next meets n old at new next (record {
-          all = subst (λ (gs : List Group). ExtendsAll m gs next old.walk.notes.items new.walk.notes.items) same all;
+          all = subst (λ (gs : List Group). ExtendsAll m gs next old.walk new.walk) same all;
           few = few;
           layer_is = layer_is;
           states_are = states_are ∙ ap (λ k. old.states + k) long;

@@ -132,11 +132,14 @@ module _ (m : Meeting) where
     fits_back [] = refl
     fits_back (s ∷ o) = ap (λ b. fits m.schema s.1 && b) (fits_back o)
 
-    pub begun_legal : (n : ℕ) (o : List (ℕ × Statement)) → In o (orders_after m.first m.scripts n) → IsLegalState m.schema m.capacity (state_of m o)
-    begun_legal n o i =
+    pub fitting_legal : (o : List (ℕ × Statement)) → list_all (λ (s : ℕ × Statement). fits m.schema s.1) o ≡ true → IsLegalState m.schema m.capacity (state_of m o)
+    fitting_legal o h =
         let opening : State = opening_state m.schema (length m.scripts) in
         let is : replay m.schema m.capacity opening (as_history o) ≡ state_of m o = (statements_determine m.schema m.capacity opening (as_history o)).state_is ∙ ap (state_of m) (statements_back o) in
-        subst (IsLegalState m.schema m.capacity) is (replay_keeps_legal m.schema m.capacity opening (as_history o) sound (opening_is_legal m.schema m.capacity (length m.scripts)) (fits_back o ∙ orders_fit n o i))
+        subst (IsLegalState m.schema m.capacity) is (replay_keeps_legal m.schema m.capacity opening (as_history o) sound (opening_is_legal m.schema m.capacity (length m.scripts)) (fits_back o ∙ h))
+
+    pub begun_legal : (n : ℕ) (o : List (ℕ × Statement)) → In o (orders_after m.first m.scripts n) → IsLegalState m.schema m.capacity (state_of m o)
+    begun_legal n o i = fitting_legal o (orders_fit n o i)
 
     pub same_state : (n k : ℕ) (o p : List (ℕ × Statement)) → In o (orders_after m.first m.scripts n) → In p (orders_after m.first m.scripts k) → state_key m o ≡ state_key m p → SameState m o p
     same_state n k o p i j e = same_key m o p (begun_legal n o i) (begun_legal k p j) e

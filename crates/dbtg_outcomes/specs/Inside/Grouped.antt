@@ -1,7 +1,6 @@
--- Groups as they are kept: each with its key, its first history, and the number of its orders.
-use Rattle.std.specs.Prelude.{ℕ, ◌≡◌, ◌+◌, false, List, [], ◌∷◌, ◌++◌, Option, Some, None, map, slice_get, slice_set, ◌⊎◌}
+-- Groups as they are kept: each with the number that stands for its key, its first history, and the number of its orders.
+use Rattle.std.specs.Prelude.{ℕ, ◌≡◌, ◌+◌, List, [], ◌∷◌, ◌++◌, ⊤, Option, Some, None, slice_get, slice_set, ◌⊎◌}
 use Rattle.dbtg_outcomes.specs.Counted.{counted}
-use Rattle.dbtg_outcomes.specs.Groups.{among}
 use Rattle.dbtg_outcomes.specs.declared.groups.Group.{Group}
 
 -- the sum of two numbers of orders; none if either is none, or the sum is above what 64 bits can count
@@ -10,21 +9,26 @@ sum_of (Some m) (Some n) = counted (m + n)
 sum_of (Some m) None = None
 sum_of None n = None
 
--- the keys of groups
-abbrev pub keys_of : List (List ℕ × Group) → List (List ℕ)
-keys_of groups = map (λ g. g.0) groups
+-- groups under numbers
+abbrev pub Numbered : Type 0
+Numbered = List (ℕ × Group)
 
--- the group at i has this key
-pub record IsAt (groups : List (List ℕ × Group)) (key : List ℕ) (i : ℕ) : Type 0 where
+-- no group stands under this number
+abbrev pub Lacks : Numbered → ℕ → Type 0
+Lacks [] number = ⊤
+Lacks (g ∷ gs) number = (g.0 ≡ number → ⊥) × Lacks gs number
+
+-- the group at i stands under this number
+pub record IsAt (groups : Numbered) (number : ℕ) (i : ℕ) : Type 0 where
   pub group : Group
-  pub found : slice_get groups i ≡ Some (key, group)
+  pub found : slice_get groups i ≡ Some (number, group)
 
 -- the group at i has this many more orders
-pub record HasMore (old : List (List ℕ × Group)) (key : List ℕ) (orders : Option ℕ) (i : ℕ) (new : List (List ℕ × Group)) : Type 0 where
-  pub at : IsAt old key i
-  pub new_is : new ≡ slice_set old i (key, record at.group { orders = sum_of at.group.orders orders })
+pub record HasMore (old : Numbered) (number : ℕ) (orders : Option ℕ) (i : ℕ) (new : Numbered) : Type 0 where
+  pub at : IsAt old number i
+  pub new_is : new ≡ slice_set old i (number, record at.group { orders = sum_of at.group.orders orders })
 
--- a group with this key is appended, if no group has its key; otherwise the group with its key gets its orders
-abbrev pub IsAdded : List (List ℕ × Group) → List ℕ → Group → List (List ℕ × Group) → Type 0
-IsAdded old key group new =
-    ((among (keys_of old) key ≡ false) × (new ≡ old ++ (key, group) ∷ [])) ⊎ ((i : ℕ) × HasMore old key group.orders i new)
+-- a group is appended under this number, if none stands under it; otherwise the group that does gets its orders
+abbrev pub IsAdded : Numbered → ℕ → Group → Numbered → Type 0
+IsAdded old number group new =
+    (Lacks old number × (new ≡ old ++ (number, group) ∷ [])) ⊎ ((i : ℕ) × HasMore old number group.orders i new)

@@ -8,6 +8,7 @@ use Rattle.dbtg_outcomes.specs.declared.notes.Note.{Note}
 use Rattle.dbtg_outcomes.specs.declared.search.Search as given
 use Rattle.dbtg_outcomes.specs.Counted.{counted}
 use Rattle.dbtg_outcomes.specs.Inside.Gathered.{gathered}
+use Rattle.dbtg_outcomes.specs.Inside.Grouped.{Numbered}
 use Rattle.dbtg_outcomes.specs.Inside.Walks.{LeadTo, Stands}
 use Rattle.dbtg_outcomes.specs.Groups.{groups}
 use Rattle.dbtg_outcomes.specs.Orders.{made, made_first, next_of, orders_after}
@@ -50,16 +51,17 @@ AreHeld m [] (w ∷ ws) = ⊥
 AreHeld m (g ∷ gs) [] = ⊥
 AreHeld m (g ∷ gs) (w ∷ ws) = IsHeld m g w × AreHeld m gs ws
 
--- the same, and each group stands under the key of its order
-abbrev pub Stand : Meeting → (MadeOrder → List ℕ) → List (List ℕ × Group) → List CountedOrder → Type 0
-Stand m key [] [] = ⊤
-Stand m key [] (w ∷ ws) = ⊥
-Stand m key (g ∷ gs) [] = ⊥
-Stand m key (g ∷ gs) (w ∷ ws) = ((g.0 ≡ key w.0) × IsHeld m g.1 w) × Stand m key gs ws
+-- the same, and each group stands under a number that K says its order has
+abbrev pub Stand : Meeting → (MadeOrder → ℕ → Type 0) → Numbered → List CountedOrder → Type 0
+Stand m K [] [] = ⊤
+Stand m K [] (w ∷ ws) = ⊥
+Stand m K (g ∷ gs) [] = ⊥
+Stand m K (g ∷ gs) (w ∷ ws) = (K w.0 g.0 × IsHeld m g.1 w) × Stand m K gs ws
 
--- the orders that were seen are grouped by their keys: a key has one group, which counts all its orders
-abbrev pub Hold : Meeting → (MadeOrder → List ℕ) → List (List ℕ × Group) → List CountedOrder → Type 0
-Hold m key gs seen = Stand m key gs (gathered key [] seen)
+-- the orders that were seen are grouped by their keys: a key has one group, which counts all its orders, under the number that its
+-- first order has
+abbrev pub Hold : Meeting → (MadeOrder → List ℕ) → (MadeOrder → ℕ → Type 0) → Numbered → List CountedOrder → Type 0
+Hold m key K gs seen = Stand m K gs (gathered key [] seen)
 
 -- STATUSES
 

@@ -1,12 +1,17 @@
 -- What the steps of a search do.
--- m is a meeting, g a group, o an order, u a unit, w a counted order, n the number of statements that are made.
+-- m is a meeting, g a group, o an order, u a unit, w a counted order, n the number of statements that are made; a and b are a walk
+-- before and after.
 use Rattle.std.specs.Prelude.{ℕ, ◌≡◌, ◌+◌, ◌<◌, List, [], ◌∷◌, ◌++◌, Some, map, length, true}
 use Rattle.std.specs.List.{flat_map}
 use Rattle.dbtg_outcomes.specs.declared.groups.Group.{Group}
 use Rattle.dbtg_outcomes.specs.declared.notes.Note.{Note}
 use Rattle.dbtg_outcomes.specs.declared.search.Search as given
 use Rattle.dbtg_outcomes.specs.declared.turns.Turn.{Turn}
+use Rattle.dbtg_outcomes.specs.declared.walk.Walk.{Walk}
 use Rattle.dbtg_outcomes.specs.Inside.Gathered.{each_of, gathered}
+use Rattle.dbtg_outcomes.specs.Inside.Grouped.{Numbered}
+use Rattle.dbtg_outcomes.specs.Numbers.{AreNumbers, Grow, Numbers}
+use Rattle.dbtg_outcomes.specs.Inside.Numbers.{IsNumberOf, IsTextOf}
 use Rattle.dbtg_outcomes.specs.Orders.{extended}
 use Rattle.dbtg_outcomes.specs.Outcomes.{states_within}
 use Rattle.dbtg_outcomes.specs.Results.{Meeting, result_text, state_key, units_of}
@@ -31,16 +36,20 @@ nexts m gs = flat_map (λ g. with_each (order_of m g.turns) (units_of m)) gs
 abbrev pub next_orders : Meeting → List CountedOrder → List CountedOrder
 next_orders m ws = flat_map (λ w. each_of w.1 (extended m.scripts w.0 (units_of m))) ws
 
+-- the orders that were seen are grouped by their states, under the numbers of these
+abbrev pub HoldStates : Meeting → Numbers → Numbered → List CountedOrder → Type 0
+HoldStates m numbers gs seen = Hold m (state_key m) (IsNumberOf m numbers) gs seen
+
 -- each of these units that has a next statement makes it after the order of group g. Then the groups are those of the orders seen before
 -- and of the longer ones, and the statuses of these statements are noted
-pub record Extends (m : Meeting) (g : Group) (us : List ℕ) (old new : List (List ℕ × Group)) (before after : List Note) : Type 0 where
-  pub holds : (seen : List CountedOrder) (w : CountedOrder) → IsHeld m g w → Hold m (state_key m) old seen → Hold m (state_key m) new (seen ++ each_of w.1 (extended m.scripts w.0 us))
-  pub noted : AreNoted m (with_each (order_of m g.turns) us) before after
+pub record Extends (m : Meeting) (g : Group) (us : List ℕ) (old new : Numbered) (a b : Walk) : Type 0 where
+  pub holds : (seen : List CountedOrder) (w : CountedOrder) → IsHeld m g w → HoldStates m a.numbers old seen → HoldStates m b.numbers new (seen ++ each_of w.1 (extended m.scripts w.0 us))
+  pub noted : AreNoted m (with_each (order_of m g.turns) us) a.notes.items b.notes.items
 
 -- after the order of each of these groups, each unit that has a next statement makes it
-pub record ExtendsAll (m : Meeting) (gs : List Group) (new : List (List ℕ × Group)) (before after : List Note) : Type 0 where
-  pub holds : (ws : List CountedOrder) → AreHeld m gs ws → Hold m (state_key m) new (next_orders m ws)
-  pub noted : AreNoted m (nexts m gs) before after
+pub record ExtendsAll (m : Meeting) (gs : List Group) (new : Numbered) (a b : Walk) : Type 0 where
+  pub holds : (ws : List CountedOrder) → AreHeld m gs ws → HoldStates m b.numbers new (next_orders m ws)
+  pub noted : AreNoted m (nexts m gs) a.notes.items b.notes.items
 
 -- one statement more leads from these groups to more than `most` states
 abbrev pub LeadToMore : Meeting → List Group → ℕ → Type 0
@@ -72,13 +81,17 @@ IsOver m k s = (n : ℕ) → IsAt m n s → s.limit < states_within m (n + k)
 
 -- RESULTS
 
+-- the orders that were seen are grouped by their results, under the numbers of their texts
+abbrev pub HoldResults : Meeting → List (List ℕ) → Numbered → List CountedOrder → Type 0
+HoldResults m texts gs seen = Hold m (result_text m) (IsTextOf m texts) gs seen
+
 -- group g is added to the group of its result
-pub record Joins (m : Meeting) (g : Group) (old new : List (List ℕ × Group)) : Type 0 where
-  pub holds : (seen : List CountedOrder) (w : CountedOrder) → IsHeld m g w → Hold m (result_text m) old seen → Hold m (result_text m) new (seen ++ w ∷ [])
+pub record Joins (m : Meeting) (g : Group) (before after : List (List ℕ)) (old new : Numbered) : Type 0 where
+  pub holds : (seen : List CountedOrder) (w : CountedOrder) → IsHeld m g w → HoldResults m before old seen → HoldResults m after new (seen ++ w ∷ [])
 
 -- the orders of these groups are grouped by their results
-pub record HoldAll (m : Meeting) (gs : List Group) (new : List (List ℕ × Group)) : Type 0 where
-  pub holds : (ws : List CountedOrder) → AreHeld m gs ws → Hold m (result_text m) new ws
+pub record HoldAll (m : Meeting) (gs : List Group) (texts : List (List ℕ)) (new : Numbered) : Type 0 where
+  pub holds : (ws : List CountedOrder) → AreHeld m gs ws → HoldResults m texts new ws
 
 -- the new groups are those of the same result
 pub record AreByResult (m : Meeting) (last new : List Group) : Type 0 where

@@ -6,5 +6,5 @@ use Rattle.dbtg_outcomes.proofs.outcomes.by_result.Given as goal
 abbrev pub invariant-loop-group : goal.invariant-loop-group
 invariant-loop-group l = record {
   stands : Stands l.meeting l.walk;
-  holds : HoldAll l.meeting (take l.group-index l.last) l.results;
+  holds : HoldAll l.meeting (take l.group-index l.last) l.texts l.results;
 }

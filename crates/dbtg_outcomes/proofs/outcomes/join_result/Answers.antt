@@ -1,8 +1,7 @@
-use Rattle.std.proofs.Common.{◌∙◌, ap, sym, subst}
+use Rattle.std.proofs.Common.{◌∙◌, ap, ℕ, List, Some, sym, subst}
 use Rattle.std.proofs.lemmas.Result.{on_ok_weaker}
 use Rattle.dbtg_unit.specs.Database.Laws.Replaying.{statements_of}
 use Rattle.dbtg_step.specs.Core.Whole.{Making}
-use Rattle.dbtg_outcomes.specs.declared.turns.Turn.{Turn}
 use Rattle.dbtg_outcomes.specs.Inside.Walks.{IsMaking, order_of}
 use Rattle.dbtg_outcomes.specs.Results.{result_text}
 use Rattle.dbtg_outcomes.proofs.States.Results.{joins_one}
@@ -17,7 +16,8 @@ returns-clause-joins c =
     let m = c.args.meeting.now in
     let stands = c.in_ok-go_to.ensures.stands in
     let turns = c.in_ok-go_to.ensures.turns ∙ c.as_slice-turns.ensures in
-    let key = c.in_ok-key.ensures ∙ ap (λ (k : Making). result_text m (statements_of k.history)) c.database.ensures ∙ ap (result_text m) (stands.is_making.made ∙ ap (order_of m) turns) in
+    let text = c.in_ok-text.ensures ∙ ap (λ (k : Making). result_text m (statements_of k.history)) c.database.ensures ∙ ap (result_text m) (stands.is_making.made ∙ ap (order_of m) turns) in
     on_ok_weaker c.add.result
-    (λ added. joins_one m c.args.group.now c.of-turns.result c.in_ok-key.key.items c.args.results.now c.add.new.self c.requires.group (c.of-turns.ensures ∙ c.in_ok-from_slice.ensures.items ∙ c.as_slice-turns.ensures) key added)
+    (λ added. joins_one m c.args.group.now c.of-turns.result c.in_ok-number.number c.args.texts.now c.enter.new.self c.args.results.now c.add.new.self c.requires.group (c.of-turns.ensures ∙ c.in_ok-from_slice.ensures.items ∙ c.as_slice-turns.ensures)
+    c.enter.ensures.keeps c.enter.ensures.once (c.in_ok-number.ensures.number ∙ ap (λ (l : List ℕ). Some l) text) added)
     c.add.ensures

@@ -12,9 +12,6 @@ use Rattle.dbtg_explore.specs.Results.{reached_of}
 use Rattle.dbtg_explore.proofs.Placed.{text_is}
 use Rattle.dbtg_explore.proofs.meeting.Meeting.text.Goals as goal
 
-pub unversioned_units-requires-clause-image : goal.unversioned_units-requires-clause-image
-unversioned_units-requires-clause-image c = c.in_ok-image.ensures ∙ ap (λ (d : Making). image_of d.schema d.capacity (state_now d).database) (c.database.ensures ∙ c.requires.place.database_is)
-
 pub returns : goal.returns
 returns c =
     let image = c.in_ok-image.image in

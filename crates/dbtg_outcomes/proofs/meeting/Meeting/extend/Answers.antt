@@ -5,17 +5,17 @@ use Rattle.dbtg_outcomes.proofs.Orders.Extending.{extends_next, extends_none}
 use Rattle.dbtg_outcomes.proofs.meeting.Meeting.extend.Goals as goal
 
 pub loop-before-init : goal.loop-before-init
-loop-before-init c = record { stands = c.requires.stands; extends = extends_none c.args.self.now c.args.group.now c.args.next.now c.args.walk.now.notes.items }
+loop-before-init c = record { stands = c.requires.stands; extends = extends_none c.args.self.now c.args.group.now c.args.next.now c.args.walk.now }
 
 pub loop-before-preserved : goal.loop-before-preserved
 loop-before-preserved c =
     record {
       stands = c.in_ok-extend_by.ensures.stands;
       extends =
-          extends_next c.args.self.now c.args.group.now c.loop-before.before c.args.next.now c.loop-before.next c.extend_by.new.next c.args.walk.now.notes.items c.loop-before.walk.notes.items c.extend_by.new.walk.notes.items c.loop-before.invariant.extends c.in_ok-extend_by.ensures.extends;
+          extends_next c.args.self.now c.args.group.now c.loop-before.before c.args.next.now c.loop-before.next c.extend_by.new.next c.args.walk.now c.loop-before.walk c.extend_by.new.walk c.loop-before.invariant.extends c.in_ok-extend_by.ensures.extends;
     }
 
 pub returns-clause-extends : goal.returns-clause-extends
 returns-clause-extends c =
     let end : c.loop-before.before ≡ length c.args.self.now.scripts = omega (arith, c.loop-before-test.false, c.units-before-end.ensures) in
-    subst (λ (n : ℕ). Extends c.args.self.now c.args.group.now (range_with_len 1 n) c.args.next.now c.loop-before.next c.args.walk.now.notes.items c.loop-before.walk.notes.items) end c.loop-before.invariant.extends
+    subst (λ (n : ℕ). Extends c.args.self.now c.args.group.now (range_with_len 1 n) c.args.next.now c.loop-before.next c.args.walk.now c.loop-before.walk) end c.loop-before.invariant.extends

@@ -6,5 +6,5 @@ use Rattle.dbtg_outcomes.proofs.meeting.Meeting.extend.Given as goal
 abbrev pub invariant-loop-before : goal.invariant-loop-before
 invariant-loop-before l = record {
   stands : Stands l.self l.walk;
-  extends : Extends l.self l.group (range_with_len 1 l.before) l.initial.next l.next l.initial.walk.notes.items l.walk.notes.items;
+  extends : Extends l.self l.group (range_with_len 1 l.before) l.initial.next l.next l.initial.walk l.walk;
 }

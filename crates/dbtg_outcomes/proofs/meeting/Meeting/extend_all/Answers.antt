@@ -2,6 +2,7 @@ use Rattle.std.proofs.Common.{◌≡◌, ◌≤◌, ℕ, sym, subst, List, [], l
 use Rattle.std.proofs.lemmas.List.{take_all}
 use Rattle.std.proofs.lemmas.Result.{err_from_is_err_and}
 use Rattle.dbtg_outcomes.specs.declared.groups.Group.{Group}
+use Rattle.dbtg_outcomes.specs.Inside.Grouped.{Numbered}
 use Rattle.dbtg_outcomes.specs.Inside.Steps.{ExtendsAll, HaveStatements}
 use Rattle.dbtg_outcomes.proofs.Orders.Extending.{extends_group, extends_nothing, lead_to_more}
 use Rattle.dbtg_outcomes.proofs.meeting.Meeting.extend_all.Goals as goal
@@ -9,8 +10,8 @@ use Rattle.dbtg_outcomes.proofs.meeting.Meeting.extend_all.Goals as goal
 pub loop-group-init : goal.loop-group-init
 loop-group-init g c = record {
   stands = c.requires.stands;
-  all = subst (λ (l : List (List ℕ × Group)). ExtendsAll c.args.self.now [] l c.args.walk.now.notes.items c.args.walk.now.notes.items) (sym c.none-next.ensures) (extends_nothing c.args.self.now c.args.walk.now.notes.items);
-  few = subst (λ (l : List (List ℕ × Group)). length l ≤ c.args.most) (sym c.none-next.ensures) (omega arith);
+  all = subst (λ (l : Numbered). ExtendsAll c.args.self.now [] l c.args.walk.now c.args.walk.now) (sym c.none-next.ensures) (extends_nothing c.args.self.now c.args.walk.now);
+  few = subst (λ (l : Numbered). length l ≤ c.args.most) (sym c.none-next.ensures) (omega arith);
 }
 
 pub extend-requires-clause-group : goal.extend-requires-clause-group
@@ -21,7 +22,7 @@ pub loop-group-preserved : goal.loop-group-preserved
 loop-group-preserved g c = record {
   stands = c.in_ok-extend.ensures.stands;
   all =
-      extends_group c.args.self.now c.args.layer.now c.loop-group.group-index c.group-item.result c.loop-group.next c.extend.new.next c.args.walk.now.notes.items c.loop-group.walk.notes.items c.extend.new.walk.notes.items
+      extends_group c.args.self.now c.args.layer.now c.loop-group.group-index c.group-item.result c.loop-group.next c.extend.new.next c.args.walk.now c.loop-group.walk c.extend.new.walk
       (omega (arith, c.loop-group-test.true)) c.group-item.is c.loop-group.invariant.all c.in_ok-extend.ensures.extends;
   few = omega (arith, c.len.ensures);
 }
@@ -33,10 +34,10 @@ returns-in_err-extend-clause-stopped g c =
 
 pub returns-then-most-len-clause-stopped : goal.returns-then-most-len-clause-stopped
 returns-then-most-len-clause-stopped g c = λ e.
-    lead_to_more c.args.self.now c.args.layer.now c.loop-group.group-index c.group-item.result c.loop-group.next c.extend.new.next c.args.walk.now.notes.items c.loop-group.walk.notes.items c.extend.new.walk.notes.items c.args.most
+    lead_to_more c.args.self.now c.args.layer.now c.loop-group.group-index c.group-item.result c.loop-group.next c.extend.new.next c.args.walk.now c.loop-group.walk c.extend.new.walk c.args.most
     (omega (arith, c.loop-group-test.true)) c.group-item.is c.loop-group.invariant.all c.in_ok-extend.ensures.extends (omega (arith, c.len.ensures))
 
 pub returns-clause-all : goal.returns-clause-all
 returns-clause-all g c =
     let whole : take c.loop-group.group-index c.args.layer.now ≡ c.args.layer.now = take_all c.loop-group.group-index c.args.layer.now (omega (arith, c.loop-group-test.false)) in
-    subst (λ (gs : List Group). ExtendsAll c.args.self.now gs c.loop-group.next c.args.walk.now.notes.items c.loop-group.walk.notes.items) whole c.loop-group.invariant.all
+    subst (λ (gs : List Group). ExtendsAll c.args.self.now gs c.loop-group.next c.args.walk.now c.loop-group.walk) whole c.loop-group.invariant.all

@@ -16,5 +16,5 @@ extend_with-requires-clause-there c = ap is_some (sym c.statement_at.ensures ∙
 pub returns-in-None-clause-extends : goal.returns-in-None-clause-extends
 returns-in-None-clause-extends c =
     let is = c.next_turn-turn.ensures ∙ ap (next_turn c.args.unit) c.as_slice.ensures in
-    extends_no_turn c.args.self.now c.args.group.now c.next_turn-turn.result c.args.unit c.args.next.now c.args.walk.now.notes.items c.requires.group is
+    extends_no_turn c.args.self.now c.args.group.now c.next_turn-turn.result c.args.unit c.args.next.now c.args.walk.now c.requires.group is
     (sym c.statement_at.ensures ∙ ap (option_map (λ x. (c.next_turn-turn.result.unit, x.now))) c.in-None.is)

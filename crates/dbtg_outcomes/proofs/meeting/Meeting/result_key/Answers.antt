@@ -5,6 +5,7 @@ use Rattle.dbtg_script.specs.Printing.Texts.{run_text}
 use Rattle.dbtg_unit.specs.Database.Laws.Replaying.{statements_of}
 use Rattle.dbtg_outcomes.specs.Results.{answers_told, by_unit}
 use Rattle.dbtg_outcomes.proofs.States.Runs.{history_is, image_shown, units_after_order, units_shown}
+use Rattle.std.proofs.lemmas.Result.{IfOk-weaker}
 use Rattle.dbtg_outcomes.proofs.meeting.Meeting.result_key.Goals as goal
 
 pub answers-requires-clause-history : goal.answers-requires-clause-history
@@ -30,7 +31,6 @@ returns c =
     let image = image_shown m order making c.in_ok-image.image c.requires.making c.in_ok-image.ensures in
     let units = units_shown m order making c.units-units.result.now c.requires.making c.units-units.ensures.units in
     let count = ap length units ∙ units_after_order m order in
-    subst (λ (t : List ℕ). IfOk c.as_numbers.result (λ key. key.items ≡ t))
-    (c.as_slice-2.ensures.value ∙ c.in_ok-text.ensures
+    IfOk-weaker c.from_slice.result _ _ (λ text is. is ∙ c.as_slice-2.ensures.value ∙ c.in_ok-text.ensures
     ∙ (λ i. flat_map (λ t. t) (answers i) ++ run_text (c.self.view_is i).schema [] (image i).records (image i).lists (image i).next (map (by_unit (range_with_len 1 (count i))) (image i).usage) (units i)))
-    c.as_numbers.ensures
+    c.from_slice.ensures.items

@@ -1,0 +1,162 @@
+-- Numbers of states, as they are made and kept.
+-- m is a meeting, h is a history, o an order, os are orders, u a unit, c the name of a cell, n and k are numbers of states, d is a database.
+use Rattle.std.proofs.Common.{◌≡◌, refl, sym, ◌∙◌, ap, subst, ℕ, zero, suc, ◌+◌, ◌-◌, ◌<◌, ◌≤◌, Bool, true, false, List, [], ◌∷◌, ◌++◌, length, Some, arith, inl, inr, true≢false, take, slice_get, replicate}
+use Rattle.std.specs.Prelude.{Contains, is_some, option_and_then}
+use Rattle.std.specs.List.{list_all}
+use Rattle.std.proofs.lemmas.Bool.{and_from, and_parts}
+use Rattle.dbtg_schema.specs.Lists.{Lists}
+use Rattle.dbtg_interned.specs.Arrays.{elements, size}
+use Rattle.dbtg_interned.proofs.Public.{zeros_array, zeros_elements}
+use Rattle.dbtg_cells.specs.CellNumbers.{cell_count, cell_number, cells_in_order, is_cell}
+use Rattle.dbtg_cells.specs.declared.name.CellName.{CellName}
+use Rattle.dbtg_cells.proofs.Public.{cell_in_order, has_number, numbered_at}
+use Rattle.dbtg_unit.specs.declared.unit.Entry.{Entry}
+use Rattle.dbtg_unit.specs.Database.State.Base.{Database}
+use Rattle.dbtg_step.specs.Core.Reversible.{OnlyChanged, OnlyLastChanged, is_named, made_first}
+use Rattle.dbtg_step.specs.Core.Whole.{Making, state_now}
+use Rattle.dbtg_going.specs.declared.member.Going.{Going}
+use Rattle.dbtg_outcomes.specs.Numbers.{AreNumbers, Grow, HasPut, IsNumberBut, Numbers, NumbersState}
+use Rattle.dbtg_outcomes.specs.Parts.{Parts, parts_in}
+use Rattle.dbtg_outcomes.proofs.States.Numbers.{grow_more, grow_none, stays_number, unit_put, with_parts}
+use Rattle.dbtg_outcomes.proofs.States.ShownParts.{unchanged_shown}
+use Rattle.dbtg_explore.specs.Orders.{Meeting, history_of}
+use Rattle.dbtg_explore.specs.States.{sequential_after}
+use Rattle.dbtg_explore.specs.Inside.Parts.{AreNumbered, IsNumberOf, cell_part, parts_of, unit_part}
+use Rattle.dbtg_explore.specs.Inside.Walks.{AreStanding}
+use Rattle.dbtg_explore.proofs.Parts.{shown_first}
+use Rattle.dbtg_explore.proofs.Searched.{contains_behind, contains_cases, contains_here, contains_none}
+
+-- ALL CELLS
+
+all_from : (test : CellName → Bool) (ns : List CellName) → ((i : ℕ) (c : CellName) → slice_get ns i ≡ Some c → test c ≡ true) → list_all test ns ≡ true
+all_from test [] h = refl
+all_from test (n ∷ ns) h = and_from _ _ (h zero n refl) (all_from test ns (λ i c e. h (suc i) c e))
+
+-- the names of all cells are names of cells
+pub all_are_cells : (schema : Lists) (capacity : ℕ) → list_all (is_cell schema capacity) (cells_in_order schema capacity) ≡ true
+all_are_cells schema capacity = all_from (is_cell schema capacity) (cells_in_order schema capacity) (λ i c e. sym (has_number schema capacity c) ∙ ap is_some (numbered_at schema capacity i c e))
+
+zero_at : (count i : ℕ) → i < count → slice_get {X = ℕ} (replicate count 0) i ≡ Some 0
+zero_at zero i low = absurd (omega (arith, low))
+zero_at (suc count) zero low = refl
+zero_at (suc count) (suc i) low = zero_at count i (omega (arith, low))
+
+-- the array of zeros says nothing yet of any unit or cell
+pub nothing_said : (p : Parts) (kept : Numbers) → AreNumbers kept → p.count + cell_count p.schema p.capacity ≤ size kept.arrays → IsNumberBut p kept 0 (cells_in_order p.schema p.capacity) 0
+nothing_said p kept once room = record {
+  kept_once = once;
+  room = room;
+  is_array = zeros_array kept.arrays once.arrays;
+  units_are = λ u low high. absurd (omega (arith, low, high));
+  cells_are = λ c k number free. absurd (true≢false (sym (cell_in_order p.schema p.capacity c ∙ sym (has_number p.schema p.capacity c) ∙ ap is_some number) ∙ free));
+  zeros = λ i past low. ap (λ (es : List ℕ). slice_get es i) (zeros_elements kept.arrays once.arrays) ∙ zero_at (size kept.arrays) i low;
+}
+
+-- the array of a state says what is so of the next, but for the units and the cells that are named
+pub but_units : (p : Parts) (unit : ℕ → List ℕ) (cell : CellName → List ℕ) (kept : Numbers) (names : List CellName) (n : ℕ) → NumbersState p kept n → ((c : CellName) → is_named names c ≡ false → cell c ≡ p.cell c) → IsNumberBut (with_parts p unit cell) kept 0 names n
+but_units p unit cell kept names n h same = record {
+  kept_once = h.kept_once;
+  room = h.room;
+  is_array = h.is_array;
+  units_are = λ u low high. absurd (omega (arith, low, high));
+  cells_are = λ c k number free. h.cells_are c k number refl ∙ ap Some (sym (same c free));
+  zeros = h.zeros;
+}
+
+-- UNITS, ONE AFTER ANOTHER
+
+module _ (p : Parts) where
+  -- this many units are put
+  pub record ArePut (old new : Numbers) (units array n : ℕ) : Type 0 where
+    pub keeps : Grow old new
+    pub but : (names : List CellName) → IsNumberBut p old 0 names array → IsNumberBut p new units names n
+
+  pub none_put : (old : Numbers) (array : ℕ) → ArePut old old 0 array array
+  none_put old array = record { keeps = grow_none old; but = λ names h. h }
+
+  pub one_put : (old mid new : Numbers) (units array n k : ℕ) → units < p.count → ArePut old mid units array n → HasPut mid new n (units + 1 - 1) (p.unit (units + 1)) k → ArePut old new (units + 1) array k
+  one_put old mid new units array n k low so_far put =
+      let next : units + 1 ≡ suc units = omega arith in
+      let place : units + 1 - 1 ≡ units = omega arith in
+      let there : HasPut mid new n units (p.unit (suc units)) k = subst (λ j. HasPut mid new n j (p.unit (suc units)) k) place (subst (λ v. HasPut mid new n (units + 1 - 1) (p.unit v) k) next put) in
+      record {
+        keeps = grow_more old mid new so_far.keeps put.keeps;
+        but = λ names h. subst (λ v. IsNumberBut p new v names k) (sym next) (unit_put p mid new units names n k low (so_far.but names h) there);
+      }
+
+-- STATES
+
+module _ (m : Meeting) where
+  -- what a database says, spelled without versions
+  pub parts_there : (d : Making) (goings : List Going) → AreStanding m d goings → parts_in false (length m.programs) d (unit_part m d.history) ≡ parts_of m d.history
+  parts_there d goings w =
+      ap (λ (k : Making). parts_in false (length m.programs) k (unit_part m d.history)) w.database_is
+      ∙ (λ i. record (parts_of m d.history) { cell = λ c. shown_first m.schema m.capacity (sequential_after m d.history).database (length m.programs) c i })
+
+  module _ (d : Making) (goings : List Going) (standing : AreStanding m d goings) (versions : Bool) (units : ℕ) (first : versions ≡ false) (count : units ≡ length m.programs) where
+    pub spelled_but : (kept : Numbers) (names : List CellName) (n : ℕ) → IsNumberBut (parts_of m d.history) kept (length m.programs) names n → IsNumberBut (parts_in versions units d (unit_part m d.history)) kept units names n
+    spelled_but kept names n h =
+        subst (λ b. IsNumberBut (parts_in b units d (unit_part m d.history)) kept units names n) (sym first)
+        (subst (λ j. IsNumberBut (parts_in false j d (unit_part m d.history)) kept j names n) (sym count)
+        (subst (λ (p : Parts). IsNumberBut p kept (length m.programs) names n) (sym (parts_there d goings standing)) h))
+
+    pub spelled_state : (kept : Numbers) (n : ℕ) → NumbersState (parts_in versions units d (unit_part m d.history)) kept n → IsNumberOf m kept d.history n
+    spelled_state kept n h = record {
+      number =
+          subst (λ (p : Parts). IsNumberBut p kept (length m.programs) [] n) (parts_there d goings standing)
+          (subst (λ j. IsNumberBut (parts_in false j d (unit_part m d.history)) kept j [] n) count
+          (subst (λ b. IsNumberBut (parts_in b units d (unit_part m d.history)) kept units [] n) first h));
+    }
+
+  -- the array of the state before says what is so of all cells but those that changed
+  pub all_but : (d : Making) (goings : List Going) (names : List CellName) (kept : Numbers) (n : ℕ) → AreStanding m d goings → OnlyLastChanged d names → IsNumberOf m kept (take (length d.history - 1) d.history) n → IsNumberBut (parts_of m d.history) kept 0 names n
+  all_but d goings names kept n w only h =
+      but_units (parts_of m before) (unit_part m d.history) (cell_part m d.history) kept names n h.number
+      (λ c free.
+      sym (shown_first m.schema m.capacity (sequential_after m d.history).database (length m.programs) c)
+      ∙ unchanged_shown false m.schema m.capacity (length m.programs) names (sequential_after m before).database (sequential_after m d.history).database changed c free
+      ∙ shown_first m.schema m.capacity (sequential_after m before).database (length m.programs) c) where
+        before : List Entry
+        before = take (length d.history - 1) d.history
+
+        changed : OnlyChanged m.schema m.capacity names (sequential_after m (take (length d.history - 1) d.history)).database (sequential_after m d.history).database
+        changed = subst (λ (k : Making). OnlyLastChanged k names) w.database_is only
+
+  -- a number stays when others are added
+  pub number_later : (a b : Numbers) → AreNumbers b → Grow a b → (h : List Entry) (n : ℕ) → IsNumberOf m a h n → IsNumberOf m b h n
+  number_later a b once grown h n number = record { number = stays_number (parts_of m h) a b (length m.programs) [] n once grown number.number }
+
+  -- ORDERS WITH THEIR NUMBERS
+
+  pub numbered_later : (a b : Numbers) → AreNumbers b → Grow a b → (ns : List ℕ) (os : List (List ℕ)) → AreNumbered m a ns os → AreNumbered m b ns os
+  numbered_later a b once grown [] [] h = tt
+  numbered_later a b once grown [] (o ∷ os) h = absurd h
+  numbered_later a b once grown (n ∷ ns) [] h = absurd h
+  numbered_later a b once grown (n ∷ ns) (o ∷ os) h = (number_later a b once grown (history_of m o) n h.0, numbered_later a b once grown ns os h.1)
+
+  module _ (kept : Numbers) where
+    pub numbered_more : (ns : List ℕ) (os : List (List ℕ)) (n : ℕ) (o : List ℕ) → AreNumbered m kept ns os → IsNumberOf m kept (history_of m o) n → AreNumbered m kept (ns ++ n ∷ []) (os ++ o ∷ [])
+    numbered_more [] [] n o h number = (number, tt)
+    numbered_more [] (p ∷ os) n o h number = absurd h
+    numbered_more (k ∷ ns) [] n o h number = absurd h
+    numbered_more (k ∷ ns) (p ∷ os) n o h number = (h.0, numbered_more ns os n o h.1 number)
+
+    -- each number is that of an order
+    pub numbered_order : (ns : List ℕ) (os : List (List ℕ)) (n : ℕ) → AreNumbered m kept ns os → Contains ns n → (o : List ℕ) × Contains os o × IsNumberOf m kept (history_of m o) n
+    numbered_order [] os n h c = absurd (contains_none n c)
+    numbered_order (k ∷ ns) [] n h c = absurd h
+    numbered_order (k ∷ ns) (p ∷ os) n h c =
+        elim (contains_cases k ns n c) [
+          | inl same ↦ (p, contains_here p os, subst (IsNumberOf m kept (history_of m p)) same h.0)
+          | inr d ↦ let r = numbered_order ns os n h.1 d in (r.0, contains_behind p os r.0 r.1, r.2)
+        ]
+
+    -- each order has a number
+    pub order_numbered : (ns : List ℕ) (os : List (List ℕ)) (o : List ℕ) → AreNumbered m kept ns os → Contains os o → (n : ℕ) × Contains ns n × IsNumberOf m kept (history_of m o) n
+    order_numbered ns [] o h c = absurd (contains_none o c)
+    order_numbered [] (p ∷ os) o h c = absurd h
+    order_numbered (k ∷ ns) (p ∷ os) o h c =
+        elim (contains_cases p os o c) [
+          | inl same ↦ (k, contains_here k ns, subst (λ q. IsNumberOf m kept (history_of m q) k) same h.0)
+          | inr d ↦ let r = order_numbered ns os o h.1 d in (r.0, contains_behind k ns r.0 r.1, r.2)
+        ]

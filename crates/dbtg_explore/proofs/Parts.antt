@@ -1,0 +1,165 @@
+-- Two states of a meeting have the same essence exactly if each part of them is the same.
+-- m is a meeting, u a unit, c the name of a cell, h and g are histories, o and p are orders; db is a database.
+use Rattle.std.proofs.Common.{◌≡◌, refl, sym, ◌∙◌, ap, subst, ◌&&◌, ℕ, zero, suc, ◌+◌, ◌<◌, ◌≤◌, true, false, List, [], ◌∷◌, ◌++◌, append-nil, length, Option, Some, None, map, arith, slice_get}
+use Rattle.std.specs.Prelude.{flat_map, is_some, nat_le, nat_lt, option_map, option_to_list}
+use Rattle.std.specs.List.{list_all, range_with_len}
+use Rattle.std.proofs.lemmas.List.{length-map}
+use Rattle.dbtg_schema.specs.Lists.{Lists}
+use Rattle.dbtg_cells.specs.CellNumbers.{is_cell}
+use Rattle.dbtg_cells.specs.declared.name.CellName.{CellName}
+use Rattle.dbtg_cells.specs.declared.name.CellName.TheVariants.{Usage, Extent, Ring, Slot}
+use Rattle.dbtg_cells.proofs.Public.{there_is}
+use Rattle.dbtg_unit.specs.declared.unit.Entry.{Entry}
+use Rattle.dbtg_unit.specs.declared.unit.Unit.{Unit}
+use Rattle.dbtg_unit.specs.Database.State.Base.{Database, Record, key_at}
+use Rattle.dbtg_unit.specs.Database.State.Cells.{cell, owner_at, slot_of}
+use Rattle.dbtg_unit.specs.Database.Laws.StaysLegal.{IsLegalState}
+use Rattle.dbtg_program.specs.declared.program.Program.{Program}
+use Rattle.dbtg_program.specs.Going.{Due}
+use Rattle.dbtg_step.specs.Machine.SequentialDatabase.{unit_at}
+use Rattle.dbtg_going.specs.Turns.{comes}
+use Rattle.dbtg_outcomes.specs.Numbers.{Numbers}
+use Rattle.dbtg_outcomes.specs.Parts.{last_at, number_numbers, record_of, shown_numbers}
+use Rattle.dbtg_outcomes.specs.Inside.Parts.{cell_numbers}
+use Rattle.dbtg_outcomes.specs.Spelling.{unit_numbers}
+use Rattle.dbtg_outcomes.proofs.States.Numbers.{HaveTheSame, one_number_of, same_by_number, with_parts}
+use Rattle.dbtg_outcomes.proofs.States.SameImages.{uses_from}
+use Rattle.dbtg_outcomes.proofs.States.SameParts.{cells_same, same_at_each, same_last, same_lists, same_records, same_users, unit_spelled}
+use Rattle.dbtg_outcomes.proofs.States.ShownParts.{keys_said}
+use Rattle.dbtg_explore.specs.Orders.{IsMeeting, Meeting, history_of}
+use Rattle.dbtg_explore.specs.States.{Essence, comes_of_each, essence, essence_of, sequential_after, state_after, state_of}
+use Rattle.dbtg_explore.specs.Versions.{at_first, unversioned, unversioned_database, unversioned_unit}
+use Rattle.dbtg_explore.specs.Inside.Keys.{due_numbers}
+use Rattle.dbtg_explore.specs.Inside.Parts.{IsNumberOf, cell_part, parts_of, unit_part}
+use Rattle.dbtg_explore.proofs.Alike.{comes_at}
+use Rattle.dbtg_explore.proofs.Keyed.{due_apart, legal, said_comes, units_count}
+use Rattle.dbtg_explore.proofs.Versions.Images.{legal_first}
+
+-- WHAT CELLS SHOW WITHOUT VERSIONS
+
+module _ (schema : Lists) (capacity : ℕ) (db : Database) where
+  record_first : (r : Option Record) (t n : ℕ) → option_map (record_of false) (option_map (slot_of schema capacity db (key_at db t n)) r) ≡ option_map at_first r
+  record_first None t n = refl
+  record_first (Some r) t n = refl
+
+  pub shown_first : (units : ℕ) (c : CellName) → shown_numbers false units (last_at db c) (cell schema capacity db c) ≡ cell_numbers units (unversioned_database db) c
+  unfolding cell
+  shown_first units (Usage a) = refl
+  shown_first units (Extent t) = refl
+  shown_first units (Ring s o) = keys_said schema capacity db s (owner_at db o)
+  shown_first units (Slot t n) = ap (number_numbers (db.last t n)) (record_first (db.records (key_at db t n)) t n)
+
+-- THE SAME PARTS
+
+some_at : {X : Type 0} (xs : List X) (v : ℕ) → 0 < v → v ≤ length xs → is_some (unit_at xs v) ≡ true
+unfolding unit_at
+some_at xs zero none within = absurd (omega (arith, none))
+some_at xs (suc i) low within = ap is_some (there_is xs i (omega (arith, within))).1
+
+module _ (m : Meeting) where
+  -- the parts of two states are the same
+  record HaveSameParts (h g : List Entry) : Type 0 where
+    units : (u : ℕ) → 0 < u → u ≤ length m.programs → unit_part m h u ≡ unit_part m g u
+    cells : (c : CellName) → is_cell m.schema m.capacity c ≡ true → cell_part m h c ≡ cell_part m g c
+
+  -- so they are if the essence is
+  parts_same : (h g : List Entry) → essence (state_after m h) ≡ essence (state_after m g) → HaveSameParts h g
+  parts_same h g e = record {
+    units = λ u low high. λ i. flat_map due_numbers (option_to_list (unit_at (e i).programs u)) ++ flat_map unit_numbers (option_to_list (unit_at (e i).sequential.units u));
+    cells = λ c there. cells_same (length m.programs) (unversioned (sequential_after m h)) (unversioned (sequential_after m g)) (ap (λ (s : Essence). s.sequential) e) c;
+  }
+
+  -- and only then
+  dues_spelled : (x y : Due) (a b : List ℕ) → flat_map due_numbers (option_to_list (Some x)) ++ a ≡ flat_map due_numbers (option_to_list (Some y)) ++ b → due_numbers x ++ a ≡ due_numbers y ++ b
+  dues_spelled x y a b e = sym (ap (λ l. l ++ a) (append-nil (due_numbers x))) ∙ e ∙ ap (λ l. l ++ b) (append-nil (due_numbers y))
+
+  module _ (meets : IsMeeting m) (o p : List ℕ) (same : HaveSameParts (history_of m o) (history_of m p)) where
+    abbrev h : List Entry
+    h = history_of m o
+
+    abbrev g : List Entry
+    g = history_of m p
+
+    each_unit : (u : ℕ) → 0 < u → u ≤ length m.programs → (program : Program) → unit_at m.programs u ≡ Some program
+        → (unit_at (state_after m h).programs u ≡ unit_at (state_after m g).programs u) × (unit_at (unversioned (sequential_after m h)).units u ≡ unit_at (unversioned (sequential_after m g)).units u)
+    each_unit u low high program found =
+        let x = comes m.schema program u h in
+        let y = comes m.schema program u g in
+        let here : unit_at (state_after m h).programs u ≡ Some x = comes_at m h u ∙ ap (option_map (λ (q : Program). comes m.schema q u h)) found in
+        let there : unit_at (state_after m g).programs u ≡ Some y = comes_at m g u ∙ ap (option_map (λ (q : Program). comes m.schema q u g)) found in
+        let rest_of : List Entry → List ℕ = λ es. flat_map unit_numbers (option_to_list (unit_at (unversioned (sequential_after m es)).units u)) in
+        let spelled : flat_map due_numbers (option_to_list (Some x)) ++ rest_of h ≡ flat_map due_numbers (option_to_list (Some y)) ++ rest_of g
+        = sym (ap (λ d. flat_map due_numbers (option_to_list d) ++ rest_of h) here) ∙ same.units u low high ∙ ap (λ d. flat_map due_numbers (option_to_list d) ++ rest_of g) there in
+        let both = due_apart m.schema program x y (rest_of h) (rest_of g) (said_comes m program u h) (said_comes m program u g) (dues_spelled x y (rest_of h) (rest_of g) spelled) in
+        let units = unit_spelled _ _ [] [] (unit_there (history_of m o) u low (high_at o high)) (unit_there (history_of m p) u low (high_at p high)) (ap (λ l. l ++ []) both.1) in
+        (here ∙ ap Some both.0 ∙ sym there, units.0) where
+          high_at : (q : List ℕ) → u ≤ length m.programs → u ≤ length (unversioned (sequential_after m (history_of m q))).units
+          high_at q within =
+              let counted = units_count m q in
+              let long = length-map (sequential_after m (history_of m q)).units (unversioned_unit (sequential_after m (history_of m q)).database) in
+              omega (arith, within, counted, long)
+
+          unit_there : (es : List Entry) (v : ℕ) → 0 < v → v ≤ length (unversioned (sequential_after m es)).units → is_some (unit_at (unversioned (sequential_after m es)).units v) ≡ true
+          unit_there es v low within = some_at (unversioned (sequential_after m es)).units v low within
+
+    program_at : (i : ℕ) → i < length m.programs → (program : Program) × (unit_at m.programs (suc i) ≡ Some program)
+    unfolding unit_at
+    program_at i low = there_is m.programs i low
+
+    programs_same : (state_after m h).programs ≡ (state_after m g).programs
+    unfolding unit_at
+    programs_same =
+        same_at_each (state_after m h).programs (state_after m g).programs (comes_length h 1 m.programs ∙ sym (comes_length g 1 m.programs)) (λ i low.
+        let few : i < length m.programs = let counted = comes_length h 1 m.programs in omega (arith, low, counted) in
+        let program = program_at i few in
+        (each_unit (suc i) (omega arith) (omega (arith, few)) program.0 program.1).0) where
+          comes_length : (es : List Entry) (k : ℕ) (ps : List Program) → length (comes_of_each m es k ps) ≡ length ps
+          comes_length es k [] = refl
+          comes_length es k (q ∷ ps) = ap suc (comes_length es (k + 1) ps)
+
+    units_same : (unversioned (sequential_after m h)).units ≡ (unversioned (sequential_after m g)).units
+    unfolding unit_at
+    units_same =
+        same_at_each (unversioned (sequential_after m h)).units (unversioned (sequential_after m g)).units (count_of o ∙ sym (count_of p)) (λ i low.
+        let counted = count_of o in
+        let few : i < length m.programs = omega (arith, low, counted) in
+        let program = program_at i few in
+        (each_unit (suc i) (omega arith) (omega (arith, few)) program.0 program.1).1) where
+          count_of : (q : List ℕ) → length (unversioned (sequential_after m (history_of m q))).units ≡ length m.programs
+          count_of q = length-map (sequential_after m (history_of m q)).units (unversioned_unit (sequential_after m (history_of m q)).database) ∙ units_count m q
+
+    users_within : (q : List ℕ) (a : ℕ) → list_all (λ e. nat_lt 0 e.0 && nat_le e.0 (length m.programs)) ((state_of m q).sequential.database.usage a) ≡ true
+    users_within q a = subst (λ k. list_all (λ e. nat_lt 0 e.0 && nat_le e.0 k) ((state_of m q).sequential.database.usage a) ≡ true) (units_count m q) ((legal m meets q).users a)
+
+    essence_from_parts : essence_of m o ≡ essence_of m p
+    essence_from_parts =
+        let n = length m.programs in
+        let db = unversioned_database (sequential_after m h).database in
+        let eb = unversioned_database (sequential_after m g).database in
+        let lo = legal_first m.schema m.capacity (sequential_after m h).database (legal m meets o).legal in
+        let lp = legal_first m.schema m.capacity (sequential_after m g).database (legal m meets p).legal in
+        λ i. record {
+          sequential = record {
+            records = λ k. same_records m.schema m.capacity n db eb lo lp same.cells k i;
+            lists = λ s w. same_lists m.schema m.capacity n db eb lo lp same.cells s w i;
+            last = λ t k. same_last m.schema m.capacity n db eb lo lp same.cells t k i;
+            uses = λ a u. uses_from n (db.usage a) (eb.usage a) (users_within o a) (users_within p a) (same_users m.schema m.capacity n db eb lo lp same.cells a) u i;
+            units = units_same i;
+          };
+          programs = programs_same i;
+        }
+
+  -- BY NUMBERS
+
+  module _ (meets : IsMeeting m) (kept : Numbers) (o p : List ℕ) where
+    -- orders whose states have one number lead to the same state
+    pub same_state : (n : ℕ) → IsNumberOf m kept (history_of m o) n → IsNumberOf m kept (history_of m p) n → essence_of m o ≡ essence_of m p
+    same_state n h g =
+        let same = same_by_number (parts_of m (history_of m o)) (unit_part m (history_of m p)) (cell_part m (history_of m p)) kept n h.number g.number in
+        essence_from_parts meets o p (record { units = same.units; cells = same.cells })
+
+    -- and the other way round
+    pub same_number : (n k : ℕ) → essence_of m o ≡ essence_of m p → IsNumberOf m kept (history_of m o) n → IsNumberOf m kept (history_of m p) k → n ≡ k
+    same_number n k e h g =
+        let same = parts_same (history_of m o) (history_of m p) e in
+        one_number_of (parts_of m (history_of m o)) (unit_part m (history_of m p)) (cell_part m (history_of m p)) kept n k h.number g.number (record { units = same.units; cells = same.cells })
