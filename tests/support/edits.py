@@ -3,7 +3,9 @@
 changes: each old text occurs exactly once in the file, or in the function that is named. An edit that changes more than bodies of functions
 says in `refused: PATH` which of the functions that it changes has to be refused, as a check names it below the crate. An edit that
 tests/edits/NAMED lists and against which the prover finds no values names in `test: NAME` a test that fails with the edit in it. An edit
-that no contract can refuse says why in `unseen: WHY`, and names such a test too; it is not checked."""
+that no contract can refuse says why in `unseen: WHY`, and names such a test too; it is not checked. `without: GOAL` names a goal of which the
+answer by hand does not fit the changed body: it is left out from the start, as are answers that the search finds by itself, since a second
+check would leave them out."""
 
 import os
 import re
@@ -11,6 +13,9 @@ from pathlib import Path
 
 from functions import functions_of, module_of
 from kit import text_of
+
+# An answer by hand that the search tries by itself: it is there to save the search other attempts.
+SEARCHED = "= grind (arith, common_steps)"
 
 
 class Sources:
@@ -30,6 +35,14 @@ class Sources:
         module = os.path.dirname(own)
         cycles = [it.name for it in Path(self.folder, "proofs", module).glob("+*") if function.name in it.name.split("+")]
         return [own, closures, *(os.path.join(module, it) for it in cycles)]
+
+    def answers(self, folder):
+        """The answers in a folder below proofs/, each by its goal: the file, the line at which it begins, and its text."""
+        file = f"{folder}/Answers.antt"
+        text = text_of(f"{self.folder}/proofs/{file}") if os.path.isfile(f"{self.folder}/proofs/{file}") else ""
+        begun = [(it[1], it.start()) for it in re.finditer(r"(?m)^pub (\S+) : goal", text)]
+        ends = [*(at for _, at in begun[1:]), len(text)]
+        return {goal: (file, text.count("\n", 0, at) + 1, text[at:end].strip()) for (goal, at), end in zip(begun, ends)}
 
     def place(self, file, inside, old):
         """Where an old text stands in a file, or in a function of it: it does so once."""
@@ -63,8 +76,13 @@ class Edit:
             raise ValueError("it does not change the body of the function that has to be refused")
         self.paths = [f"{sources.crate}::{names[it][0]}" for it in judged]
         self.closures = tuple(f"{sources.crate}::{names[it][1]}::" for it in judged)
-        self.proofs = tuple(f"{at}/" for it in judged for at in sources.proofs(it))
-        self.left_out = set()
+        folders = [at for it in judged for at in sources.proofs(it)]
+        self.proofs = tuple(f"{at}/" for at in folders)
+        answers = {goal: it for at in folders for goal, it in sources.answers(at).items()}
+        without = re.findall(r"(?m)^without: (\S+)$", text)
+        if unknown := set(without) - set(answers):
+            raise ValueError(f"there is no answer by hand to {', '.join(unknown)}, which it leaves out")
+        self.left_out = {(file, line) for goal, (file, line, words) in answers.items() if goal in without or words.endswith(SEARCHED)}
 
     def leave_out(self, errors):
         """Leaves out the answers at which these errors stand; whether there is one that was not left out before."""
