@@ -13,7 +13,7 @@ ghost use Rattle.dbtg_outcomes.specs.Outcomes.{IsMeeting};
 ghost use Rattle.dbtg_outcomes.specs.Results.{by_unit, unit_answers};
 ghost use Rattle.dbtg_outcomes.specs.Spelling.{key_numbers, mode_numbers, one_number, pair_numbers};
 ghost use Rattle.dbtg_outcomes.specs.Parts.{last_at, number_numbers, record_numbers, record_of, shown_numbers};
-ghost use Rattle.dbtg_outcomes.specs.Inside.Parts.{cell_part, numbers_in, unit_part};
+ghost use Rattle.dbtg_outcomes.specs.Inside.Parts.{numbers_in, unit_part};
 ghost use Rattle.dbtg_outcomes.specs.Inside.Walks.{IsMaking};
 
 use crate::meeting::{Meeting, as_numbers, made_by};
@@ -142,26 +142,6 @@ pub fn spell_cell(
 }
 
 impl<'a> Meeting<'a> {
-    /// What the part of a cell says.
-    pub(crate) fn spell_cell_part(
-        &self,
-        alloc: Global,
-        database: &WholeDatabase,
-        name: &CellName,
-        out: &mut Vec<u64>,
-    ) -> Result<(), AllocError>
-        requires meeting { IsMeeting self.now }
-        requires making { IsMaking self.now (statements_of database.now.history) database.now }
-        requires cell { is_cell self.now.schema self.now.capacity name.now ≡ true }
-        ensures { OnOk result (out.new.items ≡ out.old.items ++ cell_part self.now (statements_of database.now.history) name.now) }
-    {
-        let spelling = Spelling {
-            units: self.units(),
-            versions: true,
-        };
-        spell_cell(alloc, spelling, database, name, out)
-    }
-
     // The answers that a unit got.
     fn spell_unit_answers(
         &self,

@@ -1,5 +1,5 @@
-//! Orders in groups: those of one group have the same key. The turns of the first order of each group are kept, with the number of orders,
-//! under a number that stands for the key.
+//! Orders in groups: those of one group have the same key. The turns of the first order of each group are kept, with the number that stands
+//! for the key and the number of orders.
 ghost use Rattle.std.specs.Prelude.{◌≡◌, ◌++◌, ◌∷◌, [], length, map, IfOk, IfSome, IfNone, OnOk};
 ghost use Rattle.dbtg_outcomes.specs.Inside.Grouped.{IsAdded, IsAt, Lacks};
 
@@ -10,9 +10,10 @@ use indexmap::IndexMap;
 use std::alloc::{AllocError, Global};
 use std::marker::Model;
 
-/// The turns of the first order of a group, and how many orders the group has.
+/// The number that stands for the key of a group, the turns of its first order, and how many orders the group has.
 #[derive(Drop)]
 pub struct Group {
+    pub number: u32,
     pub turns: Row<Turn>,
     pub orders: Option<u64>,
 }
@@ -57,26 +58,26 @@ impl Groups {
     }
 
     // Appends a group.
-    fn enter(&mut self, number: u32, group: Group) -> Result<(), AllocError>
-        requires { Lacks self.old number }
-        ensures { OnOk result (self.new ≡ self.old ++ (number, group) ∷ []) }
+    fn enter(&mut self, group: Group) -> Result<(), AllocError>
+        requires { Lacks self.old group.number }
+        ensures { OnOk result (self.new ≡ self.old ++ (group.number, group) ∷ []) }
     {
-        self.groups.insert(number, group)?;
+        self.groups.insert(group.number, group)?;
         Ok(())
     }
 
     /// Adds an order that stands for this many orders: to the group under its number, or as a new group after the others.
-    pub fn add(&mut self, number: u32, group: Group) -> Result<(), AllocError>
-        ensures { OnOk result (IsAdded self.old number group self.new) }
+    pub fn add(&mut self, group: Group) -> Result<(), AllocError>
+        ensures { OnOk result (IsAdded self.old group self.new) }
     {
-        match self.find(number) {
+        match self.find(group.number) {
             Some(at) => {
                 if let Some(known) = self.groups.get_index_mut(at) {
                     known.orders = sum_of(known.orders, group.orders);
                 }
                 Ok(())
             }
-            None => self.enter(number, group),
+            None => self.enter(group),
         }
     }
 

@@ -13,6 +13,9 @@ use dbtg_step::WholeDatabase;
 use std::alloc::{AllocError, Global};
 use std::marker::Model;
 
+/// Room for what a part usually says; a longer content takes more.
+pub(crate) const USUAL_LENGTH: usize = 64;
+
 /// What parts of states say, each kept once, and an array of their numbers for each state.
 #[derive(Drop)]
 pub struct Numbers {
@@ -78,7 +81,7 @@ impl Numbers {
         requires room { spelling.units + cell_count database.now.schema database.now.capacity ≤ size self.old.arrays }
         ensures { IfOk result (λ n. (k : ℕ) → cell_number database.now.schema database.now.capacity name.now ≡ Some k → HasPut self.old self.new array (spelling.units + k) (part_in spelling.versions spelling.units database.now name.now) n) }
     {
-        let mut content = Vec::new(alloc);
+        let mut content = Vec::with_capacity(alloc, USUAL_LENGTH)?;
         spell_cell(alloc, spelling, database, name, &mut content)?;
         match database.cell_number(name) {
             Some(number) => {

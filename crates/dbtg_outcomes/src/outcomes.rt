@@ -84,7 +84,11 @@ fn join_result<'a>(
     let number = texts.enter(text)?;
     let turns = Row::of(Vec::from_slice(alloc, turns)?);
     let orders = group.orders;
-    results.add(number, Group { turns, orders })
+    results.add(Group {
+        number,
+        turns,
+        orders,
+    })
 }
 
 // The groups of the same result.
@@ -122,10 +126,13 @@ fn results_after<'a>(
     if last.len() != 1 {
         return by_result(alloc, meeting, walk, last);
     }
-    let turns = last[0].turns.copy(alloc)?;
-    let orders = last[0].orders;
+    let group = &last[0];
     let mut results = Vec::new(alloc);
-    results.push(Group { turns, orders })?;
+    results.push(Group {
+        number: group.number,
+        turns: group.turns.copy(alloc)?,
+        orders: group.orders,
+    })?;
     Ok(results)
 }
 

@@ -2,12 +2,12 @@
 //! with the first order that leads there and the number of all orders that do.
 ghost use Rattle.std.specs.Prelude.{◌≡◌, ◌≤◌, ◌<◌, ◌∷◌, [], true, is_some, length, All, IfErr, IfOk, MatchResult, OnOk};
 ghost use Rattle.dbtg_outcomes.specs.declared.search.Stop.TheVariants.{Memory, States};
-ghost use Rattle.dbtg_outcomes.specs.Orders.{count_statements, others};
+ghost use Rattle.dbtg_outcomes.specs.Orders.{count_statements, made_first, others};
 ghost use Rattle.dbtg_outcomes.specs.Outcomes.{IsMeeting, count_states, states_within};
 ghost use Rattle.dbtg_outcomes.specs.Results.{units_of};
-ghost use Rattle.dbtg_outcomes.specs.Inside.Search.{IsAt};
-ghost use Rattle.dbtg_outcomes.specs.Inside.Steps.{Advances, Extends, ExtendsAll, HaveStatements, IsAtState, IsOver, IsUnderWay, LeadToMore};
-ghost use Rattle.dbtg_outcomes.specs.Inside.Walks.{Stands, next_turn, statement_at};
+ghost use Rattle.dbtg_outcomes.specs.Inside.Search.{AreNotedOf, IsAt};
+ghost use Rattle.dbtg_outcomes.specs.Inside.Steps.{Advances, Extends, ExtendsAll, GoesOn, HasNumber, HaveStatements, IsAtState, IsOver, IsUnderWay, LeadToMore};
+ghost use Rattle.dbtg_outcomes.specs.Inside.Walks.{LeadTo, Stands, next_turn, statement_at};
 
 use crate::groups::{Group, Groups};
 use crate::meeting::Meeting;
@@ -55,16 +55,22 @@ impl<'a> Meeting<'a> {
         requires meeting { IsMeeting self.now }
         requires stands { Stands self.now walk.old }
         requires group { HaveStatements self.now group.now }
+        requires numbered { HasNumber self.now walk.old.numbers group.now }
         requires turn { turn ≡ next_turn turn.unit group.now.turns }
         requires there { is_some (statement_at self.now.scripts turn) ≡ true }
         ensures stands { OnOk result (Stands self.now walk.new) }
         ensures extends { OnOk result (Extends self.now group.now (turn.unit ∷ []) next.old next.new walk.old walk.new) }
     {
         let status = self.turned(alloc, walk, group.turns.as_slice(), turn)?;
-        let number = self.state_number(walk);
+        let (numbers, database) = (&mut walk.numbers, &walk.database);
+        let number = self.next_number(alloc, numbers, database, group.number, turn.unit)?;
         let turns = Row::of(Vec::from_slice(alloc, walk.turns.as_slice())?);
         let orders = group.orders;
-        next.add(number, Group { turns, orders })?;
+        next.add(Group {
+            number,
+            turns,
+            orders,
+        })?;
         let note = Note {
             unit: turn.unit,
             place: turn.place,
@@ -85,6 +91,7 @@ impl<'a> Meeting<'a> {
         requires meeting { IsMeeting self.now }
         requires stands { Stands self.now walk.old }
         requires group { HaveStatements self.now group.now }
+        requires numbered { HasNumber self.now walk.old.numbers group.now }
         ensures stands { OnOk result (Stands self.now walk.new) }
         ensures extends { OnOk result (Extends self.now group.now (unit ∷ []) next.old next.new walk.old walk.new) }
     {
@@ -106,6 +113,7 @@ impl<'a> Meeting<'a> {
         requires meeting { IsMeeting self.now }
         requires stands { Stands self.now walk.old }
         requires group { HaveStatements self.now group.now }
+        requires numbered { HasNumber self.now walk.old.numbers group.now }
         ensures stands { OnOk result (Stands self.now walk.new) }
         ensures extends { OnOk result (Extends self.now group.now (units_of self.now) next.old next.new walk.old walk.new) }
     {
@@ -128,6 +136,7 @@ impl<'a> Meeting<'a> {
         requires meeting { IsMeeting self.now }
         requires stands { Stands self.now walk.old }
         requires groups { All (HaveStatements self.now) layer.now }
+        requires numbered { All (HasNumber self.now walk.old.numbers) layer.now }
         ensures stands { OnOk result (Stands self.now walk.new) }
         ensures all { IfOk result (λ next. ExtendsAll self.now layer.now next walk.old walk.new) }
         ensures few { IfOk result (λ next. length next ≤ most) }
@@ -156,23 +165,17 @@ pub struct Search<'a> {
 }
 
 impl<'a> Search<'a> {
-    // One state, to which one order leads, that of these turns.
+    // One state, to which one order leads, that of this group.
     fn at_state(
         alloc: Global,
-        meeting: &Meeting<'a>,
-        turns: Row<Turn>,
-        notes: Vec<Note>,
+        group: Group,
         limit: usize,
+        walk: Walk<'a>,
     ) -> Result<Search<'a>, AllocError>
-        requires { IsMeeting meeting.now }
-        ensures { IfOk result (IsAtState meeting.now turns notes.items limit) }
+        ensures { IfOk result (IsAtState group limit walk.entry) }
     {
         let mut layer = Vec::new(alloc);
-        layer.push(Group {
-            turns,
-            orders: Some(1),
-        })?;
-        let walk = meeting.walk(alloc, notes)?;
+        layer.push(group)?;
         Ok(Search {
             layer,
             states: 1,
@@ -181,10 +184,37 @@ impl<'a> Search<'a> {
         })
     }
 
+    // The state to which the turns of the script that is made first lead.
+    fn at_first(
+        alloc: Global,
+        meeting: &Meeting<'a>,
+        turns: Row<Turn>,
+        notes: Vec<Note>,
+        limit: usize,
+    ) -> Result<Search<'a>, AllocError>
+        requires meeting { IsMeeting meeting.now }
+        requires allowed { 0 < limit }
+        requires turns { LeadTo meeting.now turns (made_first meeting.now.first meeting.now.scripts) }
+        requires notes { AreNotedOf meeting.now (made_first meeting.now.first meeting.now.scripts) notes.items }
+        ensures at { IfOk result (GoesOn meeting.now 0) }
+        ensures limit { IfOk result (λ search. search.limit ≡ limit) }
+    {
+        let mut walk = meeting.walk(alloc, notes)?;
+        meeting.go_to(alloc, &mut walk, turns.as_slice())?;
+        let number = meeting.state_number(alloc, &mut walk)?;
+        let orders = Some(1);
+        let first = Group {
+            number,
+            turns,
+            orders,
+        };
+        Search::at_state(alloc, first, limit, walk)
+    }
+
     /// After the script that is made first there is one state.
     pub fn begin(alloc: Global, meeting: &Meeting<'a>, limit: usize) -> Result<Search<'a>, Stop>
         requires meeting { IsMeeting meeting.now }
-        ensures at { IfOk result (IsAt meeting.now 0) }
+        ensures at { IfOk result (GoesOn meeting.now 0) }
         ensures limit { IfOk result (λ search. search.limit ≡ limit) }
         ensures stopped { IfErr result (λ stop. stop ≡ States → limit < states_within meeting.now 0) }
         ensures at_once { limit ≡ 0 → MatchResult result (λ _. ⊥) (λ stop. stop ≡ States) }
@@ -195,7 +225,7 @@ impl<'a> Search<'a> {
         let mut notes = Vec::new(alloc);
         meeting.note_first(alloc, &mut notes)?;
         let turns = Row::of(meeting.first_turns(alloc)?);
-        Ok(Search::at_state(alloc, meeting, turns, notes, limit)?)
+        Ok(Search::at_first(alloc, meeting, turns, notes, limit)?)
     }
 
     /// If there is one script beside the one that is made first, there is one order. No state has to be told from others then, so the
@@ -219,8 +249,14 @@ impl<'a> Search<'a> {
         }
         let mut notes = Vec::new(alloc);
         meeting.note_alone(alloc, script, &mut notes)?;
-        let turns = Row::of(meeting.turns_alone(alloc, script)?);
-        let mut search = Search::at_state(alloc, meeting, turns, notes, limit)?;
+        let last = Group {
+            // No other state has to be told from it.
+            number: 0,
+            turns: Row::of(meeting.turns_alone(alloc, script)?),
+            orders: Some(1),
+        };
+        let walk = meeting.walk(alloc, notes)?;
+        let mut search = Search::at_state(alloc, last, limit, walk)?;
         search.states = script.len() + 1;
         watch.seen(search.states);
         Ok(search)

@@ -1,7 +1,9 @@
 //! A walk from state to state: a database that stands after some turns, and goes to others by way of the turns that both begin with.
-ghost use Rattle.std.specs.Prelude.{◌≡◌, ◌≤◌, ◌∷◌, ◌++◌, [], true, length, is_some, option_map, IfOk, OnOk};
+ghost use Rattle.std.specs.Prelude.{◌≡◌, ◌+◌, ◌≤◌, ◌∷◌, ◌++◌, [], true, length, is_some, option_map, IfOk, OnOk};
+ghost use Rattle.dbtg_cells.specs.CellNumbers.{cell_count};
+ghost use Rattle.dbtg_interned.specs.Arrays.{size};
 ghost use Rattle.dbtg_outcomes.specs.Outcomes.{IsMeeting};
-ghost use Rattle.dbtg_outcomes.specs.Numbers.{Grow};
+ghost use Rattle.dbtg_outcomes.specs.Numbers.{AreNumbers};
 ghost use Rattle.dbtg_outcomes.specs.Inside.Numbers.{IsNumberOf};
 ghost use Rattle.dbtg_outcomes.specs.Inside.Walks.{AreTaken, HasStatusIn, HasTaken, IsTakenBack, Stands, have_statements, order_of, statement_at};
 
@@ -13,13 +15,11 @@ use dbtg_step::{ReversibleDatabase, WholeDatabase};
 use dbtg_unit::Statement;
 use std::alloc::{AllocError, Global};
 
-/// A database that stands after these turns, the numbers of the states that it came by, the first before all turns, and the statuses
-/// that were noted on the way.
+/// A database that stands after these turns, the numbers of states, and the statuses that were noted on the way.
 #[derive(Drop)]
 pub struct Walk<'a> {
     pub database: ReversibleDatabase<'a>,
     pub turns: Vec<Turn>,
-    pub states: Vec<u32>,
     pub numbers: Numbers,
     pub notes: Vec<Note>,
 }
@@ -33,7 +33,6 @@ impl<'a> Walk<'a> {
     {
         self.database.take_back_to(count);
         self.turns.truncate(count);
-        self.states.truncate(count + 1);
     }
 }
 
@@ -42,18 +41,16 @@ impl<'a> Meeting<'a> {
     pub(crate) fn walk(&self, alloc: Global, notes: Vec<Note>) -> Result<Walk<'a>, AllocError>
         requires meeting { IsMeeting self.now }
         ensures stands { IfOk result (Stands self.now) }
+        ensures kept { IfOk result (λ walk. AreNumbers walk.numbers) }
+        ensures room { IfOk result (λ walk. length self.now.scripts + cell_count self.now.schema self.now.capacity ≤ size walk.numbers.arrays) }
+        ensures turns { IfOk result (λ walk. walk.turns.items ≡ []) }
         ensures notes { IfOk result (λ walk. walk.notes.items ≡ notes.items) }
     {
         let database = WholeDatabase::opening(alloc, self.schema, self.capacity, self.units())?;
-        let mut numbers = self.no_numbers(alloc)?;
-        let number = self.opening_number(alloc, &mut numbers, &database)?;
-        let mut states = Vec::new(alloc);
-        states.push(number)?;
         Ok(Walk {
             database: ReversibleDatabase::of(alloc, database),
             turns: Vec::new(alloc),
-            states,
-            numbers,
+            numbers: self.no_numbers(alloc)?,
             notes,
         })
     }
@@ -80,14 +77,9 @@ impl<'a> Meeting<'a> {
     {
         match self.statement_at(turn) {
             Some(statement) => {
-                let before = walk.states[walk.turns.len()];
                 let statement = statement.copy(alloc)?;
                 walk.turns.push(turn)?;
-                walk.database.make(turn.unit, statement)?;
-                let (numbers, database) = (&mut walk.numbers, &walk.database);
-                let number = self.next_number(alloc, numbers, database, before, turn.unit)?;
-                walk.states.push(number)?;
-                Ok(())
+                walk.database.make(turn.unit, statement)
             }
             None => Ok(()),
         }
@@ -124,11 +116,25 @@ impl<'a> Meeting<'a> {
         ensures stands { OnOk result (Stands self.now walk.new) }
         ensures turns { OnOk result (walk.new.turns.items ≡ turns.now) }
         ensures notes { OnOk result (walk.new.notes.items ≡ walk.old.notes.items) }
-        ensures grown { OnOk result (Grow walk.old.numbers walk.new.numbers) }
+        ensures numbers { OnOk result (walk.new.numbers ≡ walk.old.numbers) }
     {
         let shared = shared_by(walk.turns.as_slice(), turns);
         walk.take_back_to(shared);
         self.take_turns(alloc, walk, &turns[shared..])
+    }
+
+    /// The number of the state where the walk stands, by all that its database says.
+    pub(crate) fn state_number(&self, alloc: Global, walk: &mut Walk<'a>) -> Result<u32, AllocError>
+        requires meeting { IsMeeting self.now }
+        requires stands { Stands self.now walk.old }
+        requires kept { AreNumbers walk.old.numbers }
+        requires room { length self.now.scripts + cell_count self.now.schema self.now.capacity ≤ size walk.old.numbers.arrays }
+        ensures stands { OnOk result (Stands self.now walk.new) }
+        ensures notes { OnOk result (walk.new.notes.items ≡ walk.old.notes.items) }
+        ensures number { IfOk result (IsNumberOf self.now walk.new.numbers (order_of self.now walk.old.turns.items)) }
+    {
+        let (numbers, database) = (&mut walk.numbers, &walk.database);
+        self.whole_number(alloc, numbers, database)
     }
 
     /// Goes to where these turns lead and takes one turn more; gives the status of its statement.
@@ -146,7 +152,7 @@ impl<'a> Meeting<'a> {
         ensures stands { OnOk result (Stands self.now walk.new) }
         ensures turns { OnOk result (walk.new.turns.items ≡ turns.now ++ turn ∷ []) }
         ensures notes { OnOk result (walk.new.notes.items ≡ walk.old.notes.items) }
-        ensures grown { OnOk result (Grow walk.old.numbers walk.new.numbers) }
+        ensures numbers { OnOk result (walk.new.numbers ≡ walk.old.numbers) }
         ensures status { IfOk result (HasStatusIn self.now (order_of self.now turns.now) turn) }
     {
         self.go_to(alloc, walk, turns)?;
@@ -154,15 +160,5 @@ impl<'a> Meeting<'a> {
         self.take_turn(alloc, walk, turn)?;
         let made = &walk.database.database().history()[before];
         Ok(made.answer.status.code(&made.statement))
-    }
-
-    /// The number of the state where the walk stands.
-    pub(crate) fn state_number(&self, walk: &Walk) -> u32
-        requires { Stands self.now walk.now }
-        ensures { IsNumberOf self.now walk.now.numbers (order_of self.now walk.now.turns.items) result }
-    {
-        // Unused here; the contract mentions it.
-        let _units = self.scripts.len();
-        walk.states[walk.turns.len()]
     }
 }

@@ -55,6 +55,7 @@ impl<'a> Meeting<'a> {
         requires placed { 0 < wish.place }
         ensures stands { OnOk result (Stands self.now walk.new) }
         ensures notes { OnOk result (walk.new.notes.items ≡ walk.old.notes.items) }
+        ensures numbers { OnOk result (walk.new.numbers ≡ walk.old.numbers) }
         ensures broken { IfOk result (IsBroken self.now wish (order_of self.now turns.now)) }
     {
         let turn = next_turn(turns, wish.unit);
@@ -82,6 +83,7 @@ impl<'a> Meeting<'a> {
         requires placed { 0 < wish.place }
         ensures stands { OnOk result (Stands self.now walk.new) }
         ensures notes { OnOk result (walk.new.notes.items ≡ walk.old.notes.items) }
+        ensures numbers { OnOk result (walk.new.numbers ≡ walk.old.numbers) }
         ensures broken { IfOk result (IsBrokenIn self.now wish layer.now) }
     {
         for group in layer {

@@ -9,7 +9,6 @@ use Rattle.std.proofs.lemmas.List.{take-append-drop, take_more, map-append}
 use Rattle.std.proofs.lemmas.List.Concat.{flat_map-append}
 use Rattle.dbtg_unit.specs.declared.statement.Statement.{Statement}
 use Rattle.dbtg_outcomes.specs.declared.groups.Group.{Group}
-use Rattle.dbtg_outcomes.specs.declared.notes.Note.{Note}
 use Rattle.dbtg_outcomes.specs.declared.turns.Turn.{Turn}
 use Rattle.dbtg_outcomes.specs.declared.walk.Walk.{Walk}
 use Rattle.dbtg_outcomes.specs.Inside.Gathered.{each_of, gathered}
@@ -25,6 +24,7 @@ use Rattle.dbtg_outcomes.specs.Inside.Walks.{HasStatusIn, LeadTo, have_statement
 use Rattle.dbtg_outcomes.specs.Inside.Steps.{Extends, ExtendsAll, HoldStates, LeadToMore, next_orders, nexts, with_each}
 use Rattle.dbtg_outcomes.proofs.Lists.Gathered.{each_append, gathered_append, gathered_longer}
 use Rattle.dbtg_outcomes.proofs.States.Layers.{stand_length}
+use Rattle.dbtg_outcomes.proofs.States.Numbers.{stay_more, stay_none}
 use Rattle.dbtg_outcomes.proofs.Orders.Nexts.{hold_ended, hold_extended, noted_extended}
 use Rattle.dbtg_outcomes.proofs.Orders.Turns.{made_in_turns, next_there, order_append, there_both}
 use Rattle.dbtg_outcomes.proofs.States.Noted.{noted_append, noted_none, noted_nothing}
@@ -37,6 +37,7 @@ module _ (m : Meeting) where
   extends_none g gs walk = record {
     holds = λ seen w held hold. subst (λ (ws : List (List (ℕ × Statement) × ℕ)). HoldStates m walk.numbers gs ws) (sym (append-nil seen)) hold;
     noted = noted_nothing m walk.notes.items;
+    stay = stay_none walk.numbers;
   }
 
   -- the walk has gone on to where one statement more is made, and the state there has this number
@@ -46,16 +47,17 @@ module _ (m : Meeting) where
     pub is : IsNumberOf m new.numbers (order_of m ts) n
 
   -- a group continues with the next statement of one unit
-  pub extends_one : (g : Group) (u : ℕ) (x : Statement) (ts : List Turn) (n place status : ℕ) (old new : Numbered) (k l : Walk) → next_of m.scripts (order_of m g.turns) u ≡ Some x → LeadTo m ts (order_of m g.turns ++ (u, x) ∷ []) → HasStatus m (order_of m g.turns) u x status → place ≡ made u (order_of m g.turns) → IsNumbered ts k l n → IsAdded old n (record { turns = ts; orders = g.orders }) new → HasNoted k.notes.items (record { unit = u; place = place; status = status }) l.notes.items → Extends m g (u ∷ []) old new k l
+  pub extends_one : (g : Group) (u : ℕ) (x : Statement) (ts : List Turn) (n place status : ℕ) (old new : Numbered) (k l : Walk) → next_of m.scripts (order_of m g.turns) u ≡ Some x → LeadTo m ts (order_of m g.turns ++ (u, x) ∷ []) → HasStatus m (order_of m g.turns) u x status → place ≡ made u (order_of m g.turns) → IsNumbered ts k l n → IsAdded old (record { number = n; turns = ts; orders = g.orders }) new → HasNoted k.notes.items (record { unit = u; place = place; status = status }) l.notes.items → Extends m g (u ∷ []) old new k l
   extends_one g u x ts n place status old new k l e leads has p number added noted = record {
     holds = λ seen w held hold.
         subst (λ (os : List (List (ℕ × Statement))). HoldStates m l.numbers new (seen ++ each_of w.1 os)) (sym (append-nil (extended_by m.scripts w.0 u)))
         (hold_extended m g u x ts n k.numbers l.numbers old new e leads number.grown number.sound number.is added seen w held hold);
     noted = noted_extended m (order_of m g.turns) u x place status k.notes.items l.notes.items e has p noted;
+    stay = record { grown = number.grown; kept_once = λ _. number.sound };
   }
 
   -- the same, turn by turn
-  pub extends_turn : (g : Group) (t : Turn) (ts : List Turn) (n status : ℕ) (old new : Numbered) (k l : Walk) → have_statements m g.turns ≡ true → t ≡ next_turn t.unit g.turns → is_some (statement_at m.scripts t) ≡ true → ts ≡ g.turns ++ t ∷ [] → HasStatusIn m (order_of m g.turns) t status → IsNumbered ts k l n → IsAdded old n (record { turns = ts; orders = g.orders }) new → HasNoted k.notes.items (record { unit = t.unit; place = t.place; status = status }) l.notes.items → Extends m g (t.unit ∷ []) old new k l
+  pub extends_turn : (g : Group) (t : Turn) (ts : List Turn) (n status : ℕ) (old new : Numbered) (k l : Walk) → have_statements m g.turns ≡ true → t ≡ next_turn t.unit g.turns → is_some (statement_at m.scripts t) ≡ true → ts ≡ g.turns ++ t ∷ [] → HasStatusIn m (order_of m g.turns) t status → IsNumbered ts k l n → IsAdded old (record { number = n; turns = ts; orders = g.orders }) new → HasNoted k.notes.items (record { unit = t.unit; place = t.place; status = status }) l.notes.items → Extends m g (t.unit ∷ []) old new k l
   extends_turn g t ts n status old new k l have next there turns has number added noted =
       by (next_of m.scripts (order_of m g.turns) t.unit) refl
     where
@@ -80,6 +82,7 @@ module _ (m : Meeting) where
         subst (λ (os : List (List (ℕ × Statement))). HoldStates m k.numbers gs (seen ++ each_of w.1 os)) (sym (append-nil (extended_by m.scripts w.0 u)))
         (hold_ended m u g k.numbers gs none seen w held hold);
     noted = noted_none m (order_of m g.turns) u k.notes.items none;
+    stay = stay_none k.numbers;
   }
 
   pub extends_no_turn : (g : Group) (t : Turn) (u : ℕ) (gs : Numbered) (k : Walk) → have_statements m g.turns ≡ true → t ≡ next_turn u g.turns → statement_at m.scripts t ≡ None → Extends m g (u ∷ []) gs gs k k
@@ -101,6 +104,7 @@ module _ (m : Meeting) where
     noted =
         subst (λ (ps : List (List (ℕ × Statement) × ℕ)). AreNoted m ps k.notes.items n.notes.items) (sym (map-append {B = List (ℕ × Statement) × ℕ} (λ u. (order_of m g.turns, u)) us vs))
         (noted_append m (with_each (order_of m g.turns) us) (with_each (order_of m g.turns) vs) k.notes.items l.notes.items n.notes.items h.noted r.noted);
+    stay = stay_more k.numbers l.numbers n.numbers h.stay r.stay;
   }
 
   -- the next unit
@@ -149,7 +153,7 @@ module _ (m : Meeting) where
   hold_nothing numbers (w ∷ ws) h = absurd h
 
   pub extends_nothing : (k : Walk) → ExtendsAll m [] [] k k
-  extends_nothing k = record { holds = hold_nothing k.numbers; noted = noted_nothing m k.notes.items }
+  extends_nothing k = record { holds = hold_nothing k.numbers; noted = noted_nothing m k.notes.items; stay = stay_none k.numbers }
 
   pub extends_last : (gs : List Group) (g : Group) (a b : Numbered) (k l n : Walk) → ExtendsAll m gs a k l → Extends m g (units_of m) a b l n → ExtendsAll m (gs ++ g ∷ []) b k n
   extends_last gs g a b k l n h r = record {
@@ -166,6 +170,7 @@ module _ (m : Meeting) where
         ap (λ (l : List (List (ℕ × Statement) × ℕ)). nexts m gs ++ l) (sym (append-nil (with_each (order_of m g.turns) (units_of m))))
         ∙ sym (flat_map-append (λ (f : Group). with_each (order_of m f.turns) (units_of m)) gs (g ∷ [])) in
         subst (λ (ps : List (List (ℕ × Statement) × ℕ)). AreNoted m ps k.notes.items n.notes.items) all (noted_append m (nexts m gs) (with_each (order_of m g.turns) (units_of m)) k.notes.items l.notes.items n.notes.items h.noted r.noted);
+    stay = stay_more k.numbers l.numbers n.numbers h.stay r.stay;
   }
 
   -- the next group of a layer

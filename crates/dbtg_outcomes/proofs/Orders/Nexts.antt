@@ -26,29 +26,26 @@ use Rattle.dbtg_outcomes.proofs.States.Numbers.{number_later, number_same, numbe
 use Rattle.dbtg_outcomes.proofs.States.States.{next_fits}
 
 module _ (m : Meeting) where
-  pub next_fitting : IsMeeting m → (o : List (ℕ × Statement)) (u : ℕ) (x : Statement) → 0 < u → u ≤ length m.scripts → next_of m.scripts o u ≡ Some x → fits m.schema x ≡ true
-  next_fitting meets o u x some most e = next_fits m meets.sound meets.fit o (u, x) (record { unit = in_range (length m.scripts) 1 u (omega arith) (omega arith); next = e })
-
   -- one more group
-  pub hold_next : (key : List (ℕ × Statement) → List ℕ) (K : List (ℕ × Statement) → ℕ → Type 0) → ((o p : List (ℕ × Statement)) (n : ℕ) → K o n → K p n → key o ≡ key p) → ((o p : List (ℕ × Statement)) (n k : ℕ) → key o ≡ key p → K o n → K p k → n ≡ k) → (old new : Numbered) (seen : List (List (ℕ × Statement) × ℕ)) (k : ℕ) (g : Group) (q : List (ℕ × Statement)) (c : ℕ) → Hold m key K old seen → K q k → IsHeld m g (q, c) → IsAdded old k g new → Hold m key K new (seen ++ (q, c) ∷ [])
-  hold_next key K tells same old new seen k g q c h e held added =
+  pub hold_next : (key : List (ℕ × Statement) → List ℕ) (K : List (ℕ × Statement) → ℕ → Type 0) → ((o p : List (ℕ × Statement)) (n : ℕ) → K o n → K p n → key o ≡ key p) → ((o p : List (ℕ × Statement)) (n k : ℕ) → key o ≡ key p → K o n → K p k → n ≡ k) → (old new : Numbered) (seen : List (List (ℕ × Statement) × ℕ)) (g : Group) (q : List (ℕ × Statement)) (c : ℕ) → Hold m key K old seen → K q g.number → IsHeld m g (q, c) → IsAdded old g new → Hold m key K new (seen ++ (q, c) ∷ [])
+  hold_next key K tells same old new seen g q c h e held added =
       subst (λ ws. Stand m K new ws) (sym (gathered_append key [] seen ((q, c) ∷ [])))
-      (entered m key K tells same old new (gathered key [] seen) k g q c (gathered_apart key [] seen tt) h e held added)
+      (entered m key K tells same old new (gathered key [] seen) g q c (gathered_apart key [] seen tt) h e held added)
 
   -- one more group of a state, which has a number now
-  hold_state : (a b : Numbers) (old new : Numbered) (seen : List (List (ℕ × Statement) × ℕ)) (n : ℕ) (g : Group) (q : List (ℕ × Statement)) (c : ℕ) → Grow a b → AreNumbers b → HoldStates m a old seen → IsNumberOf m b q n → IsHeld m g (q, c) → IsAdded old n g new → HoldStates m b new (seen ++ (q, c) ∷ [])
-  hold_state a b old new seen n g q c grown are h is held added =
-      hold_next (state_key m) (IsNumberOf m b) (number_tells m b) (number_same m b) old new seen n g q c
+  hold_state : (a b : Numbers) (old new : Numbered) (seen : List (List (ℕ × Statement) × ℕ)) (g : Group) (q : List (ℕ × Statement)) (c : ℕ) → Grow a b → AreNumbers b → HoldStates m a old seen → IsNumberOf m b q g.number → IsHeld m g (q, c) → IsAdded old g new → HoldStates m b new (seen ++ (q, c) ∷ [])
+  hold_state a b old new seen g q c grown are h is held added =
+      hold_next (state_key m) (IsNumberOf m b) (number_tells m b) (number_same m b) old new seen g q c
       (stand_later m (IsNumberOf m a) (IsNumberOf m b) (number_later m a b are grown) old (gathered (state_key m) [] seen) h) is held added
 
   -- the group of the order that continues with a unit's next statement
-  pub hold_extended : (group : Group) (u : ℕ) (x : Statement) (ts : List Turn) (n : ℕ) (a b : Numbers) (old new : Numbered) → next_of m.scripts (order_of m group.turns) u ≡ Some x → LeadTo m ts (order_of m group.turns ++ (u, x) ∷ []) → Grow a b → AreNumbers b → IsNumberOf m b (order_of m ts) n → IsAdded old n (record { turns = ts; orders = group.orders }) new → (seen : List (List (ℕ × Statement) × ℕ)) (w : List (ℕ × Statement) × ℕ) → IsHeld m group w → HoldStates m a old seen → HoldStates m b new (seen ++ each_of w.1 (extended_by m.scripts w.0 u))
+  pub hold_extended : (group : Group) (u : ℕ) (x : Statement) (ts : List Turn) (n : ℕ) (a b : Numbers) (old new : Numbered) → next_of m.scripts (order_of m group.turns) u ≡ Some x → LeadTo m ts (order_of m group.turns ++ (u, x) ∷ []) → Grow a b → AreNumbers b → IsNumberOf m b (order_of m ts) n → IsAdded old (record { number = n; turns = ts; orders = group.orders }) new → (seen : List (List (ℕ × Statement) × ℕ)) (w : List (ℕ × Statement) × ℕ) → IsHeld m group w → HoldStates m a old seen → HoldStates m b new (seen ++ each_of w.1 (extended_by m.scripts w.0 u))
   hold_extended group u x ts n a b old new e leads grown are is added seen w held hold =
       let order : order_of m ts ≡ w.0 ++ (u, x) ∷ [] = leads.order_is ∙ ap (λ l. l ++ (u, x) ∷ []) held.turns.order_is in
       let next : next_of m.scripts w.0 u ≡ Some x = ap (λ o. next_of m.scripts o u) (sym held.turns.order_is) ∙ e in
       let one : extended_by m.scripts w.0 u ≡ (w.0 ++ (u, x) ∷ []) ∷ [] = ap (λ (n : Option Statement). option_to_list (option_map (λ x. w.0 ++ (u, x) ∷ []) n)) next in
       subst (λ (l : List (List (ℕ × Statement))). HoldStates m b new (seen ++ each_of w.1 l)) (sym one)
-      (hold_state a b old new seen n (record { turns = ts; orders = group.orders }) (w.0 ++ (u, x) ∷ []) w.1 grown are hold (subst (λ (o : List (ℕ × Statement)). IsNumberOf m b o n) order is) (record { turns = record { order_is = order; there = leads.there }; orders_are = held.orders_are }) added)
+      (hold_state a b old new seen (record { number = n; turns = ts; orders = group.orders }) (w.0 ++ (u, x) ∷ []) w.1 grown are hold (subst (λ (o : List (ℕ × Statement)). IsNumberOf m b o n) order is) (record { turns = record { order_is = order; there = leads.there }; orders_are = held.orders_are }) added)
 
   pub hold_ended : (u : ℕ) (group : Group) (a : Numbers) (gs : Numbered) → next_of m.scripts (order_of m group.turns) u ≡ None → (seen : List (List (ℕ × Statement) × ℕ)) (w : List (ℕ × Statement) × ℕ) → IsHeld m group w → HoldStates m a gs seen → HoldStates m a gs (seen ++ each_of w.1 (extended_by m.scripts w.0 u))
   hold_ended u group a gs e seen w held hold =

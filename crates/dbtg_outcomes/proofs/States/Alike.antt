@@ -1,6 +1,6 @@
 -- The same statements get the same answers from states that differ at most in the order in which units opened an area.
 -- a and b are areas, u and n are units.
-use Rattle.std.proofs.Common.{◌≡◌, refl, sym, ◌∙◌, ap, subst, ℕ, ◌+◌, ◌-◌, Bool, true, false, not, List, [], ◌∷◌, ◌++◌, Option, Some, None, arith}
+use Rattle.std.proofs.Common.{◌≡◌, refl, sym, ◌∙◌, ap, subst, ℕ, ◌-◌, Bool, true, false, not, List, [], ◌∷◌, ◌++◌, Option, Some, None, arith}
 use Rattle.std.proofs.lemmas.List.Elements.{filter-append}
 use Rattle.std.specs.Prelude.{◌==◌, Result, Ok, Err, filter, if◌then◌else◌, option_map, slice_set}
 use Rattle.std.specs.List.{list_any}

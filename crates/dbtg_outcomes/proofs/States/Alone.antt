@@ -1,7 +1,7 @@
 -- A meeting with one script beside the one that is made first: there is one order, and one state after each statement.
 -- m is a meeting, o is an order, u a unit, x a statement, k how many statements are made.
-use Rattle.std.proofs.Common.{inl, inr, ◌≡◌, refl, sym, ◌∙◌, ap, subst, ℕ, zero, suc, ◌+◌, ◌-◌, ◌<◌, ◌≤◌, Bool, true, false, List, [], ◌∷◌, ◌++◌, length, take, drop, get_or, map, Some, None, arith, append_assoc, append-nil, slice_get}
-use Rattle.std.specs.Prelude.{Contains, flat_map, option_and_then, option_map, option_to_list, if◌then◌else◌}
+use Rattle.std.proofs.Common.{inl, inr, ◌≡◌, refl, sym, ◌∙◌, ap, subst, ℕ, zero, suc, ◌+◌, ◌-◌, ◌<◌, ◌≤◌, Bool, true, false, List, [], ◌∷◌, ◌++◌, length, take, drop, get_or, Some, None, arith, append_assoc, append-nil, slice_get}
+use Rattle.std.specs.Prelude.{Contains, flat_map, option_map, option_to_list, if◌then◌else◌}
 use Rattle.std.specs.List.{list_all, range_with_len}
 use Rattle.std.specs.Str.{bytes_eq}
 use Rattle.std.proofs.lemmas.Bool.{and_parts}
@@ -15,6 +15,7 @@ use Rattle.dbtg_outcomes.specs.declared.groups.Group.{Group}
 use Rattle.dbtg_outcomes.specs.declared.notes.Note.{Note}
 use Rattle.dbtg_outcomes.specs.declared.search.Search as given
 use Rattle.dbtg_outcomes.specs.declared.turns.Turn.{Turn}
+use Rattle.dbtg_outcomes.specs.declared.walk.Walk.{Walk}
 use Rattle.dbtg_outcomes.specs.Counted.{counted}
 use Rattle.dbtg_outcomes.specs.Groups.{groups}
 use Rattle.dbtg_outcomes.specs.Orders.{completed, count_statements, extended, made, made_first, next_of, orders, orders_after, others}
@@ -22,9 +23,9 @@ use Rattle.dbtg_outcomes.specs.Outcomes.{Comes, count_states, states_after, stat
 use Rattle.dbtg_outcomes.specs.Results.{Meeting, state_key, units_of}
 use Rattle.dbtg_outcomes.specs.Inside.Search.{AreHeld, AreNotedOf, HasNote, IsAt, IsNoteIn, layer, order_alone}
 use Rattle.dbtg_outcomes.specs.Inside.Steps.{IsAtState}
-use Rattle.dbtg_outcomes.specs.Inside.Walks.{LeadTo, turns_of_script}
+use Rattle.dbtg_outcomes.specs.Inside.Walks.{LeadTo, Stands, turns_of_script}
 use Rattle.dbtg_outcomes.proofs.Lists.Members.{contains_in, in_contains}
-use Rattle.dbtg_outcomes.proofs.Orders.Begun.{IsNext, begun_more, completed_last}
+use Rattle.dbtg_outcomes.proofs.Orders.Begun.{begun_more, completed_last}
 use Rattle.dbtg_outcomes.proofs.Orders.Turns.{leads_on, script_turns}
 use Rattle.dbtg_outcomes.proofs.Orders.Mixed.{by_one, own, own_all, own_append, own_none}
 
@@ -195,10 +196,10 @@ module _ (m : Meeting) (script : List Statement) (alone : others m.first m.scrip
   one_weight : (k : List ℕ) (o : List (ℕ × Statement)) → length {A = List (ℕ × Statement)} (if bytes_eq k k then o ∷ [] else []) ≡ 1
   one_weight k o = rw ((bytes_eq-Decides k k).1 refl) refl
 
-  held_alone : (ts : List Turn) → LeadTo m ts (order_alone m script) → AreHeld m (record { turns = ts; orders = Some 1 } ∷ []) (layer m (count_statements (others m.first m.scripts)))
-  held_alone ts leads =
-      subst (λ (os : List (List (ℕ × Statement))). AreHeld m (record { turns = ts; orders = Some 1 } ∷ []) (groups (state_key m) os)) (sym orders_are)
-      (record { turns = leads; orders_are = ap counted (sym (one_weight (state_key m (order_alone m script)) (order_alone m script))) }, tt)
+  held_alone : (g : Group) → g.orders ≡ Some 1 → LeadTo m g.turns (order_alone m script) → AreHeld m (g ∷ []) (layer m (count_statements (others m.first m.scripts)))
+  held_alone g one leads =
+      subst (λ (os : List (List (ℕ × Statement))). AreHeld m (g ∷ []) (groups (state_key m) os)) (sym orders_are)
+      (record { turns = leads; orders_are = one ∙ ap counted (sym (one_weight (state_key m (order_alone m script)) (order_alone m script))) }, tt)
 
   module _ (notes : List Note) (noted : AreNotedOf m (order_alone m script) notes) where
     comes_alone : (note : Note) → IsNoteIn m (order_alone m script) note → Comes m note.unit note.place note.status
@@ -236,15 +237,16 @@ module _ (m : Meeting) (script : List Statement) (alone : others m.first m.scrip
         ]
 
   -- the search that has made the one order
-  pub at_alone : (s : given.Search) (ts : List Turn) (notes : List Note) (limit count : ℕ) → IsAtState m ts notes limit s → length script < limit → count ≡ length script + 1 → LeadTo m ts (order_alone m script) → AreNotedOf m (order_alone m script) notes → IsAt m (count_statements (others m.first m.scripts)) (record s { states = count })
-  at_alone s ts notes limit count is low all leads noted =
+  pub at_alone : (s : given.Search) (g : Group) (limit count : ℕ) (w : Walk) → IsAtState g limit w s → length script < limit → count ≡ length script + 1 → g.orders ≡ Some 1 → LeadTo m g.turns (order_alone m script) → Stands m w → AreNotedOf m (order_alone m script) w.notes.items
+      → IsAt m (count_statements (others m.first m.scripts)) (record s { states = count })
+  at_alone s g limit count w is low all one leads stands noted =
       let same = is.limit_is in
-      let known = subst (λ (ns : List Note). AreNotedOf m (order_alone m script) ns) (sym is.notes_are) noted in
+      let known = subst (λ (v : Walk). AreNotedOf m (order_alone m script) v.notes.items) (sym is.walk_is) noted in
       record {
-        held = subst (λ (gs : List Group). AreHeld m gs (layer m (count_statements (others m.first m.scripts)))) (sym is.layer_is) (held_alone ts leads);
+        held = subst (λ (gs : List Group). AreHeld m gs (layer m (count_statements (others m.first m.scripts)))) (sym is.layer_is) (held_alone g one leads);
         states_are = let found = states_are in omega arith;
         within = omega arith;
-        stands = is.stands;
+        stands = subst (Stands m) (sym is.walk_is) stands;
         first = first_alone s.walk.notes.items known;
         all = λ k low o u x c d e. all_alone s.walk.notes.items known k (let made = all_made in omega arith) o u x c d e;
         only = λ note c. comes_alone s.walk.notes.items known note (known.only note c);

@@ -12,7 +12,6 @@ use Rattle.dbtg_unit.specs.Database.Statements.Effect.{StatementEffect}
 use Rattle.dbtg_unit.proofs.Public.{In, in_range, in_right, of_map}
 use Rattle.dbtg_step.specs.Machine.SequentialDatabase.{unit_at}
 use Rattle.dbtg_outcomes.specs.declared.groups.Group.{Group}
-use Rattle.dbtg_outcomes.specs.declared.search.Search as given
 use Rattle.dbtg_outcomes.specs.declared.turns.Turn.{Turn}
 use Rattle.dbtg_outcomes.specs.declared.walk.Walk.{Walk}
 use Rattle.dbtg_outcomes.specs.declared.wishes.Hunt.{Hunt}
@@ -21,8 +20,8 @@ use Rattle.dbtg_outcomes.specs.Orders.{count_statements, first_script, made, mad
 use Rattle.dbtg_outcomes.specs.Outcomes.{Comes, HasStatus, IsMeeting, count_states, states_within}
 use Rattle.dbtg_outcomes.specs.Results.{Meeting, state_key, units_of}
 use Rattle.dbtg_outcomes.specs.Wishes.{BreaksBy, IsJudged, breaks, is_there}
-use Rattle.dbtg_outcomes.specs.Inside.Search.{AreHeld, IsAt, layer}
-use Rattle.dbtg_outcomes.specs.Inside.Steps.{Advances, IsOver}
+use Rattle.dbtg_outcomes.specs.Inside.Search.{AreHeld, layer}
+use Rattle.dbtg_outcomes.specs.Inside.Steps.{Advances, GoesOn, IsOver}
 use Rattle.dbtg_outcomes.specs.Inside.Walks.{HasStatusIn, Stands, have_statements, next_turn, order_of, statement_at}
 use Rattle.dbtg_outcomes.specs.Inside.Wishes.{Breaks, Hunts, HuntsOn, IsBroken, IsBrokenIn, IsHunt, IsHuntOver, IsHunting, IsUnbroken}
 use Rattle.dbtg_outcomes.proofs.Lists.Members.{contains_in, in_contains}
@@ -208,13 +207,13 @@ module _ (m : Meeting) (w : Wish) where
 
       pub hunt_found : (old new : Hunt) (turns : List ℕ) → old.broken ≡ None → new.broken ≡ Some turns → new.search.limit ≡ old.search.limit → IsBrokenIn m w old.search.layer.items (Some turns) → HuntsOn m w 1 old new
       hunt_found old new turns none some limit broken = record {
-        hunts = λ n h. let at = subst (IsHunt m w n old) none h in subst (IsHunt m w (n + 1) new) (sym some) (found n old.search.layer.items turns at.0.held at.1 broken);
+        hunts = λ n h. let at = subst (IsHunt m w n old) none h in subst (IsHunt m w (n + 1) new) (sym some) (found n old.search.layer.items turns at.0.at.held at.1 broken);
         limit_is = limit;
       }
 
-      pub hunt_goes : (old new : Hunt) (walked : Walk) → Stands m walked → walked.notes.items ≡ old.search.walk.notes.items → old.broken ≡ None → new.broken ≡ None → Advances m 1 (record old.search { walk = walked }) new.search → IsBrokenIn m w old.search.layer.items None → HuntsOn m w 1 old new
-      hunt_goes old new walked stands noted none none_too on unbroken = record {
-        hunts = λ n h. let at = subst (IsHunt m w n old) none h in subst (IsHunt m w (n + 1) new) (sym none_too) (on.at n (at_walked m n old.search walked at.0 stands noted), unbroken_more n old.search.layer.items at.0.held unbroken at.1);
+      pub hunt_goes : (old new : Hunt) (walked : Walk) → Stands m walked → walked.notes.items ≡ old.search.walk.notes.items → walked.numbers ≡ old.search.walk.numbers → old.broken ≡ None → new.broken ≡ None → Advances m 1 (record old.search { walk = walked }) new.search → IsBrokenIn m w old.search.layer.items None → HuntsOn m w 1 old new
+      hunt_goes old new walked stands noted numbers none none_too on unbroken = record {
+        hunts = λ n h. let at = subst (IsHunt m w n old) none h in subst (IsHunt m w (n + 1) new) (sym none_too) (on.goes n (at_walked m n old.search walked at.0 stands noted numbers), unbroken_more n old.search.layer.items at.0.at.held unbroken at.1);
         limit_is = on.limit_is;
       }
 
@@ -230,12 +229,8 @@ module _ (m : Meeting) (w : Wish) where
 
   -- A HUNT
 
-  pub hunt_begins : (hunt : Hunt) → hunt.broken ≡ None → IsAt m 0 hunt.search → Hunts m w 0 hunt
-  hunt_begins hunt none at = subst (IsHunt m w 0 hunt) (sym none) (at, λ k low o c b. absurd (omega arith))
-
-  -- once turns are found they stay
-  pub hunt_stays : (hunt : Hunt) (turns : List ℕ) → hunt.broken ≡ Some turns → HuntsOn m w 1 hunt hunt
-  hunt_stays hunt turns some = record { hunts = λ n h. subst (IsHunt m w (n + 1) hunt) (sym some) (subst (IsHunt m w n hunt) some h); limit_is = refl }
+  pub hunt_begins : (hunt : Hunt) → hunt.broken ≡ None → GoesOn m 0 hunt.search → Hunts m w 0 hunt
+  hunt_begins hunt none goes = subst (IsHunt m w 0 hunt) (sym none) (goes, λ k low o c b. absurd (omega arith))
 
   pub hunts_none : (hunt : Hunt) → HuntsOn m w 0 hunt hunt
   hunts_none hunt = record { hunts = λ n h. let none : n ≡ n + 0 = omega arith in subst (λ (k : ℕ). Hunts m w k hunt) none h; limit_is = refl }
@@ -250,8 +245,8 @@ module _ (m : Meeting) (w : Wish) where
   hunting k a b h g = record { made = g.made + k; hunts = h.hunts g.made g.hunts }
 
   -- more states than the limit
-  pub hunt_over : (hunt : Hunt) (walked : Walk) → Stands m walked → walked.notes.items ≡ hunt.search.walk.notes.items → hunt.broken ≡ None → IsOver m 1 (record hunt.search { walk = walked }) → IsHuntOver m w 1 hunt
-  hunt_over hunt walked stands noted none over n h = over n (at_walked m n hunt.search walked (subst (IsHunt m w n hunt) none h).0 stands noted)
+  pub hunt_over : (hunt : Hunt) (walked : Walk) → Stands m walked → walked.notes.items ≡ hunt.search.walk.notes.items → walked.numbers ≡ hunt.search.walk.numbers → hunt.broken ≡ None → IsOver m 1 (record hunt.search { walk = walked }) → IsHuntOver m w 1 hunt
+  hunt_over hunt walked stands noted numbers none over n h = over n (at_walked m n hunt.search walked (subst (IsHunt m w n hunt) none h).0 stands noted numbers)
 
   pub hunt_over_later : (j k l : ℕ) (a b : Hunt) → j + k ≤ l → HuntsOn m w j a b → IsHuntOver m w k b → IsHuntOver m w l a
   hunt_over_later j k l a b most h over = λ n hunt.

@@ -1,6 +1,6 @@
 -- A run of moves that ends with all scripts at their end comes out as one of the results, and so does a history in which all are made.
 -- m is a meeting, es are entries, o is an order, u is a unit.
-use Rattle.std.proofs.Common.{◌≡◌, refl, sym, ◌∙◌, ap, subst, ℕ, suc, ◌+◌, true, false, List, [], ◌∷◌, ◌++◌, length, map, Option, Some, None, inl, inr, arith, append-nil, slice_get}
+use Rattle.std.proofs.Common.{◌≡◌, refl, sym, ◌∙◌, ap, subst, ℕ, suc, true, false, List, [], ◌∷◌, ◌++◌, length, map, Option, Some, None, inl, inr, arith, append-nil, slice_get}
 use Rattle.std.specs.Prelude.{◌==◌, filter, flat_map, option_map, if◌then◌else◌}
 use Rattle.std.proofs.lemmas.List.{length-map, map-append}
 use Rattle.dbtg_schema.specs.Lists.{Lists}

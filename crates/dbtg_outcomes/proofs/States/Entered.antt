@@ -62,10 +62,6 @@ takes_other u i note statuses other =
 pub none_noted : (u i : ℕ) → AreOfNotes [] u i []
 none_noted u i = record { rising = tt; noted = λ code c. absurd (contains_in [] code c); all = λ code c. absurd (contains_in [] (note_at u i code) c) }
 
--- the next note
-pub next_noted : (notes : List Note) (k : ℕ) (d : Note) (u i : ℕ) (old new : List ℕ) → k < length notes → AreOfNotes (take k notes) u i old → TakesNote u i (get_or notes k d) old new → AreOfNotes (take (k + 1) notes) u i new
-next_noted notes k d u i old new low h t = subst (λ (ns : List Note). AreOfNotes ns u i new) (sym (take_more notes k d low)) (t.taken (take k notes) h)
-
 -- ROWS
 
 -- what is found after one element is written

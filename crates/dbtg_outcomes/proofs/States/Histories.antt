@@ -1,11 +1,10 @@
 -- Histories of the sequential database, and the orders of their statements.
 -- es are entries, u is a unit, n is how many units there are.
-use Rattle.std.proofs.Common.{◌≡◌, refl, sym, ◌∙◌, ap, subst, ℕ, zero, suc, ◌+◌, ◌-◌, ◌<◌, ◌≤◌, true, false, List, [], ◌∷◌, ◌++◌, length, map, Option, Some, None, arith, slice_get}
+use Rattle.std.proofs.Common.{◌≡◌, refl, sym, ◌∙◌, ap, subst, ℕ, zero, suc, ◌<◌, ◌≤◌, true, false, List, [], ◌∷◌, ◌++◌, length, map, Option, Some, None, arith, slice_get}
 use Rattle.std.specs.Prelude.{◌==◌, filter, option_map, option_to_list, if◌then◌else◌}
 use Rattle.dbtg_schema.specs.Lists.{Lists}
 use Rattle.dbtg_script.specs.Printing.Texts.{answers_text}
 use Rattle.dbtg_unit.specs.declared.statement.Statement.{Statement}
-use Rattle.dbtg_unit.specs.declared.unit.Answer.{Answer}
 use Rattle.dbtg_unit.specs.declared.unit.Entry.{Entry}
 use Rattle.dbtg_unit.specs.Database.Statements.Effect.{StatementEffect}
 use Rattle.dbtg_unit.specs.Database.Laws.Replay.{AnswersHold, IsHistoryOf, State, after_entry, entries_of, opening_state, effect_of_unit}

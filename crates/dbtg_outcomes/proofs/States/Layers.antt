@@ -1,6 +1,7 @@
 -- Layers of a search among orders: the states after a number of statements, each with its first order and the number of its orders.
 -- m is a meeting, o, p, q are orders, ws are orders with weights, n is how many statements are made, K says which number an order has.
 use Rattle.std.proofs.Common.{◌≡◌, refl, sym, ◌∙◌, ap, subst, ℕ, zero, suc, ◌+◌, true, List, [], ◌∷◌, ◌++◌, length, map, Option, Some, None, ◌<◌, ◌≤◌, ◌^◌, inl, inr, ◌⊎◌, arith, slice_get, slice_set}
+use Rattle.std.specs.List.{AllByRecursion}
 use Rattle.std.specs.Str.{bytes_eq}
 use Rattle.std.proofs.lemmas.Bool.{cases_Bool, cases_lt, le-ltb, lt-ltb, true≢false}
 use Rattle.std.proofs.lemmas.Slice.Eq.{bytes_eq-Decides}
@@ -11,7 +12,10 @@ use Rattle.dbtg_outcomes.specs.Inside.Grouped.{IsAdded, Lacks, Numbered, sum_of}
 use Rattle.dbtg_outcomes.specs.Groups.{among}
 use Rattle.dbtg_outcomes.specs.Results.{Meeting}
 use Rattle.dbtg_outcomes.specs.Inside.Gathered.{enter}
+use Rattle.dbtg_outcomes.specs.Inside.Numbers.{IsNumberOf}
 use Rattle.dbtg_outcomes.specs.Inside.Search.{AreHeld, IsHeld, Stand}
+use Rattle.dbtg_outcomes.specs.Inside.Steps.{HasNumber}
+use Rattle.dbtg_outcomes.specs.Numbers.{Numbers}
 use Rattle.dbtg_outcomes.proofs.Lists.Weights.{Apart}
 
 -- NUMBERS OF ORDERS
@@ -45,26 +49,34 @@ module _ (m : Meeting) where
     stand_alone (g ∷ gs) [] s = absurd s
     stand_alone (g ∷ gs) (w ∷ ws) s = (s.0.1, stand_alone gs ws s.1)
 
+  -- each group has the number of its state
+  pub stand_numbered : (numbers : Numbers) (gs : Numbered) (ws : List (List (ℕ × Statement) × ℕ)) → Stand m (IsNumberOf m numbers) gs ws → AllByRecursion (HasNumber m numbers) (map (λ g. g.1) gs)
+  stand_numbered numbers [] ws s = tt
+  stand_numbered numbers (g ∷ gs) [] s = absurd s
+  stand_numbered numbers (g ∷ gs) (w ∷ ws) s =
+      let named = subst (IsNumberOf m numbers w.0) (sym s.0.2) s.0.0 in
+      (subst (λ (o : List (ℕ × Statement)). IsNumberOf m numbers o g.1.number) (sym s.0.1.turns.order_is) named, stand_numbered numbers gs ws s.1)
+
   -- groups stay under their numbers where orders keep these
   pub stand_later : (K L : List (ℕ × Statement) → ℕ → Type 0) → ((o : List (ℕ × Statement)) (n : ℕ) → K o n → L o n) → (gs : Numbered) (ws : List (List (ℕ × Statement) × ℕ)) → Stand m K gs ws → Stand m L gs ws
   stand_later K L keep [] [] s = tt
   stand_later K L keep [] (w ∷ ws) s = absurd s
   stand_later K L keep (g ∷ gs) [] s = absurd s
-  stand_later K L keep (g ∷ gs) (w ∷ ws) s = ((keep w.0 g.0 s.0.0, s.0.1), stand_later K L keep gs ws s.1)
+  stand_later K L keep (g ∷ gs) (w ∷ ws) s = ((keep w.0 g.0 s.0.0, s.0.1, s.0.2), stand_later K L keep gs ws s.1)
 
   -- two orders with one number have one key, and two with one key have one number
   module _ (key : List (ℕ × Statement) → List ℕ) (K : List (ℕ × Statement) → ℕ → Type 0)
       (tells : (o p : List (ℕ × Statement)) (n : ℕ) → K o n → K p n → key o ≡ key p)
       (same : (o p : List (ℕ × Statement)) (n k : ℕ) → key o ≡ key p → K o n → K p k → n ≡ k) where
     -- a group under a new number comes after the others
-    behind : (gs : Numbered) (ws : List (List (ℕ × Statement) × ℕ)) (k : ℕ) (g : Group) (q : List (ℕ × Statement)) (c : ℕ) → Stand m K gs ws → K q k → IsHeld m g (q, c) → Lacks gs k → Stand m K (gs ++ (k, g) ∷ []) (enter key ws q c)
-    behind [] [] k g q c s e h a = ((e, h), tt)
-    behind [] (w ∷ ws) k g q c s e h a = absurd s
-    behind (f ∷ gs) [] k g q c s e h a = absurd s
-    behind (f ∷ gs) (w ∷ ws) k g q c s e h a =
+    behind : (gs : Numbered) (ws : List (List (ℕ × Statement) × ℕ)) (g : Group) (q : List (ℕ × Statement)) (c : ℕ) → Stand m K gs ws → K q g.number → IsHeld m g (q, c) → Lacks gs g.number → Stand m K (gs ++ (g.number, g) ∷ []) (enter key ws q c)
+    behind [] [] g q c s e h a = ((e, h, refl), tt)
+    behind [] (w ∷ ws) g q c s e h a = absurd s
+    behind (f ∷ gs) [] g q c s e h a = absurd s
+    behind (f ∷ gs) (w ∷ ws) g q c s e h a =
         elim (cases_Bool (bytes_eq (key w.0) (key q))) [
-          | inl y ↦ absurd (a.0 (same w.0 q f.0 k ((bytes_eq-Decides (key w.0) (key q)).0 y) s.0.0 e))
-          | inr n ↦ rw n (s.0, behind gs ws k g q c s.1 e h a.1)
+          | inl y ↦ absurd (a.0 (same w.0 q f.0 g.number ((bytes_eq-Decides (key w.0) (key q)).0 y) s.0.0 e))
+          | inr n ↦ rw n (s.0, behind gs ws g q c s.1 e h a.1)
         ]
 
     -- an order has the key of the group that stands under its number
@@ -91,7 +103,8 @@ module _ (m : Meeting) where
         let is : f ≡ p = cc in
         let one : K w.0 k = subst (λ (r : ℕ × Group). K w.0 r.0) is s.0.0 in
         let held : IsHeld m known w = subst (λ (r : ℕ × Group). IsHeld m r.1 w) is s.0.1 in
-        rw ((bytes_eq-Decides (key w.0) (key q)).1 (tells w.0 q k one e)) ((one, record { turns = held.turns; orders_are = sum_counted known.orders g.orders w.1 c held.orders_are h.orders_are }), s.1)
+        let named : known.number ≡ k = ap (λ (r : ℕ × Group). r.1.number) (sym is) ∙ s.0.2 ∙ ap (λ (r : ℕ × Group). r.0) is in
+        rw ((bytes_eq-Decides (key w.0) (key q)).1 (tells w.0 q k one e)) ((one, record { turns = held.turns; orders_are = sum_counted known.orders g.orders w.1 c held.orders_are h.orders_are }, named), s.1)
     joined (f ∷ gs) (w ∷ ws) (suc i) k known g q c a s e h at =
         elim (cases_Bool (bytes_eq (key w.0) (key q))) [
           | inl y ↦
@@ -101,8 +114,8 @@ module _ (m : Meeting) where
         ]
 
     -- when a group is added, its order is added
-    pub entered : (old new : Numbered) (ws : List (List (ℕ × Statement) × ℕ)) (k : ℕ) (g : Group) (q : List (ℕ × Statement)) (c : ℕ) → Apart key ws → Stand m K old ws → K q k → IsHeld m g (q, c) → IsAdded old k g new → Stand m K new (enter key ws q c)
-    entered old new ws k g q c a s e h (inl b) = subst (λ (l : Numbered). Stand m K l (enter key ws q c)) (sym b.1) (behind old ws k g q c s e h b.0)
-    entered old new ws k g q c a s e h (inr b) =
+    pub entered : (old new : Numbered) (ws : List (List (ℕ × Statement) × ℕ)) (g : Group) (q : List (ℕ × Statement)) (c : ℕ) → Apart key ws → Stand m K old ws → K q g.number → IsHeld m g (q, c) → IsAdded old g new → Stand m K new (enter key ws q c)
+    entered old new ws g q c a s e h (inl b) = subst (λ (l : Numbered). Stand m K l (enter key ws q c)) (sym b.1) (behind old ws g q c s e h b.0)
+    entered old new ws g q c a s e h (inr b) =
         let more = b.1 in
-        subst (λ (l : Numbered). Stand m K l (enter key ws q c)) (sym more.new_is) (joined old ws b.0 k more.at.group g q c a s e h more.at.found)
+        subst (λ (l : Numbered). Stand m K l (enter key ws q c)) (sym more.new_is) (joined old ws b.0 g.number more.at.group g q c a s e h more.at.found)

@@ -1,27 +1,15 @@
--- What a statement changes of a state, part by part; and the state before all statements.
+-- What a statement changes of a state, part by part; and the parts as a database shows them.
 -- m is a meeting, o an order, u and v units, x a statement, c the name of a cell.
-use Rattle.std.proofs.Common.{◌≡◌, append-nil, refl, sym, ◌∙◌, ap, subst, ℕ, zero, suc, ◌+◌, ◌-◌, ◌<◌, ◌≤◌, Bool, true, false, List, [], ◌∷◌, ◌++◌, length, Option, Some, None, arith, slice_get, take, replicate}
-use Rattle.std.specs.Prelude.{◌≢◌, ◌&&◌, flat_map, option_and_then, option_map, option_to_list, unwrap_or, if◌then◌else◌}
-use Rattle.std.specs.List.{range_with_len}
+use Rattle.std.proofs.Common.{◌≡◌, append-nil, refl, sym, ◌∙◌, ap, subst, ℕ, ◌+◌, ◌-◌, ◌<◌, ◌≤◌, Bool, true, false, List, [], ◌∷◌, ◌++◌, length, Option, Some, None, arith, slice_get, take}
+use Rattle.std.specs.Prelude.{◌≢◌, flat_map, option_map, option_to_list, if◌then◌else◌}
 use Rattle.std.proofs.lemmas.Bool.{ne_eqb}
 use Rattle.std.proofs.lemmas.List.{length-append, length-map, take-map, take_at}
 use Rattle.dbtg_schema.specs.Sound.{IsSound}
-use Rattle.dbtg_schema.specs.Structure.{is_system}
-use Rattle.std.proofs.lemmas.Option.{slice_get_within}
-use Rattle.dbtg_interned.specs.Arrays.{elements, size}
-use Rattle.dbtg_interned.proofs.Public.{zeros_array, zeros_elements}
-use Rattle.dbtg_cells.specs.CellNumbers.{cell_count, cells_in_order}
-use Rattle.dbtg_cells.specs.Keys.{owner_eq}
-use Rattle.dbtg_cells.specs.declared.key.DbKey.{DbKey}
-use Rattle.dbtg_cells.specs.declared.key.Owner.TheVariants.{System}
 use Rattle.dbtg_cells.specs.declared.name.CellName.{CellName}
-use Rattle.dbtg_cells.specs.declared.name.CellName.TheVariants.{Usage, Extent, Ring, Slot}
-use Rattle.dbtg_cells.proofs.Public.{get_set_other, stands_at}
+use Rattle.dbtg_cells.proofs.Public.{get_set_other}
 use Rattle.dbtg_script.specs.Printing.Texts.{answers_text}
 use Rattle.dbtg_unit.specs.declared.statement.Statement.{Statement}
 use Rattle.dbtg_unit.specs.declared.unit.Entry.{Entry}
-use Rattle.dbtg_unit.specs.Database.State.Base.{opening}
-use Rattle.dbtg_unit.specs.Database.State.Cells.{owner_at}
 use Rattle.dbtg_unit.specs.Database.Statements.Effect.{StatementEffect}
 use Rattle.dbtg_unit.specs.Database.Laws.Replay.{IsHistoryOf, State, after_effect, effect_of_unit, entries_of, opening_state}
 use Rattle.dbtg_unit.specs.Database.Laws.Replaying.{statements_of}
@@ -30,16 +18,17 @@ use Rattle.dbtg_unit.proofs.Public.{opening_is_legal, replay_keeps_legal}
 use Rattle.dbtg_step.specs.Core.Reversible.{OnlyChanged, OnlyLastChanged, made_first}
 use Rattle.dbtg_step.specs.Core.Whole.{Making, state_now}
 use Rattle.dbtg_outcomes.specs.Orders.{made}
-use Rattle.dbtg_outcomes.specs.Results.{Meeting, by_unit, state_of, unit_answers}
-use Rattle.dbtg_outcomes.specs.Numbers.{AreNumbers, IsNumberBut, Numbers}
-use Rattle.dbtg_outcomes.specs.Inside.Parts.{cell_part, parts_of, unit_part}
+use Rattle.dbtg_outcomes.specs.Results.{Meeting, state_of, unit_answers}
+use Rattle.dbtg_outcomes.specs.Numbers.{IsNumberBut, Numbers, NumbersState}
+use Rattle.dbtg_outcomes.specs.Parts.{Parts, part_in, parts_in}
+use Rattle.dbtg_outcomes.specs.Inside.Parts.{cell_numbers, cell_part, parts_of, unit_part}
 use Rattle.dbtg_outcomes.specs.Inside.Walks.{IsMaking}
-use Rattle.dbtg_outcomes.specs.Spelling.{key_numbers, mode_numbers, one_number, pair_numbers, unit_numbers}
+use Rattle.dbtg_outcomes.specs.Spelling.{unit_numbers}
 use Rattle.dbtg_outcomes.proofs.Orders.Begun.{made_more}
 use Rattle.dbtg_outcomes.proofs.States.Numbers.{Follows}
 use Rattle.dbtg_outcomes.proofs.States.Runs.{run_state_is}
 use Rattle.dbtg_outcomes.proofs.States.SameStates.{answers_more, state_more}
-use Rattle.dbtg_outcomes.proofs.States.ShownParts.{unchanged_part}
+use Rattle.dbtg_outcomes.proofs.States.ShownParts.{as_shown, unchanged_part}
 
 module _ (m : Meeting) where
   -- LEGAL STATES
@@ -109,39 +98,24 @@ module _ (m : Meeting) where
         cells = λ c free. unchanged_part m.schema m.capacity (length m.scripts) names (state_of m o).database (state_of m (o ++ (u, x) ∷ [])).database changed c free;
       }
 
-  -- BEFORE ALL STATEMENTS
+  -- AS A DATABASE SHOWS IT
 
-  nobody : (us : List ℕ) → by_unit us [] ≡ []
-  nobody [] = refl
-  nobody (u ∷ us) = nobody us
+  module _ (d : Making) (is : IsMaking m (statements_of d.history) d) where
+    abbrev shown_parts : ℕ → Parts
+    shown_parts units = parts_in true units d (unit_part m (statements_of d.history))
 
-  no_members : (b : Bool) → unwrap_or {T = List DbKey} (if b then Some [] else None) [] ≡ []
-  no_members true = refl
-  no_members false = refl
+    spelled_parts : shown_parts (length m.scripts) ≡ parts_of m (statements_of d.history)
+    spelled_parts =
+        let o = statements_of d.history in
+        let state = run_state_is m o d is in
+        let cell_is : (c : CellName) → part_in true (length m.scripts) d c ≡ cell_part m o c
+        = λ c. as_shown d.schema d.capacity (state_now d).database (length m.scripts) c ∙ ap (λ (s : State). cell_numbers (length m.scripts) s.database c) state in
+        λ i. record { schema = (is.same i).schema; capacity = (is.same i).capacity; count = length m.scripts; unit = unit_part m o; cell = λ c. cell_is c i }
 
-  opening_part : (c : CellName) → cell_part m [] c ≡ []
-  opening_part (Usage a) = ap (flat_map (pair_numbers one_number mode_numbers)) (nobody (range_with_len 1 (length m.scripts)))
-  opening_part (Extent t) = refl
-  opening_part (Ring s o) = ap (flat_map key_numbers) (no_members (is_system m.schema s && owner_eq (owner_at (opening m.schema) o) System))
-  opening_part (Slot t n) = refl
+    -- the parts of a state are those that a database shows, spelled with versions
+    pub spelled_but : (units : ℕ) → units ≡ length m.scripts → (kept : Numbers) (names : List CellName) (n : ℕ) → IsNumberBut (parts_of m (statements_of d.history)) kept (length m.scripts) names n → IsNumberBut (shown_parts units) kept units names n
+    spelled_but units as_many kept names n h =
+        subst (λ k. IsNumberBut (shown_parts k) kept k names n) (sym as_many) (subst (λ p. IsNumberBut p kept (length m.scripts) names n) (sym spelled_parts) h)
 
-  zero_at : (many i : ℕ) → i < many → slice_get {X = ℕ} (replicate many 0) i ≡ Some 0
-  zero_at zero i low = absurd (omega (arith, low))
-  zero_at (suc many) zero low = refl
-  zero_at (suc many) (suc i) low = zero_at many i (omega (arith, low))
-
-  -- the array of zeros is the number of the opening state, but for the units
-  pub opening_but_units : (kept : Numbers) → AreNumbers kept → length m.scripts + cell_count m.schema m.capacity ≤ size kept.arrays → IsNumberBut (parts_of m []) kept 0 [] 0
-  opening_but_units kept once room =
-      let zeros = zeros_elements kept.arrays once.arrays in
-      let none : (i : ℕ) → i < size kept.arrays → slice_get (elements kept.arrays 0) i ≡ Some 0 = λ i low. ap (λ (es : List ℕ). slice_get es i) zeros ∙ zero_at (size kept.arrays) i low in
-      record {
-        kept_once = once;
-        room = room;
-        is_array = zeros_array kept.arrays once.arrays;
-        units_are = λ u low high. absurd (omega (arith, low, high));
-        cells_are = λ c k number free.
-            let within = slice_get_within (cells_in_order m.schema m.capacity) k c (stands_at c (cells_in_order m.schema m.capacity) k number) in
-            ap (option_and_then (slice_get kept.contents)) (none (length m.scripts + k) (omega (arith, within, room))) ∙ once.contents.empty_first ∙ ap Some (sym (opening_part c));
-        zeros = λ i past low. none i low;
-      }
+    pub spelled_state : (units : ℕ) → units ≡ length m.scripts → (kept : Numbers) (n : ℕ) → NumbersState (shown_parts units) kept n → NumbersState (parts_of m (statements_of d.history)) kept n
+    spelled_state units as_many kept n h = subst (λ p. NumbersState p kept n) spelled_parts (subst (λ k. NumbersState (shown_parts k) kept n) as_many h)

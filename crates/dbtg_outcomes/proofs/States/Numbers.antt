@@ -1,29 +1,31 @@
 -- Two orders lead to the same state just where the numbers of their states are the same; and how the next state is numbered.
 -- m is a meeting, o and q are orders, p the parts of a state, u and v units, c and d names of cells, n and j numbers of states, i a place in
 -- an array.
-use Rattle.std.proofs.Common.{◌≡◌, refl, sym, ◌∙◌, ap, subst, ℕ, zero, suc, ◌+◌, ◌-◌, ◌^◌, ◌<◌, ◌≤◌, Bool, true, false, List, [], ◌∷◌, ◌++◌, drop, length, Option, Some, None, inl, inr, ⊎_elim, arith, slice_get, slice_set}
+use Rattle.std.proofs.Common.{◌≡◌, refl, sym, ◌∙◌, ap, subst, ℕ, zero, suc, ◌+◌, ◌-◌, ◌^◌, ◌<◌, ◌≤◌, Bool, true, false, List, [], ◌∷◌, drop, length, Option, Some, None, inl, inr, ⊎_elim, arith, slice_get, slice_set, replicate}
 use Rattle.std.specs.Prelude.{◌≢◌, is_some, option_and_then}
-use Rattle.std.specs.List.{range_with_len}
-use Rattle.std.proofs.lemmas.Bool.{cases_Bool, cases_eq, cases_lt, false≢true}
-use Rattle.std.proofs.lemmas.Option.{same_Some, slice_get-get_or, slice_get_within}
+use Rattle.std.specs.List.{list_all}
+use Rattle.std.proofs.lemmas.Bool.{and_from, cases_Bool, cases_eq, cases_lt, false≢true, true≢false}
+use Rattle.std.proofs.lemmas.Option.{same_Some, slice_get_within}
 use Rattle.dbtg_schema.specs.Lists.{Lists}
 use Rattle.dbtg_schema.proofs.Public.{some_is}
-use Rattle.dbtg_interned.specs.Kept.{IsContents, IsOnce, Keeps}
+use Rattle.dbtg_interned.specs.Kept.{IsOnce, Keeps}
 use Rattle.dbtg_interned.specs.Arrays.{AreArrays, IsArray, elements, size}
-use Rattle.dbtg_interned.proofs.Public.{elements_length, equal_are_one, grows_refl, grows_trans, keeps_refl, keeps_trans, stays_array, stays_elements, stays_list, stays_size}
+use Rattle.dbtg_interned.proofs.Public.{elements_length, equal_are_one, grows_refl, grows_trans, keeps_refl, keeps_trans, stays_array, stays_elements, stays_list, stays_size, zeros_array, zeros_elements}
 use Rattle.dbtg_cells.specs.CellNumbers.{cell_count, cell_number, cells_in_order, is_cell}
 use Rattle.dbtg_cells.specs.Names.{name_eq}
 use Rattle.dbtg_cells.specs.declared.name.CellName.{CellName}
-use Rattle.dbtg_cells.proofs.Public.{get_set_other, get_set_same, has_number, name_eq_refl, numbered_at, same_name, stands_at}
+use Rattle.dbtg_cells.proofs.Public.{cell_in_order, get_set_other, get_set_same, has_number, name_eq_refl, numbered_at, same_name, stands_at}
 use Rattle.dbtg_unit.specs.declared.statement.Statement.{Statement}
-use Rattle.dbtg_unit.specs.Database.Laws.StaysLegal.{IsLegalState}
-use Rattle.dbtg_unit.proofs.Public.{In, in_range, of_range}
+use Rattle.dbtg_unit.proofs.Public.{in_range, of_range}
 use Rattle.dbtg_step.specs.Core.Reversible.{is_named}
 use Rattle.dbtg_outcomes.specs.Results.{Meeting, result_text, state_key}
 use Rattle.dbtg_outcomes.specs.Parts.{Parts}
 use Rattle.dbtg_outcomes.specs.Inside.Parts.{cell_part, parts_of, unit_part}
 use Rattle.dbtg_outcomes.specs.Numbers.{AreNumbers, NumbersState, HasPut, IsNumberBut, Grow, Numbers, content_at}
+use Rattle.dbtg_outcomes.specs.declared.groups.Group.{Group}
 use Rattle.dbtg_outcomes.specs.Inside.Numbers.{IsNumberOf, IsTextOf}
+use Rattle.dbtg_outcomes.specs.Inside.Steps.{HasNumber, Stay}
+use Rattle.dbtg_outcomes.specs.Inside.Walks.{order_of}
 use Rattle.dbtg_outcomes.proofs.States.SameParts.{parts_same, same_at_each, same_from_parts}
 use Rattle.dbtg_outcomes.proofs.States.SameStates.{SameState, key_from_state, same_key}
 
@@ -128,6 +130,32 @@ stays_number p old new units pending n once keeps h =
       cells_are = λ c k number free. content (p.count + k) (p.cell c) (h.cells_are c k number free);
       zeros = λ i past within. ap (λ (es : List ℕ). slice_get es i) same ∙ h.zeros i past (subst (λ k. i < k) size_is within);
     }
+
+-- NOTHING YET
+
+all_from : (test : CellName → Bool) (ns : List CellName) → ((i : ℕ) (c : CellName) → slice_get ns i ≡ Some c → test c ≡ true) → list_all test ns ≡ true
+all_from test [] h = refl
+all_from test (n ∷ ns) h = and_from _ _ (h zero n refl) (all_from test ns (λ i c e. h (suc i) c e))
+
+-- the names of all cells are names of cells
+pub all_are_cells : (schema : Lists) (capacity : ℕ) → list_all (is_cell schema capacity) (cells_in_order schema capacity) ≡ true
+all_are_cells schema capacity = all_from (is_cell schema capacity) (cells_in_order schema capacity) (λ i c e. sym (has_number schema capacity c) ∙ ap is_some (numbered_at schema capacity i c e))
+
+zero_at : (count i : ℕ) → i < count → slice_get {X = ℕ} (replicate count 0) i ≡ Some 0
+zero_at zero i low = absurd (omega (arith, low))
+zero_at (suc count) zero low = refl
+zero_at (suc count) (suc i) low = zero_at count i (omega (arith, low))
+
+-- the array of zeros says nothing yet of any unit or cell
+pub nothing_said : (p : Parts) (kept : Numbers) → AreNumbers kept → p.count + cell_count p.schema p.capacity ≤ size kept.arrays → IsNumberBut p kept 0 (cells_in_order p.schema p.capacity) 0
+nothing_said p kept once room = record {
+  kept_once = once;
+  room = room;
+  is_array = zeros_array kept.arrays once.arrays;
+  units_are = λ u low high. absurd (omega (arith, low, high));
+  cells_are = λ c k number free. absurd (true≢false (sym (cell_in_order p.schema p.capacity c ∙ sym (has_number p.schema p.capacity c) ∙ ap is_some number) ∙ free));
+  zeros = λ i past low. ap (λ (es : List ℕ). slice_get es i) (zeros_elements kept.arrays once.arrays) ∙ zero_at (size kept.arrays) i low;
+}
 
 -- ONE PART MORE
 
@@ -266,6 +294,12 @@ grow_none numbers = record { contents = keeps_refl numbers.contents; arrays = gr
 pub grow_more : (a b c : Numbers) → Grow a b → Grow b c → Grow a c
 grow_more a b c h g = record { contents = keeps_trans a.contents b.contents c.contents h.contents g.contents; arrays = grows_trans a.arrays b.arrays c.arrays h.arrays g.arrays }
 
+pub stay_none : (numbers : Numbers) → Stay numbers numbers
+stay_none numbers = record { grown = grow_none numbers; kept_once = λ once. once }
+
+pub stay_more : (a b c : Numbers) → Stay a b → Stay b c → Stay a c
+stay_more a b c h g = record { grown = grow_more a b c h.grown g.grown; kept_once = λ once. g.kept_once (h.kept_once once) }
+
 module _ (m : Meeting) where
   pub number_tells : (numbers : Numbers) (o q : List (ℕ × Statement)) (n : ℕ) → IsNumberOf m numbers o n → IsNumberOf m numbers q n → state_key m o ≡ state_key m q
   number_tells numbers o q n h g = key_from_state m o q (same_state_by_number m numbers o q n h g)
@@ -275,6 +309,10 @@ module _ (m : Meeting) where
 
   pub number_later : (a b : Numbers) → AreNumbers b → Grow a b → (o : List (ℕ × Statement)) (n : ℕ) → IsNumberOf m a o n → IsNumberOf m b o n
   number_later a b once grown o n h = record { number = stays_number (parts_of m o) a b (length m.scripts) [] n once grown h.number; legal = h.legal }
+
+  -- a group keeps its number
+  pub has_number_later : (a b : Numbers) (g : Group) → Stay a b → HasNumber m a g → HasNumber m b g
+  has_number_later a b g stay h = number_later a b (stay.kept_once h.number.kept_once) stay.grown (order_of m g.turns) g.number h
 
   -- RESULTS
 

@@ -35,11 +35,11 @@ use Rattle.dbtg_outcomes.proofs.Lists.Weights.{total}
 module _ (m : Meeting) where
   -- GROUP INTO GROUP
 
-  pub joins_one : (g : Group) (ts : List Turn) (n : ℕ) (before after : List (List ℕ)) (old new : Numbered) → have_statements m g.turns ≡ true → ts ≡ g.turns → Keeps before after → IsOnce after → IsTextOf m after (order_of m g.turns) n → IsAdded old n (record { turns = ts; orders = g.orders }) new → Joins m g before after old new
+  pub joins_one : (g : Group) (ts : List Turn) (n : ℕ) (before after : List (List ℕ)) (old new : Numbered) → have_statements m g.turns ≡ true → ts ≡ g.turns → Keeps before after → IsOnce after → IsTextOf m after (order_of m g.turns) n → IsAdded old (record { number = n; turns = ts; orders = g.orders }) new → Joins m g before after old new
   joins_one g ts n before after old new there same kept are is added = record {
     holds = λ seen w held hold.
-        let own : IsHeld m (record { turns = ts; orders = g.orders }) w = record { turns = subst (λ (us : List Turn). LeadTo m us w.0) (sym same) held.turns; orders_are = held.orders_are } in
-        hold_next m (result_text m) (IsTextOf m after) (text_tells m after) (text_same m after are) old new seen n (record { turns = ts; orders = g.orders }) w.0 w.1
+        let own : IsHeld m (record { number = n; turns = ts; orders = g.orders }) w = record { turns = subst (λ (us : List Turn). LeadTo m us w.0) (sym same) held.turns; orders_are = held.orders_are } in
+        hold_next m (result_text m) (IsTextOf m after) (text_tells m after) (text_same m after are) old new seen (record { number = n; turns = ts; orders = g.orders }) w.0 w.1
         (stand_later m (IsTextOf m before) (IsTextOf m after) (text_later m before after kept) old (gathered (result_text m) [] seen) hold)
         (subst (λ (o : List (ℕ × Statement)). IsTextOf m after o n) held.turns.order_is is) own added;
   }

@@ -4,15 +4,13 @@ use Rattle.std.proofs.Common.{◌≡◌, append-nil, refl, sym, ◌∙◌, ap, s
 use Rattle.std.specs.Prelude.{flat_map, is_some, option_to_list, nat_le, nat_lt, if◌then◌else◌}
 use Rattle.std.specs.List.{list_all, range_with_len}
 use Rattle.std.proofs.lemmas.Bool.{and_from, and_parts, cases_Bool, cases_lt, false≢true, le-leb, lt-ltb}
-use Rattle.std.proofs.lemmas.Option.{slice_get-get_or}
 use Rattle.dbtg_schema.specs.Lists.{Lists}
-use Rattle.dbtg_schema.specs.Structure.{is_system, owns}
+use Rattle.dbtg_schema.specs.Structure.{owns}
 use Rattle.dbtg_schema.proofs.Public.{none_is}
 use Rattle.dbtg_cells.specs.CellNumbers.{is_cell}
 use Rattle.dbtg_cells.specs.declared.key.DbKey.{DbKey}
 use Rattle.dbtg_cells.specs.declared.key.Owner.{Owner}
 use Rattle.dbtg_cells.specs.declared.key.Owner.TheVariants.{System, Rec}
-use Rattle.dbtg_cells.specs.declared.key.Value.{Value}
 use Rattle.dbtg_cells.specs.declared.key.Value.TheVariants.{Num, Text}
 use Rattle.dbtg_cells.specs.declared.name.CellName.{CellName}
 use Rattle.dbtg_cells.specs.declared.name.CellName.TheVariants.{Usage, Extent, Ring, Slot}

@@ -1,6 +1,6 @@
 -- A search that goes on by one statement.
 -- m is a meeting, n is how many statements are made, o is an order, u is a unit, x is a statement, w is an order with a weight.
-use Rattle.std.proofs.Common.{append_assoc, ◌≡◌, refl, sym, ◌∙◌, ap, subst, ℕ, zero, suc, ◌+◌, ◌-◌, ◌<◌, ◌≤◌, List, [], ◌∷◌, ◌++◌, length, map, Some, arith, inl, inr, ◌⊎◌, ⊎_elim, slice_get}
+use Rattle.std.proofs.Common.{append_assoc, ◌≡◌, refl, sym, ◌∙◌, ap, subst, ℕ, zero, suc, ◌+◌, ◌-◌, ◌<◌, ◌≤◌, List, [], ◌∷◌, ◌++◌, length, map, Some, arith, inl, inr, ⊎_elim, slice_get}
 use Rattle.std.specs.Prelude.{Contains, option_and_then, if◌then◌else◌}
 use Rattle.std.specs.Str.{bytes_eq}
 use Rattle.std.proofs.lemmas.Slice.Eq.{bytes_eq-Decides}
@@ -15,23 +15,23 @@ use Rattle.dbtg_step.specs.Machine.SequentialDatabase.{unit_at}
 use Rattle.dbtg_outcomes.specs.declared.groups.Group.{Group}
 use Rattle.dbtg_outcomes.specs.declared.notes.Note.{Note}
 use Rattle.dbtg_outcomes.specs.declared.search.Search as given
-use Rattle.dbtg_outcomes.specs.declared.turns.Turn.{Turn}
 use Rattle.dbtg_outcomes.specs.declared.walk.Walk.{Walk}
 use Rattle.dbtg_outcomes.specs.Inside.Gathered.{gathered}
 use Rattle.dbtg_outcomes.specs.Inside.Grouped.{Numbered}
 use Rattle.dbtg_outcomes.specs.Inside.Numbers.{IsNumberOf}
-use Rattle.dbtg_outcomes.specs.Orders.{completed, count_statements, made, made_first, next_of, orders, orders_after, others}
+use Rattle.dbtg_outcomes.specs.Orders.{completed, count_statements, made_first, next_of, orders, orders_after, others}
 use Rattle.dbtg_outcomes.specs.Outcomes.{AreStatuses, Comes, IsMeeting, count_states, states_within}
 use Rattle.dbtg_outcomes.specs.Results.{Meeting, state_key, units_of}
 use Rattle.dbtg_outcomes.specs.Inside.Search.{AreHeld, AreNotedOf, HasNote, IsAt, IsHeld, IsNextNote, IsNote, IsNoteIn, layer}
-use Rattle.dbtg_outcomes.specs.Inside.Steps.{Advances, ExtendsAll, HaveStatements, IsAtState, IsOver, IsUnderWay, LeadToMore, next_orders, nexts, with_each}
+use Rattle.dbtg_outcomes.specs.Inside.Steps.{Advances, ExtendsAll, GoesOn, HasNumber, HaveStatements, IsAtState, IsOver, IsUnderWay, LeadToMore, next_orders, nexts, with_each}
+use Rattle.dbtg_outcomes.specs.Numbers.{Numbers}
 use Rattle.dbtg_outcomes.specs.Inside.Walks.{LeadTo, Stands, order_of}
 use Rattle.dbtg_outcomes.specs.declared.answered.Answered.{Answered}
 use Rattle.dbtg_outcomes.specs.Inside.Statuses.{AreOfNotes}
 use Rattle.dbtg_outcomes.proofs.Orders.Begun.{IsNext, amid, begun_left, begun_more, completed_begins, completes, front_or_amid, left, next_left}
 use Rattle.dbtg_outcomes.proofs.Orders.Mixed.{first_left, nothing_begun}
 use Rattle.dbtg_outcomes.proofs.Lists.Gathered.{gathered_is}
-use Rattle.dbtg_outcomes.proofs.States.Layers.{stand_alone, stand_length}
+use Rattle.dbtg_outcomes.proofs.States.Layers.{stand_alone, stand_length, stand_numbered}
 use Rattle.dbtg_outcomes.proofs.Lists.Members.{contains_in, in_contains}
 use Rattle.dbtg_outcomes.proofs.States.SameStates.{SameState, status_same}
 use Rattle.dbtg_outcomes.proofs.States.States.{group_of, has_group, layer_next, same_state}
@@ -131,9 +131,9 @@ module _ (m : Meeting) where
   first_weight : (k : List ℕ) (o : List (ℕ × Statement)) → length {A = List (ℕ × Statement)} (if bytes_eq k k then o ∷ [] else []) ≡ 1
   first_weight k o = rw ((bytes_eq-Decides k k).1 refl) refl
 
-  first_held : (ts : List Turn) → LeadTo m ts (made_first m.first m.scripts) → AreHeld m (record { turns = ts; orders = Some 1 } ∷ []) (layer m 0)
+  first_held : (g : Group) → g.orders ≡ Some 1 → LeadTo m g.turns (made_first m.first m.scripts) → AreHeld m (g ∷ []) (layer m 0)
   unfolding completed
-  first_held ts leads = (record { turns = leads; orders_are = ap counted (sym (first_weight (state_key m (made_first m.first m.scripts)) (made_first m.first m.scripts))) }, tt)
+  first_held g one leads = (record { turns = leads; orders_are = one ∙ ap counted (sym (first_weight (state_key m (made_first m.first m.scripts)) (made_first m.first m.scripts))) }, tt)
 
   -- what is noted of the script that is made first is a status that comes
   first_comes : (note : Note) → IsNoteIn m (made_first m.first m.scripts) note → Comes m note.unit note.place note.status
@@ -152,32 +152,40 @@ module _ (m : Meeting) where
         status = h.is.status;
       })
 
-  pub at_first : (s : given.Search) (ts : List Turn) (notes : List Note) (limit : ℕ) → IsAtState m ts notes limit s → 0 < limit → LeadTo m ts (made_first m.first m.scripts) → AreNotedOf m (made_first m.first m.scripts) notes → IsAt m 0 s
-  at_first s ts notes limit is some leads noted =
+  pub at_first : (s : given.Search) (g : Group) (limit : ℕ) (w : Walk) → IsAtState g limit w s → 0 < limit → g.orders ≡ Some 1 → LeadTo m g.turns (made_first m.first m.scripts) → Stands m w → AreNotedOf m (made_first m.first m.scripts) w.notes.items → HasNumber m w.numbers g → GoesOn m 0 s
+  at_first s g limit w is some one leads stands noted number =
       let few = is.limit_is in
-      let one = is.states_are in
-      let known = subst (λ (ns : List Note). AreNotedOf m (made_first m.first m.scripts) ns) (sym is.notes_are) noted in
+      let states = is.states_are in
+      let known = subst (λ (v : Walk). AreNotedOf m (made_first m.first m.scripts) v.notes.items) (sym is.walk_is) noted in
       record {
-        held = subst (λ (gs : List Group). AreHeld m gs (layer m 0)) (sym is.layer_is) (first_held ts leads);
-        states_are = is.states_are ∙ sym first_states;
-        within = omega arith;
-        stands = is.stands;
-        first = known.all;
-        all = λ k low. absurd (omega arith);
-        only = λ note c. first_comes note (known.only note c);
+        at = record {
+          held = subst (λ (gs : List Group). AreHeld m gs (layer m 0)) (sym is.layer_is) (first_held g one leads);
+          states_are = is.states_are ∙ sym first_states;
+          within = omega arith;
+          stands = subst (Stands m) (sym is.walk_is) stands;
+          first = known.all;
+          all = λ k low. absurd (omega arith);
+          only = λ note c. first_comes note (known.only note c);
+        };
+        numbered = subst (λ (gs : List Group). AllByRecursion (HasNumber m s.walk.numbers) gs) (sym is.layer_is) (subst (λ (v : Walk). HasNumber m v.numbers g) (sym is.walk_is) number, tt);
       }
 
   -- where the walk stands is no part of what the search knows
-  pub at_walked : (n : ℕ) (s : given.Search) (w : Walk) → IsAt m n s → Stands m w → w.notes.items ≡ s.walk.notes.items → IsAt m n (record s { walk = w })
-  at_walked n s w at stands same = record {
-    held = at.held;
-    states_are = at.states_are;
-    within = at.within;
-    stands = stands;
-    first = λ before q rest e. let h = at.first before q rest e in record { note = h.note; is = h.is; noted = subst (λ (ns : List Note). Contains ns h.note) (sym same) h.noted };
-    all = λ k low o u x c d e. let h = at.all k low o u x c d e in record { note = h.note; is = h.is; noted = subst (λ (ns : List Note). Contains ns h.note) (sym same) h.noted };
-    only = λ note c. at.only note (subst (λ (ns : List Note). Contains ns note) same c);
-  }
+  pub at_walked : (n : ℕ) (s : given.Search) (w : Walk) → GoesOn m n s → Stands m w → w.notes.items ≡ s.walk.notes.items → w.numbers ≡ s.walk.numbers → GoesOn m n (record s { walk = w })
+  at_walked n s w goes stands same numbers =
+      let at = goes.at in
+      record {
+        at = record {
+          held = at.held;
+          states_are = at.states_are;
+          within = at.within;
+          stands = stands;
+          first = λ before q rest e. let h = at.first before q rest e in record { note = h.note; is = h.is; noted = subst (λ (ns : List Note). Contains ns h.note) (sym same) h.noted };
+          all = λ k low o u x c d e. let h = at.all k low o u x c d e in record { note = h.note; is = h.is; noted = subst (λ (ns : List Note). Contains ns h.note) (sym same) h.noted };
+          only = λ note c. at.only note (subst (λ (ns : List Note). Contains ns note) same c);
+        };
+        numbered = subst (λ (ns : Numbers). AllByRecursion (HasNumber m ns) s.layer.items) (sym numbers) goes.numbered;
+      }
 
   -- ONE MORE STATEMENT
 
@@ -223,7 +231,7 @@ module _ (m : Meeting) where
           (subst (λ (q : List (ℕ × Statement)). In q (orders_after m.first m.scripts n)) (sym order) (group_of (state_key m) (orders_after m.first m.scripts n) held.weighted held.is_in))
           (subst (λ (v : ℕ). In v (units_of m)) unit of.unit_in) is.next_is is.is
 
-      pub at_next : IsAt m (suc n) new
+      at_next : IsAt m (suc n) new
       at_next =
           let stands = h.all.holds (layer m n) at.held in
           let long : length next ≡ length (layer m (suc n)) = stand_length m (IsNumberOf m new.walk.numbers) next _ stands ∙ ap length gathers in
@@ -241,6 +249,12 @@ module _ (m : Meeting) where
             only = λ note c. ⊎_elim (λ d. at.only note d) (λ r. new_only note r.0 r.1 r.2) (h.all.noted.only note c);
           }
 
+      pub goes_next : GoesOn m (suc n) new
+      goes_next = record {
+        at = at_next;
+        numbered = subst (λ (gs : List Group). AllByRecursion (HasNumber m new.walk.numbers) gs) (sym h.layer_is) (stand_numbered m new.walk.numbers next _ (h.all.holds (layer m n) at.held));
+      }
+
   -- AT THE END
 
   pub states_grow : (k n : ℕ) → states_within m n ≤ states_within m (n + k)
@@ -254,10 +268,10 @@ module _ (m : Meeting) where
   -- the search goes on by one statement if there is memory
   pub advances_one : IsMeeting m → (old new : given.Search) (seen : List Group) (next : Numbered) (count : ℕ) → seen ≡ old.layer.items → ExtendsAll m seen next old.walk new.walk → length next ≤ old.limit - old.states → count ≡ length next → new.layer.items ≡ map (λ g. g.1) next → new.states ≡ old.states + count → new.limit ≡ old.limit → Stands m new.walk → Advances m 1 old new
   advances_one meets old new seen next count same all few long layer_is states_are limit_is stands = record {
-    at = λ n at.
+    goes = λ n goes.
         let more : suc n ≡ n + 1 = omega arith in
-        subst (λ (k : ℕ). IsAt m k new) more
-        (at_next meets n old at new next (record {
+        subst (λ (k : ℕ). GoesOn m k new) more
+        (goes_next meets n old goes.at new next (record {
           all = subst (λ (gs : List Group). ExtendsAll m gs next old.walk new.walk) same all;
           few = few;
           layer_is = layer_is;
@@ -270,26 +284,26 @@ module _ (m : Meeting) where
 
   -- or the limit does not allow that
   pub over_one : IsMeeting m → (old : given.Search) (seen : List Group) → seen ≡ old.layer.items → LeadToMore m seen (old.limit - old.states) → IsOver m 1 old
-  over_one meets old seen same more = λ n at. over_next meets n old at (λ ws held. more ws (subst (λ (gs : List Group). AreHeld m gs ws) (sym same) held))
+  over_one meets old seen same more = λ n goes. over_next meets n old goes.at (λ ws held. more ws (subst (λ (gs : List Group). AreHeld m gs ws) (sym same) held))
 
   -- STEP BY STEP
 
   pub advances_none : (s : given.Search) → Advances m 0 s s
-  advances_none s = record { at = λ n at. let none : n ≡ n + 0 = omega arith in subst (λ (k : ℕ). IsAt m k s) none at; limit_is = refl }
+  advances_none s = record { goes = λ n goes. let none : n ≡ n + 0 = omega arith in subst (λ (k : ℕ). GoesOn m k s) none goes; limit_is = refl }
 
   pub advances_more : (j k : ℕ) (a b c : given.Search) → Advances m j a b → Advances m k b c → Advances m (j + k) a c
   advances_more j k a b c h g = record {
-    at = λ n at. let both : n + j + k ≡ n + (j + k) = omega arith in subst (λ (l : ℕ). IsAt m l c) both (g.at (n + j) (h.at n at));
+    goes = λ n goes. let both : n + j + k ≡ n + (j + k) = omega arith in subst (λ (l : ℕ). GoesOn m l c) both (g.goes (n + j) (h.goes n goes));
     limit_is = g.limit_is ∙ h.limit_is;
   }
 
   pub under_way : (k : ℕ) (a b : given.Search) → Advances m k a b → IsUnderWay m a → IsUnderWay m b
-  under_way k a b h g = record { made = g.made + k; at = h.at g.made g.at }
+  under_way k a b h g = record { made = g.made + k; goes = h.goes g.made g.goes }
 
   -- a search that is over goes no further
   pub over_later : (j k l : ℕ) (a b : given.Search) → j + k ≤ l → Advances m j a b → IsOver m k b → IsOver m l a
-  over_later j k l a b most h over = λ n at.
-      let here : b.limit < states_within m (n + j + k) = over (n + j) (h.at n at) in
+  over_later j k l a b most h over = λ n goes.
+      let here : b.limit < states_within m (n + j + k) = over (n + j) (h.goes n goes) in
       let rest : n + j + k + (l - (j + k)) ≡ n + l = omega arith in
       let grown : states_within m (n + j + k) ≤ states_within m (n + l) = subst (λ (i : ℕ). states_within m (n + j + k) ≤ states_within m i) rest (states_grow (l - (j + k)) (n + j + k)) in
       let limit = h.limit_is in
@@ -301,11 +315,6 @@ module _ (m : Meeting) where
       let all : 0 + count_statements (others m.first m.scripts) ≡ count_statements (others m.first m.scripts) = omega arith in
       let grown : states_within m 0 ≤ count_states m = subst (λ (n : ℕ). states_within m 0 ≤ states_within m n) all (states_grow (count_statements (others m.first m.scripts)) 0) in
       omega arith
-
-  pub over_all : (scripts : List (List Statement)) (s : given.Search) (limit : ℕ) → scripts ≡ others m.first m.scripts → s.limit ≡ limit → IsAt m 0 s → IsOver m (count_statements scripts) s → limit < count_states m
-  over_all scripts s limit same is at over =
-      let all : 0 + count_statements scripts ≡ count_statements (others m.first m.scripts) = omega (arith, ap count_statements same) in
-      subst (λ (k : ℕ). k < count_states m) is (subst (λ (n : ℕ). s.limit < states_within m n) all (over 0 at))
 
   -- the turns of what is held have statements
   pub held_there : (gs : List Group) (ws : List (List (ℕ × Statement) × ℕ)) → AreHeld m gs ws → AllByRecursion (HaveStatements m) gs

@@ -1,6 +1,6 @@
 -- The states after a number of statements, layer by layer.
 -- m is a meeting, o, p are orders, s is a statement with its unit, n is how many statements are made.
-use Rattle.std.proofs.Common.{◌≡◌, refl, sym, ◌∙◌, ap, subst, ℕ, zero, suc, ◌+◌, true, ◌||◌, List, [], ◌∷◌, ◌++◌, length, map, None, inl, inr, ⊎_elim, ◌⊎◌}
+use Rattle.std.proofs.Common.{◌≡◌, refl, sym, ◌∙◌, ap, subst, ℕ, zero, suc, true, ◌||◌, List, [], ◌∷◌, ◌++◌, length, map, None, inl, inr, ⊎_elim, ◌⊎◌}
 use Rattle.std.specs.Prelude.{◌&&◌, filter, flat_map}
 use Rattle.std.specs.List.{list_all}
 use Rattle.std.specs.Str.{bytes_eq}

@@ -28,7 +28,7 @@ pub record HasMore (old : Numbered) (number : ℕ) (orders : Option ℕ) (i : �
   pub at : IsAt old number i
   pub new_is : new ≡ slice_set old i (number, record at.group { orders = sum_of at.group.orders orders })
 
--- a group is appended under this number, if none stands under it; otherwise the group that does gets its orders
-abbrev pub IsAdded : Numbered → ℕ → Group → Numbered → Type 0
-IsAdded old number group new =
-    (Lacks old number × (new ≡ old ++ (number, group) ∷ [])) ⊎ ((i : ℕ) × HasMore old number group.orders i new)
+-- a group is appended under its number, if none stands under it; otherwise the group that does gets its orders
+abbrev pub IsAdded : Numbered → Group → Numbered → Type 0
+IsAdded old group new =
+    (Lacks old group.number × (new ≡ old ++ (group.number, group) ∷ [])) ⊎ ((i : ℕ) × HasMore old group.number group.orders i new)

@@ -1,13 +1,9 @@
 -- Words beside `Outcomes` that private functions and lemmas use.
-use Rattle.std.specs.Prelude.{ℕ, ◌≡◌, ◌++◌, ◌∷◌, [], List, length, map}
+use Rattle.std.specs.Prelude.{ℕ, ◌++◌, ◌∷◌, [], List, map}
 use Rattle.dbtg_unit.specs.declared.statement.Statement.{Statement}
-use Rattle.dbtg_unit.specs.Database.State.Image.{image_of}
-use Rattle.dbtg_unit.specs.Database.Laws.Replay.{IsHistoryOf}
-use Rattle.dbtg_unit.specs.Database.Laws.Replaying.{statements_of}
-use Rattle.dbtg_step.specs.declared.results.Run.{Run}
 use Rattle.dbtg_step.specs.Core.Whole.{Making}
 use Rattle.dbtg_outcomes.specs.declared.notes.Note.{Note}
-use Rattle.dbtg_outcomes.specs.Results.{Meeting, state_of}
+use Rattle.dbtg_outcomes.specs.Results.{Meeting}
 use Rattle.dbtg_outcomes.specs.Inside.Search.{AreNotedOf}
 use Rattle.dbtg_outcomes.specs.Inside.Walks.{IsMaking}
 

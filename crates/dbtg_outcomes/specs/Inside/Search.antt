@@ -1,6 +1,6 @@
 -- What a search among orders knows once n statements are made.
 -- m is a meeting, o an order, u a unit, w a counted order, n the number of statements that are made.
-use Rattle.std.specs.Prelude.{ℕ, ◌≡◌, ◌<◌, ◌≤◌, ◌⊎◌, true, List, [], ◌∷◌, ◌++◌, ⊤, Some, length, map, Contains}
+use Rattle.std.specs.Prelude.{ℕ, ◌≡◌, ◌<◌, ◌≤◌, ◌⊎◌, List, [], ◌∷◌, ◌++◌, ⊤, Some, length, map, Contains}
 use Rattle.std.specs.List.{range_with_len}
 use Rattle.dbtg_unit.specs.declared.statement.Statement.{Statement}
 use Rattle.dbtg_outcomes.specs.declared.groups.Group.{Group}
@@ -51,12 +51,12 @@ AreHeld m [] (w ∷ ws) = ⊥
 AreHeld m (g ∷ gs) [] = ⊥
 AreHeld m (g ∷ gs) (w ∷ ws) = IsHeld m g w × AreHeld m gs ws
 
--- the same, and each group stands under a number that K says its order has
+-- the same, and each group stands under its number, which K says its order has
 abbrev pub Stand : Meeting → (MadeOrder → ℕ → Type 0) → Numbered → List CountedOrder → Type 0
 Stand m K [] [] = ⊤
 Stand m K [] (w ∷ ws) = ⊥
 Stand m K (g ∷ gs) [] = ⊥
-Stand m K (g ∷ gs) (w ∷ ws) = (K w.0 g.0 × IsHeld m g.1 w) × Stand m K gs ws
+Stand m K (g ∷ gs) (w ∷ ws) = (K w.0 g.0 × IsHeld m g.1 w × (g.1.number ≡ g.0)) × Stand m K gs ws
 
 -- the orders that were seen are grouped by their keys: a key has one group, which counts all its orders, under the number that its
 -- first order has

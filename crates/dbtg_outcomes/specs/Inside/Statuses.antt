@@ -1,6 +1,6 @@
 -- Notes and statuses as they are entered.
 -- u is a unit, i a place in its script from 0.
-use Rattle.std.specs.Prelude.{ℕ, ◌≡◌, ◌+◌, ◌-◌, ◌⊎◌, List, [], ◌∷◌, ◌++◌, Some, length, map, slice_get, Contains}
+use Rattle.std.specs.Prelude.{ℕ, ◌≡◌, ◌-◌, ◌⊎◌, List, [], ◌∷◌, ◌++◌, Some, length, map, slice_get, Contains}
 use Rattle.std.specs.List.{range_with_len}
 use Rattle.dbtg_unit.specs.declared.statement.Statement.{Statement}
 use Rattle.dbtg_outcomes.specs.declared.answered.Answered.{Answered}

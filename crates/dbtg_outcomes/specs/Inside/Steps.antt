@@ -1,12 +1,10 @@
 -- What the steps of a search do.
 -- m is a meeting, g a group, o an order, u a unit, w a counted order, n the number of statements that are made; a and b are a walk
 -- before and after.
-use Rattle.std.specs.Prelude.{ℕ, ◌≡◌, ◌+◌, ◌<◌, List, [], ◌∷◌, ◌++◌, Some, map, length, true}
-use Rattle.std.specs.List.{flat_map}
+use Rattle.std.specs.Prelude.{ℕ, ◌≡◌, ◌+◌, ◌<◌, List, [], ◌∷◌, ◌++◌, map, length, true}
+use Rattle.std.specs.List.{AllByRecursion, flat_map}
 use Rattle.dbtg_outcomes.specs.declared.groups.Group.{Group}
-use Rattle.dbtg_outcomes.specs.declared.notes.Note.{Note}
 use Rattle.dbtg_outcomes.specs.declared.search.Search as given
-use Rattle.dbtg_outcomes.specs.declared.turns.Turn.{Turn}
 use Rattle.dbtg_outcomes.specs.declared.walk.Walk.{Walk}
 use Rattle.dbtg_outcomes.specs.Inside.Gathered.{each_of, gathered}
 use Rattle.dbtg_outcomes.specs.Inside.Grouped.{Numbered}
@@ -15,12 +13,21 @@ use Rattle.dbtg_outcomes.specs.Inside.Numbers.{IsNumberOf, IsTextOf}
 use Rattle.dbtg_outcomes.specs.Orders.{extended}
 use Rattle.dbtg_outcomes.specs.Outcomes.{states_within}
 use Rattle.dbtg_outcomes.specs.Results.{Meeting, result_text, state_key, units_of}
-use Rattle.dbtg_outcomes.specs.Inside.Walks.{Stands, have_statements, order_of}
+use Rattle.dbtg_outcomes.specs.Inside.Walks.{have_statements, order_of}
 use Rattle.dbtg_outcomes.specs.Inside.Search.{AreHeld, AreNoted, CountedOrder, Hold, IsAt, IsHeld, MadeOrder, OrderAndUnit}
 
 -- each turn of the group has a statement
 abbrev pub HaveStatements : Meeting → Group → Type 0
 HaveStatements m g = have_statements m g.turns ≡ true
+
+-- what was kept stays, and stands once if it did before
+pub record Stay (old new : Numbers) : Type 0 where
+  pub grown : Grow old new
+  pub kept_once : AreNumbers old → AreNumbers new
+
+-- the group has the number of the state to which its order leads
+abbrev pub HasNumber : Meeting → Numbers → Group → Type 0
+HasNumber m numbers g = IsNumberOf m numbers (order_of m g.turns) g.number
 
 -- ONE STATEMENT MORE
 
@@ -45,11 +52,13 @@ HoldStates m numbers gs seen = Hold m (state_key m) (IsNumberOf m numbers) gs se
 pub record Extends (m : Meeting) (g : Group) (us : List ℕ) (old new : Numbered) (a b : Walk) : Type 0 where
   pub holds : (seen : List CountedOrder) (w : CountedOrder) → IsHeld m g w → HoldStates m a.numbers old seen → HoldStates m b.numbers new (seen ++ each_of w.1 (extended m.scripts w.0 us))
   pub noted : AreNoted m (with_each (order_of m g.turns) us) a.notes.items b.notes.items
+  pub stay : Stay a.numbers b.numbers
 
 -- after the order of each of these groups, each unit that has a next statement makes it
 pub record ExtendsAll (m : Meeting) (gs : List Group) (new : Numbered) (a b : Walk) : Type 0 where
   pub holds : (ws : List CountedOrder) → AreHeld m gs ws → HoldStates m b.numbers new (next_orders m ws)
   pub noted : AreNoted m (nexts m gs) a.notes.items b.notes.items
+  pub stay : Stay a.numbers b.numbers
 
 -- one statement more leads from these groups to more than `most` states
 abbrev pub LeadToMore : Meeting → List Group → ℕ → Type 0
@@ -57,27 +66,31 @@ LeadToMore m gs most = (ws : List CountedOrder) → AreHeld m gs ws → most < l
 
 -- THE SEARCH
 
--- the search has one state, to which one order leads
-pub record IsAtState (m : Meeting) (ts : List Turn) (notes : List Note) (limit : ℕ) (s : given.Search) : Type 0 where
-  pub layer_is : s.layer.items ≡ record { turns = ts; orders = Some 1 } ∷ []
+-- the search has one state
+pub record IsAtState (g : Group) (limit : ℕ) (w : Walk) (s : given.Search) : Type 0 where
+  pub layer_is : s.layer.items ≡ g ∷ []
   pub states_are : s.states ≡ 1
   pub limit_is : s.limit ≡ limit
-  pub stands : Stands m s.walk
-  pub notes_are : s.walk.notes.items ≡ notes
+  pub walk_is : s.walk ≡ w
+
+-- the search has made n statements, and can go on: each of its groups has the number of its state
+pub record GoesOn (m : Meeting) (n : ℕ) (s : given.Search) : Type 0 where
+  pub at : IsAt m n s
+  pub numbered : AllByRecursion (HasNumber m s.walk.numbers) s.layer.items
 
 -- the search has made some number of statements
 pub record IsUnderWay (m : Meeting) (s : given.Search) : Type 0 where
   pub made : ℕ
-  pub at : IsAt m made s
+  pub goes : GoesOn m made s
 
 -- the search has made k statements more
 pub record Advances (m : Meeting) (k : ℕ) (old new : given.Search) : Type 0 where
-  pub at : (n : ℕ) → IsAt m n old → IsAt m (n + k) new
+  pub goes : (n : ℕ) → GoesOn m n old → GoesOn m (n + k) new
   pub limit_is : new.limit ≡ old.limit
 
 -- k statements more would lead the search to more states than its limit
 abbrev pub IsOver : Meeting → ℕ → given.Search → Type 0
-IsOver m k s = (n : ℕ) → IsAt m n s → s.limit < states_within m (n + k)
+IsOver m k s = (n : ℕ) → GoesOn m n s → s.limit < states_within m (n + k)
 
 -- RESULTS
 

@@ -1,6 +1,6 @@
 -- Turns, and a database that goes from the statements of some turns to those of others.
 -- m is a meeting, o an order, t a turn, u a unit.
-use Rattle.std.specs.Prelude.{ℕ, suc, ◌≡◌, ◌<◌, ◌≤◌, ◌==◌, Bool, true, List, [], ◌∷◌, ◌++◌, Option, Some, filter, flat_map, is_some, length, map, option_and_then, option_map, option_to_list, slice_get, take}
+use Rattle.std.specs.Prelude.{ℕ, ◌≡◌, ◌<◌, ◌≤◌, ◌==◌, Bool, true, List, [], ◌∷◌, ◌++◌, Option, Some, filter, flat_map, is_some, length, map, option_and_then, option_map, option_to_list, slice_get, take}
 use Rattle.std.specs.List.{list_all, range_with_len}
 use Rattle.dbtg_unit.specs.declared.statement.Statement.{Statement}
 use Rattle.dbtg_unit.specs.Database.Laws.Replaying.{statements_of}
@@ -11,7 +11,7 @@ use Rattle.dbtg_outcomes.specs.declared.turns.Turn.{Turn}
 use Rattle.dbtg_outcomes.specs.declared.walk.Walk.{Walk}
 use Rattle.dbtg_outcomes.specs.Outcomes.{HasStatus}
 use Rattle.dbtg_outcomes.specs.Results.{Meeting}
-use Rattle.dbtg_outcomes.specs.Numbers.{Grow, Numbers}
+use Rattle.dbtg_outcomes.specs.Numbers.{Numbers}
 use Rattle.dbtg_outcomes.specs.Inside.Numbers.{IsNumberOf}
 
 -- TURNS
@@ -53,16 +53,12 @@ pub record Stands (m : Meeting) (w : Walk) : Type 0 where
   pub is_making : IsMaking m (order_of m w.turns.items) w.database.making
   pub stays_is : w.database.stays ≡ 0
   pub there : have_statements m w.turns.items ≡ true
-  -- the numbers of the states that it came by, the first before all turns
-  pub count : length w.states.items ≡ suc (length w.turns.items)
-  pub numbered : (k n : ℕ) → slice_get w.states.items k ≡ Some n → IsNumberOf m w.numbers (order_of m (take k w.turns.items)) n
 
 -- all turns but the first are taken back
 pub record IsTakenBack (count : ℕ) (old new : Walk) : Type 0 where
   pub database_is : new.database ≡ record old.database { making = made_first count old.database.making }
   pub turns_are : new.turns.items ≡ take count old.turns.items
   pub notes_are : new.notes.items ≡ old.notes.items
-  pub states_are : new.states.items ≡ take (suc count) old.states.items
   pub numbers_are : new.numbers ≡ old.numbers
 
 -- a walk with these turns more
@@ -70,7 +66,7 @@ pub record AreTaken (m : Meeting) (ts : List Turn) (old new : Walk) : Type 0 whe
   pub stands : Stands m new
   pub turns_are : new.turns.items ≡ old.turns.items ++ ts
   pub notes_are : new.notes.items ≡ old.notes.items
-  pub grown : Grow old.numbers new.numbers
+  pub numbers_are : new.numbers ≡ old.numbers
 
 -- a walk with one turn more, in which its unit made its statement
 pub record HasTaken (m : Meeting) (t : Turn) (old new : Walk) : Type 0 where

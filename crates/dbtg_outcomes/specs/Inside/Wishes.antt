@@ -9,7 +9,7 @@ use Rattle.dbtg_outcomes.specs.Orders.{made, next_of, orders_after}
 use Rattle.dbtg_outcomes.specs.Outcomes.{HasStatus, states_within}
 use Rattle.dbtg_outcomes.specs.Results.{Meeting}
 use Rattle.dbtg_outcomes.specs.Wishes.{IsJudged, breaks}
-use Rattle.dbtg_outcomes.specs.Inside.Search.{IsAt}
+use Rattle.dbtg_outcomes.specs.Inside.Steps.{GoesOn}
 use Rattle.dbtg_outcomes.specs.Inside.Walks.{order_of}
 
 -- after an order the statement of the wish comes next, with a status that breaks it
@@ -38,7 +38,7 @@ IsUnbroken m w n = (k : ℕ) → k < n → (o : List (ℕ × Statement)) → Con
 
 -- the search is after n statements, and no fewer broke the wish; or turns that break it are found
 abbrev pub IsHunt : Meeting → Wish → ℕ → Hunt → Option (List ℕ) → Type 0
-IsHunt m w n hunt None = IsAt m n hunt.search × IsUnbroken m w n
+IsHunt m w n hunt None = GoesOn m n hunt.search × IsUnbroken m w n
 IsHunt m w n hunt (Some turns) = IsJudged m w (Some turns)
 
 abbrev pub Hunts : Meeting → Wish → ℕ → Hunt → Type 0

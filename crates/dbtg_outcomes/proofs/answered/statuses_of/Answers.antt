@@ -1,4 +1,4 @@
-use Rattle.std.proofs.Common.{◌≡◌, ◌∙◌, List, [], ap, length, map, subst, sym, take, arith}
+use Rattle.std.proofs.Common.{◌≡◌, ◌∙◌, List, [], length, map, subst, sym, take, arith}
 use Rattle.std.proofs.lemmas.List.{length-map, take_all}
 use Rattle.dbtg_outcomes.specs.declared.notes.Note.{Note}
 use Rattle.dbtg_outcomes.specs.Inside.Statuses.{AreRows}

@@ -1,4 +1,4 @@
-use Rattle.std.proofs.Common.{◌≡◌, ◌++◌, ◌∙◌, [], ap, if◌then◌else◌, map, List}
+use Rattle.std.proofs.Common.{◌++◌, ◌∙◌, [], ap, if◌then◌else◌, map, List}
 use Rattle.std.specs.List.{flat_map, range_with_len}
 use Rattle.dbtg_unit.specs.declared.unit.Unit as unit
 use Rattle.dbtg_outcomes.specs.Named.{answers_fact, stored, unit_facts}

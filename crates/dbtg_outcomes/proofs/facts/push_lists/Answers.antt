@@ -1,6 +1,4 @@
-use Rattle.std.proofs.Common.{◌≡◌, ◌+◌, ◌++◌, ◌∙◌, ap, sym, append_assoc, arith, ℕ, List, take}
-use Rattle.dbtg_cells.specs.declared.key.DbKey.{DbKey}
-use Rattle.dbtg_cells.specs.declared.key.Owner.{Owner}
+use Rattle.std.proofs.Common.{◌+◌, ◌++◌, ◌∙◌, ap, sym, append_assoc, arith, take}
 use Rattle.dbtg_outcomes.specs.Named.{list_facts}
 use Rattle.dbtg_outcomes.proofs.Naming.{next_set, of_set}
 use Rattle.dbtg_outcomes.proofs.facts.push_lists.Goals as goal

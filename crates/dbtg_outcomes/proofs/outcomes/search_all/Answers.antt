@@ -4,7 +4,7 @@ use Rattle.dbtg_unit.specs.declared.statement.Statement.{Statement}
 use Rattle.dbtg_outcomes.specs.Orders.{count_statements, others}
 use Rattle.dbtg_outcomes.specs.Inside.Search.{IsAt}
 use Rattle.dbtg_outcomes.proofs.States.Alone.{only_one}
-use Rattle.dbtg_outcomes.proofs.States.Searched.{over_all, over_first}
+use Rattle.dbtg_outcomes.proofs.States.Searched.{over_first}
 use Rattle.dbtg_outcomes.proofs.outcomes.search_all.Goals as goal
 
 pub alone-requires-clause-alone : goal.alone-requires-clause-alone
@@ -13,7 +13,7 @@ alone-requires-clause-alone g c =
     sym c.others-left.ensures ∙ one ∙ ap (λ (l : List Statement). l ∷ []) (sym c.as_slice.ensures)
 
 pub pass-requires-clause-at : goal.pass-requires-clause-at
-pass-requires-clause-at g c = record { made = 0; at = c.in_ok-search.ensures.at }
+pass-requires-clause-at g c = record { made = 0; goes = c.in_ok-search.ensures.at }
 
 pub returns-in_err-search-clause-stopped : goal.returns-in_err-search-clause-stopped
 returns-in_err-search-clause-stopped g c =
@@ -29,4 +29,4 @@ pub returns-in-Ok-clause-at : goal.returns-in-Ok-clause-at
 returns-in-Ok-clause-at g c =
     let m = c.args.meeting.now in
     let all : 0 + count_statements c.others-left.result.now ≡ count_statements (others m.first m.scripts) = omega (arith, ap count_statements c.others-left.ensures) in
-    subst (λ (n : ℕ). IsAt m n c.pass.new.self) all (c.in-Ok.ensures.advances.at 0 c.in_ok-search.ensures.at)
+    subst (λ (n : ℕ). IsAt m n c.pass.new.self) all (c.in-Ok.ensures.advances.goes 0 c.in_ok-search.ensures.at).at

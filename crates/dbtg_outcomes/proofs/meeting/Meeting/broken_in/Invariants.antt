@@ -7,5 +7,6 @@ abbrev pub invariant-loop-group : goal.invariant-loop-group
 invariant-loop-group l = record {
   stands : Stands l.self l.walk;
   notes : l.walk.notes.items ≡ l.initial.walk.notes.items;
+  numbers : l.walk.numbers ≡ l.initial.walk.numbers;
   broken : IsBrokenIn l.self l.wish (take l.group-index l.layer) None;
 }

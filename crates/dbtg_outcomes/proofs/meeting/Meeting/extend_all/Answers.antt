@@ -1,10 +1,11 @@
-use Rattle.std.proofs.Common.{◌≡◌, ◌≤◌, ℕ, sym, subst, List, [], length, take, arith}
+use Rattle.std.proofs.Common.{◌≡◌, ◌≤◌, sym, subst, List, [], length, take, arith}
 use Rattle.std.proofs.lemmas.List.{take_all}
 use Rattle.std.proofs.lemmas.Result.{err_from_is_err_and}
 use Rattle.dbtg_outcomes.specs.declared.groups.Group.{Group}
 use Rattle.dbtg_outcomes.specs.Inside.Grouped.{Numbered}
-use Rattle.dbtg_outcomes.specs.Inside.Steps.{ExtendsAll, HaveStatements}
+use Rattle.dbtg_outcomes.specs.Inside.Steps.{ExtendsAll, HasNumber, HaveStatements}
 use Rattle.dbtg_outcomes.proofs.Orders.Extending.{extends_group, extends_nothing, lead_to_more}
+use Rattle.dbtg_outcomes.proofs.States.Numbers.{has_number_later}
 use Rattle.dbtg_outcomes.proofs.meeting.Meeting.extend_all.Goals as goal
 
 pub loop-group-init : goal.loop-group-init
@@ -17,6 +18,12 @@ loop-group-init g c = record {
 pub extend-requires-clause-group : goal.extend-requires-clause-group
 extend-requires-clause-group g c =
     subst (λ (g : Group). HaveStatements c.args.self.now g) (sym c.group-item.is) (c.requires.groups c.loop-group.group-index c.group-item.result (omega (arith, c.loop-group-test.true)))
+
+pub extend-requires-clause-numbered : goal.extend-requires-clause-numbered
+extend-requires-clause-numbered g c =
+    let m = c.args.self.now in
+    let number = subst (λ (g : Group). HasNumber m c.args.walk.now.numbers g) (sym c.group-item.is) (c.requires.numbered c.loop-group.group-index c.group-item.result (omega (arith, c.loop-group-test.true))) in
+    has_number_later m c.args.walk.now.numbers c.loop-group.walk.numbers c.group-item.result c.loop-group.invariant.all.stay number
 
 pub loop-group-preserved : goal.loop-group-preserved
 loop-group-preserved g c = record {

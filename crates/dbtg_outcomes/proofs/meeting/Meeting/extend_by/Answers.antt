@@ -1,7 +1,7 @@
-use Rattle.std.proofs.Common.{◌≡◌, ◌∙◌, ap, sym, ℕ}
+use Rattle.std.proofs.Common.{◌∙◌, ap, sym, ℕ}
 use Rattle.std.specs.Prelude.{is_some, option_map}
 use Rattle.dbtg_outcomes.specs.declared.turns.Turn.{Turn}
-use Rattle.dbtg_outcomes.specs.Inside.Walks.{next_turn, statement_at}
+use Rattle.dbtg_outcomes.specs.Inside.Walks.{next_turn}
 use Rattle.dbtg_outcomes.proofs.Orders.Extending.{extends_no_turn}
 use Rattle.dbtg_outcomes.proofs.meeting.Meeting.extend_by.Goals as goal
 

@@ -1,8 +1,6 @@
-use Rattle.std.proofs.Common.{◌≡◌, ◌∙◌, ◌++◌, ◌-◌, List, ap, sym, subst, take, drop, length}
+use Rattle.std.proofs.Common.{◌∙◌, ◌++◌, ap, sym, take}
 use Rattle.std.proofs.lemmas.List.{take-append-drop, take_rest}
 use Rattle.std.proofs.lemmas.Result.{on_ok_weaker}
-use Rattle.dbtg_outcomes.specs.declared.turns.Turn.{Turn}
-use Rattle.dbtg_outcomes.specs.Numbers.{Grow, Numbers}
 use Rattle.dbtg_outcomes.specs.Inside.Walks.{have_statements}
 use Rattle.dbtg_outcomes.proofs.Orders.Turns.{there_parts}
 use Rattle.dbtg_outcomes.proofs.States.Walks.{stands_back}
@@ -30,6 +28,5 @@ returns-clause-turns c =
 pub returns-clause-notes : goal.returns-clause-notes
 returns-clause-notes c = on_ok_weaker c.take_turns.result (λ taken. taken.notes_are ∙ c.take_back_to.ensures.notes_are) c.take_turns.ensures
 
-pub returns-clause-grown : goal.returns-clause-grown
-returns-clause-grown c =
-    on_ok_weaker c.take_turns.result (λ taken. subst (λ (ns : Numbers). Grow ns c.take_turns.new.walk.numbers) c.take_back_to.ensures.numbers_are taken.grown) c.take_turns.ensures
+pub returns-clause-numbers : goal.returns-clause-numbers
+returns-clause-numbers c = on_ok_weaker c.take_turns.result (λ taken. taken.numbers_are ∙ c.take_back_to.ensures.numbers_are) c.take_turns.ensures

@@ -1,4 +1,4 @@
-use Rattle.std.proofs.Common.{◌≡◌, ◌∙◌, List, sym, subst, take, get_or, arith}
+use Rattle.std.proofs.Common.{◌≡◌, List, sym, subst, take, arith}
 use Rattle.std.proofs.lemmas.List.{take_all, take_more}
 use Rattle.dbtg_outcomes.specs.declared.turns.Turn.{Turn}
 use Rattle.dbtg_outcomes.specs.Inside.Walks.{AreTaken}

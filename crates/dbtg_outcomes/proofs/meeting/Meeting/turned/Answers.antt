@@ -1,7 +1,6 @@
-use Rattle.std.proofs.Common.{◌≡◌, ◌∙◌, ◌++◌, ◌∷◌, [], List, ap, sym, length, get_or}
+use Rattle.std.proofs.Common.{◌≡◌, ◌∙◌, ◌++◌, ◌∷◌, [], List, ap, length, get_or}
 use Rattle.dbtg_outcomes.specs.declared.turns.Turn.{Turn}
 use Rattle.dbtg_step.specs.Core.Whole.{Making}
-use Rattle.dbtg_outcomes.proofs.States.Numbers.{grow_more}
 use Rattle.dbtg_outcomes.proofs.States.Walks.{taken_status}
 use Rattle.dbtg_outcomes.proofs.meeting.Meeting.turned.Goals as goal
 
@@ -17,8 +16,8 @@ returns-clause-turns c = c.in_ok-take_turn.ensures.taken.turns_are ∙ ap (λ (u
 pub returns-clause-notes : goal.returns-clause-notes
 returns-clause-notes c = c.in_ok-take_turn.ensures.taken.notes_are ∙ c.in_ok-go_to.ensures.notes
 
-pub returns-clause-grown : goal.returns-clause-grown
-returns-clause-grown c = grow_more c.args.walk.now.numbers c.go_to.new.walk.numbers c.take_turn.new.walk.numbers c.in_ok-go_to.ensures.grown c.in_ok-take_turn.ensures.taken.grown
+pub returns-clause-numbers : goal.returns-clause-numbers
+returns-clause-numbers c = c.in_ok-take_turn.ensures.taken.numbers_are ∙ c.in_ok-go_to.ensures.numbers
 
 pub returns-clause-status : goal.returns-clause-status
 returns-clause-status c =

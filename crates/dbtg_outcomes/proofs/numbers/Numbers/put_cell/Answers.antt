@@ -1,4 +1,4 @@
-use Rattle.std.proofs.Common.{◌≡◌, ◌∙◌, ◌+◌, ◌<◌, ◌++◌, ℕ, List, [], Some, ap, sym, subst, arith}
+use Rattle.std.proofs.Common.{◌∙◌, ◌+◌, ◌++◌, ℕ, List, ap, sym, subst, arith}
 use Rattle.std.proofs.lemmas.Option.{same_Some}
 use Rattle.std.proofs.lemmas.Result.{IfOk-weaker}
 use Rattle.dbtg_outcomes.specs.Numbers.{HasPut}
@@ -21,7 +21,7 @@ put-requires-clause-within c =
 pub returns-in-Some : goal.returns-in-Some
 returns-in-Some c =
     let d = c.args.database.now in
-    let said = c.as_slice.ensures.value ∙ c.in_ok-spell_cell.ensures ∙ ap (λ l. l ++ part_in c.args.spelling.versions c.args.spelling.units d c.args.name.now) c.new-content.ensures.items in
+    let said = c.as_slice.ensures.value ∙ c.in_ok-spell_cell.ensures ∙ ap (λ l. l ++ part_in c.args.spelling.versions c.args.spelling.units d c.args.name.now) c.in_ok-content.ensures.items in
     IfOk-weaker c.put.result _ _
     (λ n put k e.
     let place = same_Some c.in-Some.number k (sym c.in-Some.is ∙ c.cell_number.ensures ∙ e) in

@@ -1,4 +1,4 @@
-use Rattle.std.proofs.Common.{◌≡◌, ℕ, List, [], Some, drop, length, refl, slice_get, subst, arith}
+use Rattle.std.proofs.Common.{◌≡◌, List, Some, length, refl, slice_get, subst, arith}
 use Rattle.std.proofs.lemmas.List.{drop_all}
 use Rattle.std.proofs.lemmas.Option.{slice_get_read}
 use Rattle.dbtg_cells.specs.CellNumbers.{is_cell}

@@ -1,4 +1,4 @@
-use Rattle.std.proofs.Common.{◌≡◌, ◌∙◌, ℕ, List, None, Some, refl, sym, subst, arith}
+use Rattle.std.proofs.Common.{◌≡◌, ◌∙◌, List, None, Some, refl, sym, subst, arith}
 use Rattle.std.specs.List.{AllByRecursion}
 use Rattle.std.proofs.lemmas.List.Elements.{All-from_recursion}
 use Rattle.std.proofs.lemmas.Result.{IfErr-weaker, on_ok_weaker}
@@ -16,7 +16,7 @@ broken_in-requires-clause-groups g c =
     let none : c.args.self.now.broken ≡ None = none_found c.args.self.now.broken (sym c.is_some.ensures ∙ c.if-is_some.false) in
     let at = subst (IsHunt m c.args.wish c.requires.at.made c.args.self.now) none c.requires.at.hunts in
     All-from_recursion (HaveStatements m) c.as_slice-layer.result.now
-    (subst (λ (gs : List Group). AllByRecursion (HaveStatements m) gs) (sym c.as_slice-layer.ensures.value) (held_there m c.args.self.now.search.layer.items (layer m c.requires.at.made) at.0.held))
+    (subst (λ (gs : List Group). AllByRecursion (HaveStatements m) gs) (sym c.as_slice-layer.ensures.value) (held_there m c.args.self.now.search.layer.items (layer m c.requires.at.made) at.0.at.held))
 
 pub returns-in-Some-clause-on : goal.returns-in-Some-clause-on
 returns-in-Some-clause-on g c =
@@ -38,7 +38,7 @@ returns-in-None-clause-on g c =
     let none : c.args.self.now.broken ≡ None = none_found c.args.self.now.broken (sym c.is_some.ensures ∙ c.if-is_some.false) in
     let found = subst (IsBrokenIn m w c.as_slice-layer.result.now) c.in-None.is c.in_ok-turns.ensures.broken in
     on_ok_weaker c.step.result
-    (λ on. hunt_goes m w c.requires.meeting c.requires.numbered (omega arith) c.requires.within c.args.self.now _ c.broken_in.new.walk c.in_ok-turns.ensures.stands c.in_ok-turns.ensures.notes none none on (subst (λ (gs : List Group). IsBrokenIn m w gs None) c.as_slice-layer.ensures.value found))
+    (λ on. hunt_goes m w c.requires.meeting c.requires.numbered (omega arith) c.requires.within c.args.self.now _ c.broken_in.new.walk c.in_ok-turns.ensures.stands c.in_ok-turns.ensures.notes c.in_ok-turns.ensures.numbers none none on (subst (λ (gs : List Group). IsBrokenIn m w gs None) c.as_slice-layer.ensures.value found))
     c.step.ensures.advances
 
 pub step-requires-clause-at : goal.step-requires-clause-at
@@ -46,11 +46,11 @@ step-requires-clause-at g c =
     let m = c.args.meeting.now in
     let none : c.args.self.now.broken ≡ None = none_found c.args.self.now.broken (sym c.is_some.ensures ∙ c.if-is_some.false) in
     let at = subst (IsHunt m c.args.wish c.requires.at.made c.args.self.now) none c.requires.at.hunts in
-    record { made = c.requires.at.made; at = at_walked m c.requires.at.made c.args.self.now.search c.broken_in.new.walk at.0 c.in_ok-turns.ensures.stands c.in_ok-turns.ensures.notes }
+    record { made = c.requires.at.made; goes = at_walked m c.requires.at.made c.args.self.now.search c.broken_in.new.walk at.0 c.in_ok-turns.ensures.stands c.in_ok-turns.ensures.notes c.in_ok-turns.ensures.numbers }
 
 pub returns-in-None-clause-stopped : goal.returns-in-None-clause-stopped
 returns-in-None-clause-stopped g c =
     let none : c.args.self.now.broken ≡ None = none_found c.args.self.now.broken (sym c.is_some.ensures ∙ c.if-is_some.false) in
     IfErr-weaker c.step.result _ _
-    (λ stop over e. hunt_over c.args.meeting.now c.args.wish c.args.self.now c.broken_in.new.walk c.in_ok-turns.ensures.stands c.in_ok-turns.ensures.notes none (over e))
+    (λ stop over e. hunt_over c.args.meeting.now c.args.wish c.args.self.now c.broken_in.new.walk c.in_ok-turns.ensures.stands c.in_ok-turns.ensures.notes c.in_ok-turns.ensures.numbers none (over e))
     c.step.ensures.stopped
