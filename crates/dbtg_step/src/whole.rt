@@ -88,9 +88,35 @@ fn need_once(
     next_need(alloc, schema, capacity, unit, statement, held, &mut course)
 }
 
-// Sets the guesses to the true owners, if the statement needs guesses; otherwise leaves them as they are.
-// With all areas and cells held, the statement is then ready. It stands apart, since guesses take room that is cleared at each call.
+// Sets the guesses to the true owners. With all areas and cells held, the statement is then ready. It stands apart, since guesses take
+// room that is cleared at each call.
 #[inline(never)]
+fn guess_anew(
+    alloc: Global,
+    schema: &Schema,
+    capacity: u16,
+    unit: &Unit,
+    statement: &Statement,
+    held: &mut Held,
+) -> Result<(), AllocError>
+    requires sound { IsSound schema.now }
+    requires fitting { fits schema.now statement.now ≡ true }
+    requires of_schema { IsUnitOf schema.now unit.now }
+    requires within { IsWithin capacity unit.now }
+    requires all { HoldsAll schema.now capacity held.old }
+    ensures guessed { OnOk result (IsGuessed schema.now capacity unit.now statement.now held.old held.new) }
+    ensures cells { held.new.cells ≡ held.old.cells }
+    ensures areas { held.new.areas ≡ held.old.areas }
+{
+    held.set_guesses(Owners::none(schema.sets().len()));
+    if let Need::Stale = need_once(alloc, schema, capacity, unit, statement, held)? {
+        let guesses = true_guesses(schema, unit, statement, held);
+        held.set_guesses(guesses);
+    }
+    Ok(())
+}
+
+// Sets the guesses to the true owners, if the statement needs guesses; otherwise leaves them as they are.
 fn guess_owners(
     alloc: Global,
     schema: &Schema,
@@ -108,13 +134,8 @@ fn guess_owners(
     ensures cells { held.new.cells ≡ held.old.cells }
     ensures areas { held.new.areas ≡ held.old.areas }
 {
-    if !goes_by_guesses(statement) {
-        return Ok(());
-    }
-    held.set_guesses(Owners::none(schema.sets().len()));
-    if let Need::Stale = need_once(alloc, schema, capacity, unit, statement, held)? {
-        let guesses = true_guesses(schema, unit, statement, held);
-        held.set_guesses(guesses);
+    if goes_by_guesses(statement) {
+        return guess_anew(alloc, schema, capacity, unit, statement, held);
     }
     Ok(())
 }

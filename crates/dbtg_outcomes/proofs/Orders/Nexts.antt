@@ -1,10 +1,8 @@
 -- The next statement of a unit, as a search finds and enters it.
 -- m is a meeting, u is a unit, x is a statement, o is an order, ts are turns.
-use Rattle.std.proofs.Common.{append-nil, ◌≡◌, refl, sym, ◌∙◌, ap, subst, ℕ, ◌<◌, ◌≤◌, true, List, [], ◌∷◌, ◌++◌, length, Option, Some, None, arith}
+use Rattle.std.proofs.Common.{append-nil, ◌≡◌, refl, sym, ◌∙◌, ap, subst, ℕ, List, [], ◌∷◌, ◌++◌, Option, Some, None}
 use Rattle.std.specs.Prelude.{option_map, option_to_list}
 use Rattle.dbtg_unit.specs.declared.statement.Statement.{Statement}
-use Rattle.dbtg_unit.specs.Database.Statements.Fits.{fits}
-use Rattle.dbtg_unit.proofs.Public.{in_range}
 use Rattle.dbtg_outcomes.specs.declared.groups.Group.{Group}
 use Rattle.dbtg_outcomes.specs.declared.notes.Note.{Note}
 use Rattle.dbtg_outcomes.specs.declared.turns.Turn.{Turn}
@@ -13,7 +11,7 @@ use Rattle.dbtg_outcomes.specs.Inside.Grouped.{IsAdded, Numbered}
 use Rattle.dbtg_outcomes.specs.Numbers.{AreNumbers, Grow, Numbers}
 use Rattle.dbtg_outcomes.specs.Inside.Numbers.{IsNumberOf}
 use Rattle.dbtg_outcomes.specs.Orders.{extended_by, made, next_of}
-use Rattle.dbtg_outcomes.specs.Outcomes.{HasStatus, IsMeeting}
+use Rattle.dbtg_outcomes.specs.Outcomes.{HasStatus}
 use Rattle.dbtg_outcomes.specs.Results.{Meeting, state_key}
 use Rattle.dbtg_outcomes.specs.Inside.Search.{AreNoted, Hold, IsHeld, Stand}
 use Rattle.dbtg_outcomes.specs.Inside.Statuses.{HasNoted}
@@ -23,7 +21,6 @@ use Rattle.dbtg_outcomes.proofs.Lists.Gathered.{gathered_append, gathered_apart}
 use Rattle.dbtg_outcomes.proofs.States.Layers.{entered, stand_later}
 use Rattle.dbtg_outcomes.proofs.States.Noted.{noted_next}
 use Rattle.dbtg_outcomes.proofs.States.Numbers.{number_later, number_same, number_tells}
-use Rattle.dbtg_outcomes.proofs.States.States.{next_fits}
 
 module _ (m : Meeting) where
   -- one more group
