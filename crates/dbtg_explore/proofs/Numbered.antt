@@ -1,6 +1,6 @@
 -- Numbers of states, as they are made and kept.
 -- m is a meeting, h is a history, o an order, os are orders, u a unit, c the name of a cell, n and k are numbers of states, d is a database.
-use Rattle.std.proofs.Common.{◌≡◌, refl, sym, ◌∙◌, ap, subst, ℕ, zero, suc, ◌+◌, ◌-◌, ◌<◌, ◌≤◌, Bool, true, false, List, [], ◌∷◌, ◌++◌, length, Some, arith, inl, inr, true≢false, take, slice_get, replicate}
+use Rattle.std.proofs.Common.{◌≡◌, refl, sym, ◌∙◌, ap, subst, ℕ, zero, suc, ◌+◌, ◌-◌, ◌<◌, ◌≤◌, Bool, true, false, List, [], ◌∷◌, ◌++◌, length, get_or, Some, arith, inl, inr, true≢false, take, slice_get, replicate}
 use Rattle.std.specs.Prelude.{Contains, is_some, option_and_then}
 use Rattle.std.specs.List.{list_all}
 use Rattle.std.proofs.lemmas.Bool.{and_from, and_parts}
@@ -88,24 +88,24 @@ module _ (p : Parts) where
 
 module _ (m : Meeting) where
   -- what a database says, spelled without versions
-  pub parts_there : (d : Making) (goings : List Going) → AreStanding m d goings → parts_in false (length m.programs) d (unit_part m d.history) ≡ parts_of m d.history
-  parts_there d goings w =
-      ap (λ (k : Making). parts_in false (length m.programs) k (unit_part m d.history)) w.database_is
+  parts_there : (d there : Making) (goings : List Going) → AreStanding m d goings → there ≡ d → parts_in false (length m.programs) there (unit_part m d.history) ≡ parts_of m d.history
+  parts_there d there goings w same =
+      ap (λ (k : Making). parts_in false (length m.programs) k (unit_part m d.history)) (same ∙ w.database_is)
       ∙ (λ i. record (parts_of m d.history) { cell = λ c. shown_first m.schema m.capacity (sequential_after m d.history).database (length m.programs) c i })
 
-  module _ (d : Making) (goings : List Going) (standing : AreStanding m d goings) (versions : Bool) (units : ℕ) (first : versions ≡ false) (count : units ≡ length m.programs) where
-    pub spelled_but : (kept : Numbers) (names : List CellName) (n : ℕ) → IsNumberBut (parts_of m d.history) kept (length m.programs) names n → IsNumberBut (parts_in versions units d (unit_part m d.history)) kept units names n
+  module _ (d there : Making) (goings : List Going) (standing : AreStanding m d goings) (same : there ≡ d) (versions : Bool) (units : ℕ) (first : versions ≡ false) (count : units ≡ length m.programs) where
+    pub spelled_but : (kept : Numbers) (names : List CellName) (n : ℕ) → IsNumberBut (parts_of m d.history) kept (length m.programs) names n → IsNumberBut (parts_in versions units there (unit_part m d.history)) kept units names n
     spelled_but kept names n h =
-        subst (λ b. IsNumberBut (parts_in b units d (unit_part m d.history)) kept units names n) (sym first)
-        (subst (λ j. IsNumberBut (parts_in false j d (unit_part m d.history)) kept j names n) (sym count)
-        (subst (λ (p : Parts). IsNumberBut p kept (length m.programs) names n) (sym (parts_there d goings standing)) h))
+        subst (λ b. IsNumberBut (parts_in b units there (unit_part m d.history)) kept units names n) (sym first)
+        (subst (λ j. IsNumberBut (parts_in false j there (unit_part m d.history)) kept j names n) (sym count)
+        (subst (λ (p : Parts). IsNumberBut p kept (length m.programs) names n) (sym (parts_there d there goings standing same)) h))
 
-    pub spelled_state : (kept : Numbers) (n : ℕ) → NumbersState (parts_in versions units d (unit_part m d.history)) kept n → IsNumberOf m kept d.history n
+    pub spelled_state : (kept : Numbers) (n : ℕ) → NumbersState (parts_in versions units there (unit_part m d.history)) kept n → IsNumberOf m kept d.history n
     spelled_state kept n h = record {
       number =
-          subst (λ (p : Parts). IsNumberBut p kept (length m.programs) [] n) (parts_there d goings standing)
-          (subst (λ j. IsNumberBut (parts_in false j d (unit_part m d.history)) kept j [] n) count
-          (subst (λ b. IsNumberBut (parts_in b units d (unit_part m d.history)) kept units [] n) first h));
+          subst (λ (p : Parts). IsNumberBut p kept (length m.programs) [] n) (parts_there d there goings standing same)
+          (subst (λ j. IsNumberBut (parts_in false j there (unit_part m d.history)) kept j [] n) count
+          (subst (λ b. IsNumberBut (parts_in b units there (unit_part m d.history)) kept units [] n) first h));
     }
 
   -- the array of the state before says what is so of all cells but those that changed
@@ -135,6 +135,20 @@ module _ (m : Meeting) where
   numbered_later a b once grown (n ∷ ns) (o ∷ os) h = (number_later a b once grown (history_of m o) n h.0, numbered_later a b once grown ns os h.1)
 
   module _ (kept : Numbers) where
+    pub numbered_long : (ns : List ℕ) (os : List (List ℕ)) → AreNumbered m kept ns os → length ns ≡ length os
+    numbered_long [] [] h = refl
+    numbered_long [] (o ∷ os) h = absurd h
+    numbered_long (n ∷ ns) [] h = absurd h
+    numbered_long (n ∷ ns) (o ∷ os) h = ap suc (numbered_long ns os h.1)
+
+    -- the number at a place is that of the order there
+    pub numbered_there : (ns : List ℕ) (os : List (List ℕ)) (i : ℕ) → AreNumbered m kept ns os → i < length os → IsNumberOf m kept (history_of m (get_or os i [])) (get_or ns i 0)
+    numbered_there [] [] i h low = absurd (omega (arith, low))
+    numbered_there [] (o ∷ os) i h low = absurd h
+    numbered_there (n ∷ ns) [] i h low = absurd h
+    numbered_there (n ∷ ns) (o ∷ os) zero h low = h.0
+    numbered_there (n ∷ ns) (o ∷ os) (suc i) h low = numbered_there ns os i h.1 (omega (arith, low))
+
     pub numbered_more : (ns : List ℕ) (os : List (List ℕ)) (n : ℕ) (o : List ℕ) → AreNumbered m kept ns os → IsNumberOf m kept (history_of m o) n → AreNumbered m kept (ns ++ n ∷ []) (os ++ o ∷ [])
     numbered_more [] [] n o h number = (number, tt)
     numbered_more [] (p ∷ os) n o h number = absurd h

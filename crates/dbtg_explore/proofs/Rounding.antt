@@ -6,11 +6,11 @@ use Rattle.std.proofs.lemmas.Bool.{cases_lt}
 use Rattle.dbtg_unit.specs.declared.unit.Entry.{Entry}
 use Rattle.dbtg_explore.specs.declared.walk.Walk.{Walk}
 use Rattle.dbtg_explore.specs.Explored.{IsEndless}
-use Rattle.dbtg_outcomes.specs.Numbers.{Grow}
+use Rattle.dbtg_outcomes.specs.Numbers.{Grow, Numbers}
 use Rattle.dbtg_explore.specs.Inside.Parts.{IsNumberOf}
 use Rattle.dbtg_explore.specs.Inside.Walks.{Stands, StandsAt, order_of}
 use Rattle.dbtg_explore.specs.Inside.Rounds.{ComesBack, HasEach}
-use Rattle.dbtg_explore.specs.Orders.{IsMeeting, Meeting, can_turn, history_of}
+use Rattle.dbtg_explore.specs.Orders.{IsMeeting, Meeting, can_turn}
 use Rattle.dbtg_explore.proofs.Numbered.{number_later}
 use Rattle.dbtg_explore.proofs.Parts.{same_state}
 use Rattle.dbtg_explore.proofs.Steps.{none_before, none_beyond}
@@ -49,14 +49,13 @@ module _ (m : Meeting) where
         | inr within ↦ h u (omega arith) can
       ]
 
-  pub come_back : IsMeeting m → (round : List ℕ) (before after : ℕ) (old new : Walk) → IsNumberOf m old.numbers (history_of m (order_of old.turns.items)) before → IsNumberOf m new.numbers (history_of m (order_of new.turns.items)) after → after ≡ before → Grow old.numbers new.numbers
-      → StandsAt m (order_of old.turns.items ++ round) new
+  pub come_back : IsMeeting m → (round : List ℕ) (n : ℕ) (a b : Numbers) (old new : Walk) → IsNumberOf m a old.database.making.history n → Stands m old → Grow a b → IsNumberOf m b new.database.making.history n → StandsAt m (order_of old.turns.items ++ round) new
       → ComesBack m (order_of old.turns.items) round
-  come_back meets round before after old new before_is after_is same grown there =
+  come_back meets round n a b old new before at grown after there =
       let o = order_of old.turns.items in
-      let first : IsNumberOf m new.numbers (history_of m (o ++ round)) before = subst (λ p. IsNumberOf m new.numbers (history_of m p) before) there.order_is (subst (IsNumberOf m new.numbers (history_of m (order_of new.turns.items))) same after_is) in
-      let last = number_later m old.numbers new.numbers there.kept_once grown (history_of m o) before before_is in
-      record { is_order = there.is_order; same = same_state m meets new.numbers (o ++ round) o before first last }
+      let first = subst (λ (es : List Entry). IsNumberOf m b es n) there.history_is after in
+      let last = subst (λ (es : List Entry). IsNumberOf m b es n) at.history_is (number_later m a b after.number.kept_once grown old.database.making.history n before) in
+      record { is_order = there.is_order; same = same_state m meets b (o ++ round) o n first last }
 
   pub goes_for_ever : (round : List ℕ) (old : Walk) → 0 < length round → HasEach m old.database.making.history round → Stands m old → ComesBack m (order_of old.turns.items) round → IsEndless m (record { turns = order_of old.turns.items; round = round })
   goes_for_ever round old some each at back = record {

@@ -6,7 +6,7 @@ use Rattle.std.proofs.lemmas.List.{get_or_append_left}
 use Rattle.std.proofs.lemmas.List.Elements.{Contains-get_or}
 use Rattle.dbtg_unit.specs.declared.unit.Entry.{Entry}
 use Rattle.dbtg_step.specs.Machine.SequentialDatabase.{unit_at}
-use Rattle.dbtg_outcomes.specs.Numbers.{Numbers}
+use Rattle.dbtg_outcomes.specs.Numbers.{Grow, Numbers}
 use Rattle.dbtg_explore.specs.declared.search.Search as given
 use Rattle.dbtg_explore.specs.Inside.Found.{FoundOrders, IsEntered, IsPut}
 use Rattle.dbtg_explore.specs.Inside.Search.{IsUnderWay}
@@ -15,7 +15,7 @@ use Rattle.dbtg_explore.specs.Inside.Steps.{Goes, IsAt, can_follow}
 use Rattle.dbtg_explore.specs.Orders.{IsMeeting, IsOrder, Meeting, beginning, can_turn, history_of}
 use Rattle.dbtg_explore.specs.States.{HasMoreStates, essence_of}
 use Rattle.dbtg_explore.proofs.Alike.{can_turn_alike, same_after}
-use Rattle.dbtg_explore.proofs.Numbered.{numbered_more, numbered_order, order_numbered}
+use Rattle.dbtg_explore.proofs.Numbered.{numbered_later, numbered_more, numbered_order, order_numbered}
 use Rattle.dbtg_explore.proofs.Parts.{same_number, same_state}
 use Rattle.dbtg_explore.proofs.Searched.{GoOn, at_beginning, contains_behind, contains_cases, contains_here, contains_none, known_state, new_state, next_place, no_turn}
 use Rattle.dbtg_explore.proofs.Turning.{follow_front, last_can, none_follow, order_on}
@@ -79,14 +79,12 @@ module _ (m : Meeting) where
     begins : found.orders ≡ [] ∷ []
     begins = ap (λ (f : FoundOrders ℕ). f.orders) is
 
-    pub first_numbered : (kept : Numbers) → IsNumberOf m kept (history_of m []) n → AreNumbered m kept found.keys found.orders
-    first_numbered kept number = subst (λ (f : FoundOrders ℕ). AreNumbered m kept f.keys f.orders) (sym is) (number, tt)
-
-    pub at_first : (s : given.Search) → s.found ≡ found → length found.orders ≤ s.limit → IsAt m 0 0 s
-    at_first s found_is few =
+    pub at_first : (s : given.Search) → s.found ≡ found → IsNumberOf m s.numbers (history_of m []) n → length found.orders ≤ s.limit → IsAt m 0 0 s
+    at_first s found_is number few =
         let orders : s.found.orders ≡ [] ∷ [] = ap (λ (f : FoundOrders ℕ). f.orders) found_is ∙ begins in
         record {
           under_way = subst (λ os. Under os 0 0) (sym orders) (at_beginning (IsOrder m) (can_follow m) (essence_of m) goes_on);
+          known = subst (λ (f : FoundOrders ℕ). AreNumbered m s.numbers f.keys f.orders) (sym (found_is ∙ is)) (number, tt);
           few = let long = ap (λ (f : FoundOrders ℕ). length f.orders) found_is in omega arith;
         }
 
@@ -110,54 +108,53 @@ module _ (m : Meeting) where
     pub next_is_order : IsOrder m (turned old.found.orders i u)
     next_is_order = goes_on.more (get_or old.found.orders i []) u (at.under_way.are_orders _ (Contains-get_or old.found.orders i [] in_range)) can
 
-    module _ (kept : Numbers) (known : AreNumbered m kept old.found.keys old.found.orders) (next : List ℕ) (next_is : next ≡ turned old.found.orders i u) (n : ℕ) (number : IsNumberOf m kept (history_of m next) n) where
-      next_number : IsNumberOf m kept (history_of m (turned old.found.orders i u)) n
-      next_number = subst (λ o. IsNumberOf m kept (history_of m o) n) next_is number
+    module _ (kept : Numbers) (grown : Grow old.numbers kept) (n : ℕ) (number : IsNumberOf m kept (history_of m (turned old.found.orders i u)) n) where
+      known : AreNumbered m kept old.found.keys old.found.orders
+      known = numbered_later m old.numbers kept number.number.kept_once grown old.found.keys old.found.orders at.known
 
       known_turn : Contains old.found.keys n → Turned old.found old.found i (u + 1)
       known_turn c =
           let r = numbered_order m kept old.found.keys old.found.orders n known c in
           record {
-            way = known_state (IsOrder m) (can_follow m) (essence_of m) goes_on old.found.orders i u in_range at.under_way r.0 r.1 (same_state m meets kept r.0 (turned old.found.orders i u) n r.2 next_number);
+            way = known_state (IsOrder m) (can_follow m) (essence_of m) goes_on old.found.orders i u in_range at.under_way r.0 r.1 (same_state m meets kept r.0 (turned old.found.orders i u) n r.2 number);
             more = [];
             kept = sym (append-nil old.found.orders);
           }
 
-      new_turn : (new : FoundOrders ℕ) → IsPut old.found n next new → Turned old.found new i (u + 1)
-      new_turn new put =
-          let orders : new.orders ≡ old.found.orders ++ turned old.found.orders i u ∷ [] = put.orders_are ∙ ap (λ (o : List ℕ). old.found.orders ++ o ∷ []) next_is in
-          record {
-            way = subst (λ os. Under os i (u + 1)) (sym orders)
-                (new_state (IsOrder m) (can_follow m) (essence_of m) goes_on old.found.orders i u in_range at.under_way can (λ o c e.
-                let k = order_numbered m kept old.found.keys old.found.orders o known c in
-                put.absent (subst (Contains old.found.keys) (same_number m meets kept o (turned old.found.orders i u) k.0 n e k.2 next_number) k.1)));
-            more = turned old.found.orders i u ∷ [];
-            kept = orders;
-          }
+      new_turn : (new : FoundOrders ℕ) → IsPut old.found n (turned old.found.orders i u) new → Turned old.found new i (u + 1)
+      new_turn new put = record {
+        way = subst (λ os. Under os i (u + 1)) (sym put.orders_are)
+            (new_state (IsOrder m) (can_follow m) (essence_of m) goes_on old.found.orders i u in_range at.under_way can (λ o c e.
+            let k = order_numbered m kept old.found.keys old.found.orders o known c in
+            put.absent (subst (Contains old.found.keys) (same_number m meets kept o (turned old.found.orders i u) k.0 n e k.2 number) k.1)));
+        more = turned old.found.orders i u ∷ [];
+        kept = put.orders_are;
+      }
 
-      module _ (found : FoundOrders ℕ) (entered : IsEntered old.found n next found) where
+      module _ (found : FoundOrders ℕ) (entered : IsEntered old.found n (turned old.found.orders i u) found) where
         -- each order still has its number
-        pub still_numbered : AreNumbered m kept found.keys found.orders
+        still_numbered : AreNumbered m kept found.keys found.orders
         still_numbered =
             elim entered [
               | inl same ↦ subst (λ (f : FoundOrders ℕ). AreNumbered m kept f.keys f.orders) (sym same.1) known
               | inr put ↦ subst (λ ns. AreNumbered m kept ns found.orders) (sym put.keys_are)
-                  (subst (AreNumbered m kept (old.found.keys ++ n ∷ [])) (sym put.orders_are) (numbered_more m kept old.found.keys old.found.orders n next known number))
+                  (subst (AreNumbered m kept (old.found.keys ++ n ∷ [])) (sym put.orders_are) (numbered_more m kept old.found.keys old.found.orders n (turned old.found.orders i u) known number))
             ]
 
         has_turned : Turned old.found found i (u + 1)
         has_turned =
             elim entered [
-              | inl known ↦ subst (λ f. Turned old.found f i (u + 1)) (sym known.1) (known_turn known.0)
+              | inl same ↦ subst (λ f. Turned old.found f i (u + 1)) (sym same.1) (known_turn same.0)
               | inr put ↦ new_turn found put
             ]
 
         -- the search goes on
-        pub goes_further : (new : given.Search) → new.found ≡ found → new.limit ≡ old.limit → length found.orders ≤ old.limit → Goes m i (u + 1) old new
-        goes_further new found_is limit_is few =
+        pub goes_further : (new : given.Search) → new.found ≡ found → new.numbers ≡ kept → new.limit ≡ old.limit → length found.orders ≤ old.limit → Goes m i (u + 1) old new
+        goes_further new found_is numbers_is limit_is few =
             let t = subst (λ (f : FoundOrders ℕ). Turned old.found f i (u + 1)) (sym found_is) has_turned in
             let long = ap (λ (f : FoundOrders ℕ). length f.orders) found_is in
-            record { at = record { under_way = t.way; few = omega arith }; more = t.more; kept = t.kept; limit_is = limit_is }
+            let numbered = subst (λ k. AreNumbered m k new.found.keys new.found.orders) (sym numbers_is) (subst (λ (f : FoundOrders ℕ). AreNumbered m kept f.keys f.orders) (sym found_is) still_numbered) in
+            record { at = record { under_way = t.way; known = numbered; few = omega arith }; more = t.more; kept = t.kept; limit_is = limit_is }
 
         -- or there are more states than the limit
         pub goes_over : old.limit < length found.orders → HasMoreStates m old.limit
@@ -169,7 +166,7 @@ module _ (m : Meeting) where
 
   pub stays : (s : given.Search) (i u : ℕ) (in_range : i < length s.found.orders) (at : IsAt m i u s) → can_follow m (get_or s.found.orders i []) u ≡ false → Goes m i (u + 1) s s
   stays s i u in_range at cannot = record {
-    at = record { under_way = no_turn (IsOrder m) (can_follow m) (essence_of m) goes_on s.found.orders i u in_range at.under_way cannot; few = at.few };
+    at = record { under_way = no_turn (IsOrder m) (can_follow m) (essence_of m) goes_on s.found.orders i u in_range at.under_way cannot; known = at.known; few = at.few };
     more = [];
     kept = sym (append-nil s.found.orders);
     limit_is = refl;
@@ -194,6 +191,7 @@ module _ (m : Meeting) where
   goes_to_next i a b low g = record {
     at = record {
       under_way = next_place (IsOrder m) (can_follow m) (essence_of m) goes_on b.found.orders i (length m.programs + 1) (kept_range i i (length m.programs + 1) a b g low) g.at.under_way (λ v le. cannot_beyond (get_or b.found.orders i []) v (omega arith));
+      known = g.at.known;
       few = g.at.few;
     };
     more = g.more;

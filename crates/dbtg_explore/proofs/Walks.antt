@@ -1,9 +1,8 @@
 -- A walk: where it stands after turns are taken, and taken back.
 -- m is a meeting, u a unit, t a turn that was taken, ts are turns, w is a walk, o an order.
-use Rattle.std.proofs.Common.{◌≡◌, refl, sym, ◌∙◌, ap, subst, ℕ, zero, suc, ◌+◌, ◌-◌, ◌<◌, ◌≤◌, true, false, List, [], ◌∷◌, ◌++◌, length, length-append, map, get_or, take, drop, take-append-drop, append-nil, append_assoc, Option, Some, None, inl, inr, ◌⊎◌, arith, slice_get, true≢false}
+use Rattle.std.proofs.Common.{◌≡◌, refl, sym, ◌∙◌, ap, subst, ℕ, ◌+◌, ◌-◌, ◌<◌, ◌≤◌, true, false, List, [], ◌∷◌, ◌++◌, length, length-append, map, get_or, take, drop, take-append-drop, append-nil, append_assoc, Option, Some, None, arith, true≢false}
 use Rattle.std.specs.List.{take-map}
-use Rattle.std.proofs.lemmas.List.{length-map, length-take-le, map_push, take-append-le, take-take, take_all, take_more}
-use Rattle.std.proofs.lemmas.Option.{same_Some, slice_get_within}
+use Rattle.std.proofs.lemmas.List.{length-take-le, map_push, take-append-le, take-take, take_all, take_more}
 use Rattle.dbtg_unit.specs.declared.unit.Entry.{Entry}
 use Rattle.dbtg_unit.specs.Database.Laws.Replay.{entries_of}
 use Rattle.dbtg_program.specs.declared.program.Program.{Program}
@@ -14,13 +13,10 @@ use Rattle.dbtg_going.specs.declared.member.Going.{Going}
 use Rattle.dbtg_going.specs.Goings.{AreAfter, AreGoing, IsGoing}
 use Rattle.dbtg_going.specs.Turns.{making_by}
 use Rattle.dbtg_going.proofs.Turning.{one_less}
-use Rattle.dbtg_outcomes.specs.Numbers.{AreNumbers, Grow, Numbers}
 use Rattle.dbtg_explore.specs.declared.walk.Taken.{Taken}
 use Rattle.dbtg_explore.specs.declared.walk.Walk.{Walk}
 use Rattle.dbtg_explore.specs.Orders.{CanFollow, IsOrder, Meeting, after_order, after_turn, beginning, can_turn, history_of}
-use Rattle.dbtg_explore.specs.Inside.Parts.{IsNumberOf}
 use Rattle.dbtg_explore.specs.Inside.Walks.{AreStanding, AreTaken, HasTurned, IsPlace, IsTaken, Stands, StandsAt, order_of}
-use Rattle.dbtg_explore.proofs.Numbered.{number_later}
 use Rattle.dbtg_explore.proofs.Placed.{has_number}
 use Rattle.dbtg_explore.proofs.Turning.{first_can, follow_front, follow_rest, history_on, no_turn, none_follow, one_turn, order_behind, order_on}
 
@@ -29,20 +25,6 @@ pub one_less_left : {X : Type 0} (all some less : List X) → 0 < length some �
 one_less_left all some less there some_are less_are =
     let long : length less ≡ length some - 1 = ap length less_are ∙ length-take-le (length some - 1) some (omega arith) in
     (long, less_are ∙ ap (take (length some - 1)) some_are ∙ take-take (length some - 1) (length some) all (omega arith) ∙ ap (λ n. take n all) (sym long))
-
--- what a list with one more at the end has at a place
-at_more : {X : Type 0} (xs : List X) (y : X) (k : ℕ) (x : X) → slice_get (xs ++ y ∷ []) k ≡ Some x → (slice_get xs k ≡ Some x) ⊎ ((k ≡ length xs) × (y ≡ x))
-at_more [] y zero x e = inr (refl, same_Some y x e)
-at_more [] y (suc k) x e = absurd (cc (e))
-at_more (z ∷ zs) y zero x e = inl e
-at_more (z ∷ zs) y (suc k) x e = elim (at_more zs y k x e) [ inl h ↦ inl h | inr h ↦ inr (ap suc h.0, h.1) ]
-
--- what the first of a list have at a place, the list has there
-in_front : {X : Type 0} (c : ℕ) (xs : List X) (k : ℕ) (x : X) → slice_get (take c xs) k ≡ Some x → (k < c) × (slice_get xs k ≡ Some x)
-in_front zero xs k x e = absurd (cc (e))
-in_front (suc c) [] k x e = absurd (cc (e))
-in_front (suc c) (y ∷ ys) zero x e = (omega arith, e)
-in_front (suc c) (y ∷ ys) (suc k) x e = let rest = in_front c ys k x e in let low = rest.0 in (omega (arith, low), rest.1)
 
 module _ (m : Meeting) where
   -- TURNS IN TWO PARTS
@@ -90,28 +72,14 @@ module _ (m : Meeting) where
   pub stands : (o : List ℕ) (w : Walk) → StandsAt m o w → Stands m w
   stands o w h = subst (λ p. StandsAt m p w) (sym h.order_is) h
 
-  -- the database and the programs where the programs meet
-  pub standing_first : (database : Making) (goings : List Going) → AreAfter m.schema m.capacity m.programs m.begun database goings → AreStanding m database goings
-  standing_first database goings a =
-      let history : database.history ≡ beginning m = ap (λ (n : Making). n.history) a.database_is in
-      record {
-        database_is = a.database_is ∙ (λ i. record (making_by m.schema m.capacity m.programs m.begun) { history = (sym history) i });
-        are_going = a.are_going;
-      }
-
-  -- the number of the first state alone
-  first_alone : (w : Walk) (n : ℕ) → w.states.items ≡ n ∷ [] → IsNumberOf m w.numbers (beginning m) n → (k j : ℕ) → slice_get w.states.items k ≡ Some j → IsNumberOf m w.numbers (history_of m (take k [])) j
-  first_alone w n states number k j e = by k (sym (ap (λ ns. slice_get ns k) states) ∙ e) where
-    by : (i : ℕ) → slice_get (n ∷ []) i ≡ Some j → IsNumberOf m w.numbers (history_of m (take i [])) j
-    by zero f = subst (IsNumberOf m w.numbers (history_of m [])) (same_Some n j f) (subst (λ (es : List Entry). IsNumberOf m w.numbers es n) (sym (no_turn m (beginning m))) number)
-    by (suc i) f = absurd (cc (f))
-
-  pub stands_first : (database : Making) (goings : List Going) (w : Walk) → AreAfter m.schema m.capacity m.programs m.begun database goings → w.database ≡ record { making = database; stays = length database.history } → w.goings.items ≡ goings → w.turns.items ≡ []
-      → (n : ℕ) → w.states.items ≡ n ∷ [] → IsNumberOf m w.numbers database.history n → StandsAt m [] w
-  stands_first database goings w a d g none n states number =
+  pub stands_first : (database : Making) (goings : List Going) (w : Walk) → AreAfter m.schema m.capacity m.programs m.begun database goings → w.database ≡ record { making = database; stays = length database.history } → w.goings.items ≡ goings → w.turns.items ≡ [] → StandsAt m [] w
+  stands_first database goings w a d g none =
       let history : database.history ≡ beginning m = ap (λ (n : Making). n.history) a.database_is in
       let making : w.database.making ≡ database = ap (λ (r : Reversible). r.making) d in
-      let standing = standing_first database goings a in
+      let standing : AreStanding m database goings = record {
+        database_is = a.database_is ∙ (λ i. record (making_by m.schema m.capacity m.programs m.begun) { history = (sym history) i });
+        are_going = a.are_going;
+      } in
       record {
         is_order = none_follow m (beginning m);
         is_place = subst (λ (n : Making). AreStanding m n w.goings.items) (sym making) (subst (λ (gs : List Going). AreStanding m database gs) (sym g) standing);
@@ -119,59 +87,27 @@ module _ (m : Meeting) where
         order_is = ap order_of none;
         are_taken = subst (AreTaken m (beginning m)) (sym none) (none_taken (beginning m));
         stays_are = ap (λ (r : Reversible). r.stays) d ∙ ap (λ (es : List Entry). length es) history;
-        kept_once = number.number.kept_once;
-        count = ap length states ∙ ap (λ (ts : List Taken). suc (length ts)) (sym none);
-        numbered = first_alone w n states (subst (λ (es : List Entry). IsNumberOf m w.numbers es n) history number);
       }
 
-  -- WHERE IT STANDS NOW
-
-  pub last_there : (w : Walk) → Stands m w → length w.turns.items < length w.states.items
-  last_there w h = let count = h.count in omega (arith, count)
-
-  -- the last number is that of the state where it stands
-  pub last_number : (w : Walk) (n : ℕ) → Stands m w → slice_get w.states.items (length w.turns.items) ≡ Some n → IsNumberOf m w.numbers (history_of m (order_of w.turns.items)) n
-  last_number w n h e =
-      let long : length (order_of w.turns.items) ≡ length w.turns.items = length-map w.turns.items (λ (t : Taken). t.unit) in
-      subst (λ o. IsNumberOf m w.numbers (history_of m o) n) (take_all (length w.turns.items) (order_of w.turns.items) (omega (arith, long))) (h.numbered (length w.turns.items) n e)
-
-  -- that of the state before a turn, by the history after it
-  pub number_before : (u : ℕ) (w : Walk) (new : Making) (goings : List Going) (n : ℕ) → Stands m w → HasTurned m u w.database.making new goings → slice_get w.states.items (length w.turns.items) ≡ Some n → IsNumberOf m w.numbers (take (length new.history - 1) new.history) n
-  number_before u w new goings n h turned e =
-      let history = w.database.making.history in
-      let long = ap (λ (es : List Entry). length es) turned.one_more ∙ length-append history (turned.entry ∷ []) in
-      let count : length new.history - 1 ≡ length history = omega (arith, long) in
-      let back : take (length new.history - 1) new.history ≡ history =
-      (λ i. take (count i) (turned.one_more i)) ∙ take-append-le (length history) history (turned.entry ∷ []) (omega arith) ∙ take_all (length history) history (omega arith) in
-      subst (λ (es : List Entry). IsNumberOf m w.numbers es n) (sym h.history_is ∙ sym back) (last_number w n h e)
+  -- the history before a turn
+  pub history_before : (u : ℕ) (old new : Making) (goings : List Going) → HasTurned m u old new goings → take (length new.history - 1) new.history ≡ old.history
+  history_before u old new goings turned =
+      let long = ap (λ (es : List Entry). length es) turned.one_more ∙ length-append old.history (turned.entry ∷ []) in
+      let count : length new.history - 1 ≡ length old.history = omega (arith, long) in
+      (λ i. take (count i) (turned.one_more i)) ∙ take-append-le (length old.history) old.history (turned.entry ∷ []) (omega arith) ∙ take_all (length old.history) old.history (omega arith)
 
   -- the turn can be taken back
-  pub turn_above : (u : ℕ) (w : Walk) (new : Making) (goings : List Going) → Stands m w → HasTurned m u w.database.making new goings → w.database.stays < length new.history
-  turn_above u w new goings h turned =
-      let long = ap (λ (es : List Entry). length es) turned.one_more ∙ length-append w.database.making.history (turned.entry ∷ []) in
-      let most = taken_long (beginning m) w.turns.items h.are_taken in
+  pub turn_above : (o : List ℕ) (u : ℕ) (old new : Walk) → Stands m old → StandsAt m o new → HasTurned m u old.database.making new.database.making new.goings.items → new.database.stays < length new.database.making.history
+  turn_above o u old new h g turned =
+      let long = ap (λ (es : List Entry). length es) turned.one_more ∙ length-append old.database.making.history (turned.entry ∷ []) in
+      let most = taken_long (beginning m) old.turns.items h.are_taken in
       let history = ap (λ (es : List Entry). length es) h.history_is in
-      omega (arith, long, most, history, h.stays_are)
-
-  -- it stands where it stood as long as its turns are the same
-  pub stands_turns : (w new : Walk) → new ≡ record w { turns = new.turns } → w.turns.items ≡ new.turns.items → Stands m w → Stands m new
-  stands_turns w new is t h = subst (Stands m) (sym is) (record {
-    is_order = subst (λ (ts : List Taken). IsOrder m (order_of ts)) t h.is_order;
-    is_place = h.is_place;
-    history_is = subst (λ (ts : List Taken). w.database.making.history ≡ history_of m (order_of ts)) t h.history_is;
-    order_is = refl;
-    are_taken = subst (AreTaken m (beginning m)) t h.are_taken;
-    stays_are = h.stays_are;
-    kept_once = h.kept_once;
-    count = h.count ∙ ap (λ (ts : List Taken). suc (length ts)) t;
-    numbered = λ k n e. subst (λ (ts : List Taken). IsNumberOf m w.numbers (history_of m (take k (order_of ts))) n) t (h.numbered k n e);
-  })
+      omega (arith, long, most, history, g.stays_are)
 
   -- one turn more
   pub stands_on : (u : ℕ) (old new : Walk) (before : Going) → Stands m old → can_turn m old.database.making.history u ≡ true → HasTurned m u old.database.making new.database.making new.goings.items → new.database.stays ≡ old.database.stays
-      → unit_at old.goings.items u ≡ Some before → new.turns.items ≡ old.turns.items ++ record { unit = u; before = before } ∷ []
-      → (n : ℕ) → Grow old.numbers new.numbers → IsNumberOf m new.numbers new.database.making.history n → new.states.items ≡ old.states.items ++ n ∷ [] → StandsAt m (order_of old.turns.items ++ u ∷ []) new
-  stands_on u old new before h can turned stays found pushed n grown number states =
+      → unit_at old.goings.items u ≡ Some before → new.turns.items ≡ old.turns.items ++ record { unit = u; before = before } ∷ [] → StandsAt m (order_of old.turns.items ++ u ∷ []) new
+  stands_on u old new before h can turned stays found pushed =
       let order = order_of old.turns.items in
       let t : Taken = record { unit = u; before = before } in
       let could : can_turn m (history_of m order) u ≡ true = ap (λ (es : List Entry). can_turn m es u) (sym h.history_is) ∙ can in
@@ -193,27 +129,6 @@ module _ (m : Meeting) where
         order_is = ap order_of pushed ∙ map_push (λ (x : Taken). x.unit) old.turns.items t;
         are_taken = subst (AreTaken m (beginning m)) (sym pushed) (taken_both (beginning m) old.turns.items (t ∷ []) h.are_taken (one_taken (history_of m order) t (subst (λ (es : List Entry). IsTaken m es t) h.history_is taken)));
         stays_are = stays ∙ h.stays_are;
-        kept_once = number.number.kept_once;
-        count =
-            let counted = h.count in
-            let longer : length new.turns.items ≡ length old.turns.items + 1 = ap length pushed ∙ length-append old.turns.items (t ∷ []) in
-            let more : length new.states.items ≡ length old.states.items + 1 = ap length states ∙ length-append old.states.items (n ∷ []) in
-            omega (arith, counted, longer, more);
-        numbered = λ k j at.
-            let counted = h.count in
-            let long : length order ≡ length old.turns.items = length-map old.turns.items (λ (x : Taken). x.unit) in
-            let longer = length-append order (u ∷ []) in
-            elim (at_more old.states.items n k j (sym (ap (λ ns. slice_get ns k) states) ∙ at)) [
-              | inl there ↦
-                  let low = slice_get_within old.states.items k j there in
-                  subst (λ o. IsNumberOf m new.numbers (history_of m o) j) (sym (take-append-le k order (u ∷ []) (omega (arith, low, counted, long))))
-                  (number_later m old.numbers new.numbers number.number.kept_once grown (history_of m (take k order)) j (h.numbered k j there))
-              | inr last ↦
-                  let place = last.0 in
-                  let here : new.database.making.history ≡ history_of m (order ++ u ∷ []) = turned.history_is ∙ ap (λ (es : List Entry). after_turn m es u) h.history_is ∙ sym (history_on m order u) in
-                  subst (λ o. IsNumberOf m new.numbers (history_of m o) j) (sym (take_all k (order ++ u ∷ []) (omega (arith, place, counted, long, longer))))
-                  (subst (IsNumberOf m new.numbers (history_of m (order ++ u ∷ []))) last.1 (subst (λ (es : List Entry). IsNumberOf m new.numbers es n) here number))
-            ];
       }
 
   -- turns one after another
@@ -279,22 +194,8 @@ module _ (m : Meeting) where
           above = omega (arith, long, most, h.stays_are);
         }
 
-    length_last : length w.turns.items ≡ length ts + 1
-    length_last = ap length last ∙ length-append ts (t ∷ [])
-
-    -- the numbers of the states that are left
-    numbers_back : (new : Walk) → new.numbers ≡ w.numbers → new.states.items ≡ take (length ts + 1) w.states.items → (k j : ℕ) → slice_get new.states.items k ≡ Some j → IsNumberOf m new.numbers (history_of m (take k (order_of ts))) j
-    numbers_back new numbers states k j e =
-        let at = in_front (length ts + 1) w.states.items k j (sym (ap (λ ns. slice_get ns k) states) ∙ e) in
-        let low = at.0 in
-        let long : length (order_of ts) ≡ length ts = length-map ts (λ (x : Taken). x.unit) in
-        let order : order_of w.turns.items ≡ order_of ts ++ t.unit ∷ [] = ap order_of last ∙ map_push (λ (x : Taken). x.unit) ts t in
-        let front : take k (order_of w.turns.items) ≡ take k (order_of ts) = ap (take k) order ∙ take-append-le k (order_of ts) (t.unit ∷ []) (omega (arith, low, long)) in
-        subst (λ o. IsNumberOf m new.numbers (history_of m o) j) front (subst (λ (kept : Numbers). IsNumberOf m kept (history_of m (take k (order_of w.turns.items))) j) (sym numbers) (h.numbered k j at.1))
-
-    pub stands_back : (new : Walk) → new.turns.items ≡ ts → new.database ≡ record w.database { making = made_first (length w.database.making.history - 1) w.database.making } → new.goings.items ≡ with_unit_at w.goings.items t.unit t.before
-        → new.numbers ≡ w.numbers → new.states.items ≡ take (length ts + 1) w.states.items → Stands m new
-    stands_back new turns database goings numbers states =
+    pub stands_back : (new : Walk) → new.turns.items ≡ ts → new.database ≡ record w.database { making = made_first (length w.database.making.history - 1) w.database.making } → new.goings.items ≡ with_unit_at w.goings.items t.unit t.before → Stands m new
+    stands_back new turns database goings =
         let history = history_of m (order_of ts) in
         let making : new.database.making ≡ made_first (length w.database.making.history - 1) w.database.making = ap (λ (r : Reversible). r.making) database in
         let count : length w.database.making.history - 1 ≡ length history = omega (arith, long) in
@@ -317,13 +218,6 @@ module _ (m : Meeting) where
           order_is = refl;
           are_taken = subst (AreTaken m (beginning m)) (sym turns) front;
           stays_are = ap (λ (r : Reversible). r.stays) database ∙ h.stays_are;
-          kept_once = subst AreNumbers (sym numbers) h.kept_once;
-          count =
-              let counted = h.count in
-              let left = ap length states ∙ length-take-le (length ts + 1) w.states.items (omega (arith, counted, length_last)) in
-              let few = ap length turns in
-              omega (arith, left, few);
-          numbered = λ k j e. subst (λ o. IsNumberOf m new.numbers (history_of m (take k o)) j) (sym order) (numbers_back new numbers states k j e);
         }
 
   -- FROM ONE ORDER TO ANOTHER

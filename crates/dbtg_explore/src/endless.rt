@@ -2,16 +2,19 @@
 
 ghost use Rattle.dbtg_explore.specs.Explored.{IsEndless};
 ghost use Rattle.dbtg_explore.specs.Inside.Walks.{IsPlace, Stands, StandsAt, order_of};
+ghost use Rattle.dbtg_explore.specs.Inside.Parts.{IsNumberOf};
 ghost use Rattle.dbtg_explore.specs.Inside.Rounds.{ComesBack, HasEach};
-ghost use Rattle.dbtg_explore.specs.Orders.{IsMeeting, IsOrder, can_turn};
+ghost use Rattle.dbtg_explore.specs.Inside.Steps.{IsAt};
+ghost use Rattle.dbtg_explore.specs.Orders.{IsMeeting, IsOrder, can_turn, history_of};
 ghost use Rattle.dbtg_outcomes.specs.Numbers.{Grow};
-ghost use Rattle.std.specs.Prelude.{◌≡◌, ◌++◌, List, ℕ, true, Contains, IfOk, IfSome, OnOk};
+ghost use Rattle.std.specs.Prelude.{◌≡◌, ◌++◌, true, length, Contains, IfOk, IfSome};
 
 use crate::explored::Endless;
 use crate::graph::guess_round;
 use crate::meeting::Meeting;
 use crate::search::Search;
 use crate::walk::Walk;
+use dbtg_outcomes::Numbers;
 use dbtg_schema::Row;
 use std::alloc::{AllocError, Global};
 
@@ -41,77 +44,91 @@ fn has_each(meeting: &Meeting, here: &Walk, round: &[u8]) -> bool
     true
 }
 
-// Takes these turns, if they can be had.
-fn go<'a>(
-    alloc: Global,
-    meeting: &Meeting<'a>,
-    walk: &mut Walk<'a>,
-    turns: &[u8],
-) -> Result<bool, AllocError>
-    requires meeting { IsMeeting meeting.now }
-    requires stands { Stands meeting.now walk.old }
-    ensures stands { IfOk result (λ gone. gone ≡ true → StandsAt meeting.now (order_of walk.old.turns.items ++ turns.now) walk.new) }
-    ensures grown { OnOk result (Grow walk.old.numbers walk.new.numbers) }
-{
-    for unit in turns {
-        if !meeting.can_turn(walk, *unit) {
+impl<'a> Meeting<'a> {
+    // Takes these turns, if they can be had. Gives the number of the state to which they lead, by that of the state before them.
+    fn go(
+        &self,
+        alloc: Global,
+        walk: &mut Walk<'a>,
+        turns: &[u8],
+        numbers: &mut Numbers,
+        before: u32,
+    ) -> Result<Option<u32>, AllocError>
+        requires meeting { IsMeeting self.now }
+        requires stands { Stands self.now walk.old }
+        requires before { IsNumberOf self.now numbers.old walk.old.database.making.history before }
+        ensures stands { IfOk result (λ gone. IfSome gone (λ n. StandsAt self.now (order_of walk.old.turns.items ++ turns.now) walk.new)) }
+        ensures keeps { IfOk result (λ gone. IfSome gone (λ n. Grow numbers.old numbers.new)) }
+        ensures number { IfOk result (λ gone. IfSome gone (IsNumberOf self.now numbers.new walk.new.database.making.history)) }
+    {
+        let mut number = before;
+        for unit in turns {
+            if !self.can_turn(walk, *unit) {
+                return Ok(None);
+            }
+            number = self.number_after(alloc, walk, *unit, numbers, number)?;
+        }
+        Ok(Some(number))
+    }
+
+    // Goes round once, and checks whether it comes back to the same state, which has this number.
+    fn comes_back(
+        &self,
+        alloc: Global,
+        walk: &mut Walk<'a>,
+        round: &[u8],
+        numbers: &mut Numbers,
+        before: u32,
+    ) -> Result<bool, AllocError>
+        requires meeting { IsMeeting self.now }
+        requires stands { Stands self.now walk.old }
+        requires before { IsNumberOf self.now numbers.old walk.old.database.making.history before }
+        ensures { IfOk result (λ back. back ≡ true → ComesBack self.now (order_of walk.old.turns.items) round.now) }
+    {
+        match self.go(alloc, walk, round, numbers, before)? {
+            Some(after) => Ok(after == before),
+            None => Ok(false),
+        }
+    }
+
+    // Can programs that are where the walk stands go round like this for ever, with no unit kept waiting?
+    fn goes_round(
+        &self,
+        alloc: Global,
+        walk: &mut Walk<'a>,
+        round: &[u8],
+        numbers: &mut Numbers,
+        before: u32,
+    ) -> Result<bool, AllocError>
+        requires meeting { IsMeeting self.now }
+        requires stands { Stands self.now walk.old }
+        requires before { IsNumberOf self.now numbers.old walk.old.database.making.history before }
+        ensures { IfOk result (λ endless. endless ≡ true → IsEndless self.now (record { turns = order_of walk.old.turns.items; round = round.now })) }
+    {
+        if round.is_empty() || !has_each(self, walk, round) {
             return Ok(false);
         }
-        meeting.take_turn(alloc, walk, *unit)?;
+        self.comes_back(alloc, walk, round, numbers, before)
     }
-    Ok(true)
-}
 
-// Goes round once, and checks whether it comes back to the same state.
-fn comes_back<'a>(
-    alloc: Global,
-    meeting: &Meeting<'a>,
-    walk: &mut Walk<'a>,
-    round: &[u8],
-) -> Result<bool, AllocError>
-    requires meeting { IsMeeting meeting.now }
-    requires stands { Stands meeting.now walk.old }
-    ensures { IfOk result (λ back. back ≡ true → ComesBack meeting.now (order_of walk.old.turns.items) round.now) }
-{
-    let before = meeting.state_number(walk);
-    if !go(alloc, meeting, walk, round)? {
-        return Ok(false);
+    // Can programs go this way for ever? The state in which the round begins has this number.
+    fn is_endless(
+        &self,
+        alloc: Global,
+        walk: &mut Walk<'a>,
+        way: &Endless,
+        numbers: &mut Numbers,
+        before: u32,
+    ) -> Result<bool, AllocError>
+        requires meeting { IsMeeting self.now }
+        requires stands { Stands self.now walk.old }
+        requires turns { IsOrder self.now way.now.turns }
+        requires before { IsNumberOf self.now numbers.old (history_of self.now way.now.turns) before }
+        ensures { IfOk result (λ endless. endless ≡ true → IsEndless self.now way.now) }
+    {
+        self.go_to(alloc, walk, way.turns.as_slice())?;
+        self.goes_round(alloc, walk, way.round.as_slice(), numbers, before)
     }
-    Ok(meeting.state_number(walk) == before)
-}
-
-// Can programs that are where the walk stands go round like this for ever, with no unit kept waiting?
-fn goes_round<'a>(
-    alloc: Global,
-    meeting: &Meeting<'a>,
-    walk: &mut Walk<'a>,
-    round: &[u8],
-) -> Result<bool, AllocError>
-    requires meeting { IsMeeting meeting.now }
-    requires stands { Stands meeting.now walk.old }
-    ensures { IfOk result (λ endless. endless ≡ true → IsEndless meeting.now (record { turns = order_of walk.old.turns.items; round = round.now })) }
-{
-    if round.is_empty() || !has_each(meeting, walk, round) {
-        return Ok(false);
-    }
-    comes_back(alloc, meeting, walk, round)
-}
-
-// Can programs go round like this for ever after these turns?
-fn is_endless<'a>(
-    alloc: Global,
-    meeting: &Meeting<'a>,
-    walk: &mut Walk<'a>,
-    turns: &[u8],
-    round: &[u8],
-) -> Result<bool, AllocError>
-    requires meeting { IsMeeting meeting.now }
-    requires stands { Stands meeting.now walk.old }
-    requires turns { IsOrder meeting.now turns.now }
-    ensures { IfOk result (λ endless. endless ≡ true → IsEndless meeting.now (record { turns = turns.now; round = round.now })) }
-{
-    meeting.go_to(alloc, walk, turns)?;
-    goes_round(alloc, meeting, walk, round)
 }
 
 /// A way to go round for ever, if the search has shown one. Even if there is one, it is not certain to be found.
@@ -119,11 +136,11 @@ pub fn endless_in<'a>(
     alloc: Global,
     meeting: &Meeting<'a>,
     walk: &mut Walk<'a>,
-    search: &Search,
+    search: &mut Search,
 ) -> Result<Option<Endless>, AllocError>
     requires meeting { IsMeeting meeting.now }
     requires stands { Stands meeting.now walk.old }
-    requires orders { (o : List ℕ) → Contains search.now.found.orders o → IsOrder meeting.now o }
+    requires at { IsAt meeting.now (length search.old.found.orders) 0 search.old }
     ensures { IfOk result (λ endless. IfSome endless (IsEndless meeting.now)) }
 {
     let states = search.found.len();
@@ -133,17 +150,12 @@ pub fn endless_in<'a>(
     if states <= round.start {
         return Ok(None);
     }
-    let turns = search.found.order(alloc, round.start)?;
-    if !is_endless(
-        alloc,
-        meeting,
-        walk,
-        turns.as_slice(),
-        round.units.as_slice(),
-    )? {
+    let before = search.found.number(round.start);
+    let turns = Row::of(search.found.order(alloc, round.start)?);
+    let round = Row::of(round.units);
+    let way = Endless { turns, round };
+    if !meeting.is_endless(alloc, walk, &way, &mut search.numbers, before)? {
         return Ok(None);
     }
-    let turns = Row::of(turns);
-    let round = Row::of(round.units);
-    Ok(Some(Endless { turns, round }))
+    Ok(Some(way))
 }

@@ -1,7 +1,6 @@
 //! Everything that programs can come to when they meet.
 
 ghost use Rattle.dbtg_explore.specs.Explored.{IsExplored};
-ghost use Rattle.dbtg_explore.specs.Inside.Parts.{AreNumbered};
 ghost use Rattle.dbtg_explore.specs.Inside.Visits.{HasVisited, IsThrough, IsVisited};
 ghost use Rattle.dbtg_explore.specs.Inside.Walks.{Stands, StandsAt};
 ghost use Rattle.dbtg_explore.specs.Orders.{IsMeeting};
@@ -54,11 +53,9 @@ impl Search {
     ) -> Result<(), Stop>
         requires meeting { IsMeeting meeting.now }
         requires stands { Stands meeting.now walk.old }
-        requires known { AreNumbered meeting.now walk.old.numbers self.old.found.keys self.old.found.orders }
         requires visited { IsVisited meeting.now place self.old ends.old }
         requires within { place < length self.old.found.orders }
         ensures stands { OnOk result (Stands meeting.now walk.new) }
-        ensures known { OnOk result (AreNumbered meeting.now walk.new.numbers self.new.found.keys self.new.found.orders) }
         ensures visited { OnOk result (HasVisited meeting.now place self.old self.new ends.new) }
         ensures stopped { IfErr result (λ stop. stop ≡ States → HasMoreStates meeting.now self.old.limit) }
     {
@@ -108,11 +105,12 @@ fn explored_by<'a, W: Watch>(
     ensures within { IfOk result (λ all. all.states ≤ limit) }
     ensures stopped { IfErr result (λ stop. stop ≡ States → HasMoreStates meeting.now limit) }
 {
-    let (search, ends) = visit_all(alloc, watch, meeting, walk, limit)?;
-    let endless = endless_in(alloc, meeting, walk, &search)?;
+    let (mut search, ends) = visit_all(alloc, watch, meeting, walk, limit)?;
+    let states = search.found.len() as u64;
+    let endless = endless_in(alloc, meeting, walk, &mut search)?;
     let Ends { results, failures } = ends;
     Ok(Explored {
-        states: search.found.len() as u64,
+        states,
         results: results.into_orders(),
         failures: Row::of(failures),
         endless,

@@ -3,7 +3,7 @@
 ghost use Rattle.dbtg_explore.specs.Inside.Keys.{due_numbers, how_numbers};
 ghost use Rattle.dbtg_explore.specs.Inside.Parts.{unit_part};
 ghost use Rattle.dbtg_explore.specs.Inside.Versions.{is_in_order};
-ghost use Rattle.dbtg_explore.specs.Inside.Walks.{AreStanding, IsPlace};
+ghost use Rattle.dbtg_explore.specs.Inside.Walks.{IsPlace};
 ghost use Rattle.dbtg_explore.specs.Orders.{IsMeeting};
 ghost use Rattle.dbtg_explore.specs.States.{sequential_after};
 ghost use Rattle.dbtg_explore.specs.Versions.{unversioned, unversioned_unit};
@@ -117,19 +117,19 @@ impl<'a> Meeting<'a> {
     pub(crate) fn spell_unit_part(
         &self,
         alloc: Global,
-        database: &WholeDatabase,
-        goings: &[Going],
+        walk: &Walk,
         unit: u8,
         out: &mut Vec<u64>,
     ) -> Result<(), AllocError>
         requires meeting { IsMeeting self.now }
-        requires standing { AreStanding self.now database.now goings.now }
+        requires place { IsPlace self.now walk.now }
         requires numbered { 0 < unit }
-        ensures { OnOk result (out.new.items ≡ out.old.items ++ unit_part self.now database.now.history unit) }
+        ensures { OnOk result (out.new.items ≡ out.old.items ++ unit_part self.now walk.now.database.making.history unit) }
     {
         // Its history says that the database is legal.
+        let database = walk.database.database();
         let _history = database.history();
-        spell_program(goings, unit, out)?;
+        spell_program(walk.goings.as_slice(), unit, out)?;
         spell_unit(alloc, database, unit, out)
     }
 }

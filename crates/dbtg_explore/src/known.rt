@@ -44,6 +44,14 @@ impl Known {
         self.orders.len()
     }
 
+    /// The number of the state at this place, from 0.
+    pub fn number(&self, place: usize) -> u32
+        requires { place < length self.now.keys }
+        ensures { result ≡ slice_index_or self.now.keys place 0 }
+    {
+        self.keys.as_slice()[place]
+    }
+
     /// The order to the state at this place, from 0.
     pub fn order(&self, alloc: Global, place: usize) -> Result<Vec<u8>, AllocError>
         requires { place < length self.now.orders }

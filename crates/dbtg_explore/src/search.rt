@@ -1,46 +1,27 @@
 //! A search through all states to which orders lead. It goes on from each state that it has found, from the first on, by one turn of each
 //! unit in rising order. So it comes to each state by the first order that leads there.
 
-ghost use Rattle.dbtg_explore.specs.Inside.Walks.{Stands, StandsAt, order_of};
-ghost use Rattle.dbtg_explore.specs.Inside.Parts.{AreNumbered, IsNumberOf};
+ghost use Rattle.dbtg_explore.specs.Inside.Walks.{Stands, StandsAt};
 ghost use Rattle.dbtg_explore.specs.Inside.Steps.{Goes, IsAt};
-ghost use Rattle.dbtg_explore.specs.Orders.{IsMeeting, can_turn, history_of};
+ghost use Rattle.dbtg_explore.specs.Orders.{IsMeeting, can_turn};
 ghost use Rattle.dbtg_explore.specs.States.{HasMoreStates};
-ghost use Rattle.dbtg_outcomes.specs.Numbers.{Grow};
 ghost use Rattle.dbtg_outcomes.specs.declared.search.Stop.TheVariants.{States};
-ghost use Rattle.std.specs.Prelude.{◌≡◌, ◌+◌, ◌<◌, ◌++◌, ◌∷◌, [], true, length, slice_index_or, IfErr, IfOk, OnOk};
+ghost use Rattle.std.specs.Prelude.{◌≡◌, ◌+◌, ◌<◌, [], true, length, slice_index_or, IfErr, IfOk, OnOk};
 
 use crate::graph::Edge;
 use crate::known::Known;
 use crate::meeting::Meeting;
 use crate::walk::Walk;
-use dbtg_outcomes::Stop;
+use dbtg_outcomes::{Numbers, Stop};
 use std::alloc::{AllocError, Global};
 
-/// The first order to each state that is found, the turns from state to state, and how many states there may be.
+/// The first order to each state that is found, the numbers of states, the turns from state to state, and how many states there may be.
 #[derive(Drop)]
 pub struct Search {
     pub found: Known,
+    pub numbers: Numbers,
     pub edges: Vec<Edge>,
     pub limit: usize,
-}
-
-// The number of the state to which the turn of the unit leads from where the walk stands.
-fn number_after<'a>(
-    alloc: Global,
-    meeting: &Meeting<'a>,
-    walk: &mut Walk<'a>,
-    unit: u8,
-) -> Result<u32, AllocError>
-    requires meeting { IsMeeting meeting.now }
-    requires stands { Stands meeting.now walk.old }
-    requires turn { can_turn meeting.now walk.old.database.making.history unit ≡ true }
-    ensures stands { OnOk result (Stands meeting.now walk.new) }
-    ensures grown { OnOk result (Grow walk.old.numbers walk.new.numbers) }
-    ensures number { IfOk result (IsNumberOf meeting.now walk.new.numbers (history_of meeting.now (order_of walk.old.turns.items ++ unit ∷ []))) }
-{
-    meeting.take_turn(alloc, walk, unit)?;
-    Ok(meeting.state_number(walk))
 }
 
 impl Search {
@@ -54,17 +35,18 @@ impl Search {
         requires meeting { IsMeeting meeting.now }
         requires stands { StandsAt meeting.now [] walk.now }
         ensures at { IfOk result (IsAt meeting.now 0 0) }
-        ensures known { IfOk result (λ search. AreNumbered meeting.now walk.now.numbers search.found.keys search.found.orders) }
         ensures limit { IfOk result (λ search. search.limit ≡ limit) }
         ensures stopped { IfErr result (λ stop. stop ≡ States → HasMoreStates meeting.now limit) }
     {
-        let number = meeting.state_number(walk);
+        let mut numbers = meeting.no_numbers(alloc)?;
+        let number = meeting.first_number(alloc, &mut numbers, walk)?;
         let found = Known::first(alloc, number)?;
         if limit < found.len() {
             return Err(Stop::States);
         }
         Ok(Search {
             found,
+            numbers,
             edges: Vec::new(alloc),
             limit,
         })
@@ -81,16 +63,15 @@ impl Search {
     ) -> Result<(), Stop>
         requires meeting { IsMeeting meeting.now }
         requires at { IsAt meeting.now place unit self.old }
-        requires known { AreNumbered meeting.now walk.old.numbers self.old.found.keys self.old.found.orders }
         requires within { place < length self.old.found.orders }
         requires here { StandsAt meeting.now (slice_index_or self.old.found.orders place []) walk.old }
         requires turn { can_turn meeting.now walk.old.database.making.history unit ≡ true }
         ensures stands { OnOk result (Stands meeting.now walk.new) }
-        ensures known { OnOk result (AreNumbered meeting.now walk.new.numbers self.new.found.keys self.new.found.orders) }
         ensures goes { OnOk result (Goes meeting.now place (unit + 1) self.old self.new) }
         ensures stopped { IfErr result (λ stop. stop ≡ States → HasMoreStates meeting.now self.old.limit) }
     {
-        let number = number_after(alloc, meeting, walk, unit)?;
+        let before = self.found.number(place);
+        let number = meeting.number_after(alloc, walk, unit, &mut self.numbers, before)?;
         let (to, _is_new) = self.found.enter(number, place, unit)?;
         self.edges.push(Edge {
             from: place,
@@ -114,11 +95,9 @@ impl Search {
     ) -> Result<(), Stop>
         requires meeting { IsMeeting meeting.now }
         requires at { IsAt meeting.now place unit self.old }
-        requires known { AreNumbered meeting.now walk.old.numbers self.old.found.keys self.old.found.orders }
         requires within { place < length self.old.found.orders }
         requires stands { Stands meeting.now walk.old }
         ensures stands { OnOk result (Stands meeting.now walk.new) }
-        ensures known { OnOk result (AreNumbered meeting.now walk.new.numbers self.new.found.keys self.new.found.orders) }
         ensures goes { OnOk result (Goes meeting.now place (unit + 1) self.old self.new) }
         ensures stopped { IfErr result (λ stop. stop ≡ States → HasMoreStates meeting.now self.old.limit) }
     {
@@ -140,11 +119,9 @@ impl Search {
     ) -> Result<(), Stop>
         requires meeting { IsMeeting meeting.now }
         requires at { IsAt meeting.now place 0 self.old }
-        requires known { AreNumbered meeting.now walk.old.numbers self.old.found.keys self.old.found.orders }
         requires within { place < length self.old.found.orders }
         requires stands { Stands meeting.now walk.old }
         ensures stands { OnOk result (Stands meeting.now walk.new) }
-        ensures known { OnOk result (AreNumbered meeting.now walk.new.numbers self.new.found.keys self.new.found.orders) }
         ensures goes { OnOk result (Goes meeting.now (place + 1) 0 self.old self.new) }
         ensures stopped { IfErr result (λ stop. stop ≡ States → HasMoreStates meeting.now self.old.limit) }
     {

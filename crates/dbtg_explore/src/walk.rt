@@ -1,16 +1,13 @@
 //! A walk from state to state: a database and programs that stand after the turns of an order, and go to others by way of the turns with
 //! which both orders begin.
 
-ghost use Rattle.dbtg_explore.specs.Inside.Parts.{IsNumberOf};
 ghost use Rattle.dbtg_explore.specs.Inside.Walks.{AreStanding, HasTurned, Stands, StandsAt, order_of};
-ghost use Rattle.dbtg_explore.specs.Orders.{CanFollow, IsMeeting, IsOrder, Meeting as MeetingOfPrograms, can_turn, due_of, history_of};
-ghost use Rattle.dbtg_outcomes.specs.Numbers.{Grow};
+ghost use Rattle.dbtg_explore.specs.Orders.{CanFollow, IsMeeting, IsOrder, Meeting as MeetingOfPrograms, can_turn, due_of};
 ghost use Rattle.dbtg_step.specs.Machine.SequentialDatabase.{unit_at, with_unit_at};
 ghost use Rattle.std.specs.Prelude.{◌≡◌, ◌≤◌, ◌<◌, ◌-◌, ◌++◌, ◌∷◌, [], Some, true, length, take, IfOk, OnOk};
 
 use crate::meeting::Meeting;
 use dbtg_going::{Going, programs_after};
-use dbtg_outcomes::Numbers;
 use dbtg_step::ReversibleDatabase;
 use dbtg_unit::Statement;
 use std::alloc::{AllocError, Global};
@@ -22,15 +19,12 @@ pub struct Taken {
     pub before: Going,
 }
 
-/// A database and programs after these turns, which can be taken back, and the numbers of the states that they came by, the first before
-/// all turns.
+/// A database and programs after these turns, which can be taken back.
 #[derive(Drop)]
 pub struct Walk<'a> {
     pub database: ReversibleDatabase<'a>,
     pub goings: Vec<Going>,
     pub turns: Vec<Taken>,
-    pub states: Vec<u32>,
-    pub numbers: Numbers,
 }
 
 // How many of the turns are those with which the order begins.
@@ -61,13 +55,11 @@ impl<'a> Walk<'a> {
         requires { (m : MeetingOfPrograms) × Stands m self.old }
         ensures stands { (m : MeetingOfPrograms) → Stands m self.old → Stands m self.new }
         ensures turns { self.new.turns.items ≡ take (length self.old.turns.items - 1) self.old.turns.items }
-        ensures numbers { self.new.numbers ≡ self.old.numbers }
     {
         if let Some(Taken { unit, before }) = self.turns.pop() {
             let count = self.database.database().history().len();
             self.database.take_back_to(count - 1);
             put_back(self.goings.as_mut_slice(), unit, before);
-            self.states.truncate(self.turns.len() + 1);
         }
     }
 
@@ -77,7 +69,6 @@ impl<'a> Walk<'a> {
         requires within { count ≤ length self.old.turns.items }
         ensures stands { (m : MeetingOfPrograms) → Stands m self.old → Stands m self.new }
         ensures turns { self.new.turns.items ≡ take count self.old.turns.items }
-        ensures numbers { self.new.numbers ≡ self.old.numbers }
     {
         while self.turns.len() > count {
             self.take_back();
@@ -90,14 +81,10 @@ impl<'a> Walk<'a> {
             database,
             goings,
             turns,
-            states,
-            numbers,
         } = self;
         database.discard();
         drop(goings);
-        drop(turns);
-        drop(states);
-        drop(numbers)
+        drop(turns)
     }
 }
 
@@ -114,16 +101,10 @@ impl<'a> Meeting<'a> {
             self.programs,
             self.begun,
         )?;
-        let mut numbers = self.no_numbers(alloc)?;
-        let number = self.first_number(alloc, &mut numbers, &database, goings.as_slice())?;
-        let mut states = Vec::new(alloc);
-        states.push(number)?;
         Ok(Walk {
             database: ReversibleDatabase::of(alloc, database),
             goings,
             turns: Vec::new(alloc),
-            states,
-            numbers,
         })
     }
 
@@ -151,30 +132,25 @@ impl<'a> Meeting<'a> {
         Ok(going)
     }
 
-    /// The unit has its turn: its program makes the statement that is due, and goes on. The state is numbered by the one before.
+    /// The unit has its turn: its program makes the statement that is due, and goes on.
     pub(crate) fn take_turn(
         &self,
         alloc: Global,
         walk: &mut Walk<'a>,
         unit: u8,
     ) -> Result<(), AllocError>
-        requires meeting { IsMeeting self.now }
         requires stands { Stands self.now walk.old }
         requires turn { can_turn self.now walk.old.database.making.history unit ≡ true }
         ensures stands { OnOk result (StandsAt self.now (order_of walk.old.turns.items ++ unit ∷ []) walk.new) }
-        ensures grown { OnOk result (Grow walk.old.numbers walk.new.numbers) }
+        ensures turned { OnOk result (HasTurned self.now unit walk.old.database.making walk.new.database.making walk.new.goings.items) }
     {
         match self.due(walk, unit) {
             None => Ok(()),
             Some(statement) => {
                 let statement = statement.copy(alloc)?;
-                let last = walk.states[walk.turns.len()];
                 let goings = walk.goings.as_mut_slice();
                 let before = self.make(alloc, &mut walk.database, goings, unit, statement)?;
                 walk.turns.push(Taken { unit, before })?;
-                let (numbers, goings) = (&mut walk.numbers, walk.goings.as_slice());
-                let number = self.next_number(alloc, numbers, &walk.database, goings, last)?;
-                walk.states.push(number)?;
                 Ok(())
             }
         }
@@ -182,11 +158,9 @@ impl<'a> Meeting<'a> {
 
     // These turns, one after another.
     fn take_turns(&self, alloc: Global, walk: &mut Walk<'a>, units: &[u8]) -> Result<(), AllocError>
-        requires meeting { IsMeeting self.now }
         requires stands { Stands self.now walk.old }
         requires turns { CanFollow self.now walk.old.database.making.history units.now }
-        ensures stands { OnOk result (StandsAt self.now (order_of walk.old.turns.items ++ units.now) walk.new) }
-        ensures grown { OnOk result (Grow walk.old.numbers walk.new.numbers) }
+        ensures { OnOk result (StandsAt self.now (order_of walk.old.turns.items ++ units.now) walk.new) }
     {
         for unit in units {
             self.take_turn(alloc, walk, *unit)?;
@@ -201,25 +175,12 @@ impl<'a> Meeting<'a> {
         walk: &mut Walk<'a>,
         order: &[u8],
     ) -> Result<(), AllocError>
-        requires meeting { IsMeeting self.now }
         requires stands { Stands self.now walk.old }
         requires order { IsOrder self.now order.now }
-        ensures stands { OnOk result (StandsAt self.now order.now walk.new) }
-        ensures grown { OnOk result (Grow walk.old.numbers walk.new.numbers) }
+        ensures { OnOk result (StandsAt self.now order.now walk.new) }
     {
         let shared = shared_with(walk.turns.as_slice(), order);
         walk.take_back_to(shared);
         self.take_turns(alloc, walk, &order[shared..])
-    }
-
-    /// The number of the state where the walk stands. Two places have one number exactly if their states differ at most in the order in
-    /// which units opened an area, and in versions that tell no kept record from its own.
-    pub(crate) fn state_number(&self, walk: &Walk) -> u32
-        requires { Stands self.now walk.now }
-        ensures { IsNumberOf self.now walk.now.numbers (history_of self.now (order_of walk.now.turns.items)) result }
-    {
-        // Unused here; the contract mentions it.
-        let _units = self.programs.len();
-        walk.states[walk.turns.len()]
     }
 }

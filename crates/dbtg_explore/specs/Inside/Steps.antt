@@ -2,6 +2,7 @@
 -- m is a meeting, o is an order, i is the place of an order that is found, u is a unit.
 use Rattle.std.specs.Prelude.{ℕ, ◌≡◌, ◌≤◌, ◌++◌, Bool, List, length}
 use Rattle.dbtg_explore.specs.declared.search.Search as given
+use Rattle.dbtg_explore.specs.Inside.Parts.{AreNumbered}
 use Rattle.dbtg_explore.specs.Inside.Search.{IsUnderWay}
 use Rattle.dbtg_explore.specs.Orders.{IsOrder, Meeting, can_turn, history_of}
 use Rattle.dbtg_explore.specs.States.{essence_of}
@@ -10,9 +11,10 @@ use Rattle.dbtg_explore.specs.States.{essence_of}
 abbrev pub can_follow : Meeting → List ℕ → ℕ → Bool
 can_follow m o u = can_turn m (history_of m o) u
 
--- the search is at place i and unit u
+-- the search is at place i and unit u, and has each order with the number of its state
 pub record IsAt (m : Meeting) (i u : ℕ) (s : given.Search) : Type 0 where
   pub under_way : IsUnderWay (IsOrder m) (can_follow m) (essence_of m) s.found.orders i u
+  pub known : AreNumbered m s.numbers s.found.keys s.found.orders
   pub few : length s.found.orders ≤ s.limit
 
 -- it has gone on to place i and unit u, and kept what it had found

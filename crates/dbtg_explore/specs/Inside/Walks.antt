@@ -1,6 +1,6 @@
 -- A walk from state to state: where it stands, and the turns that led there.
 -- m is a meeting, u a unit, t a turn that was taken, w a walk.
-use Rattle.std.specs.Prelude.{ℕ, suc, ◌≡◌, ◌++◌, true, List, [], ◌∷◌, Option, Some, None, if◌then◌else◌, length, map, option_and_then, slice_get, take, ⊤}
+use Rattle.std.specs.Prelude.{ℕ, ◌≡◌, ◌++◌, true, List, [], ◌∷◌, Option, Some, None, if◌then◌else◌, length, map, option_and_then, ⊤}
 use Rattle.dbtg_unit.specs.declared.unit.Entry.{Entry}
 use Rattle.dbtg_unit.specs.Database.Laws.Replay.{entries_of}
 use Rattle.dbtg_step.specs.Core.Reversible.{Reversible}
@@ -11,10 +11,8 @@ use Rattle.dbtg_program.specs.declared.program.Program.{Program}
 use Rattle.dbtg_program.specs.Going.{Due, due, ended}
 use Rattle.dbtg_step.specs.Machine.SequentialDatabase.{unit_at}
 use Rattle.dbtg_going.specs.Goings.{AreGoing, IsGoing}
-use Rattle.dbtg_outcomes.specs.Numbers.{AreNumbers}
 use Rattle.dbtg_explore.specs.declared.walk.Taken.{Taken}
 use Rattle.dbtg_explore.specs.declared.walk.Walk.{Walk}
-use Rattle.dbtg_explore.specs.Inside.Parts.{IsNumberOf}
 use Rattle.dbtg_explore.specs.Orders.{IsOrder, Meeting, after_turn, beginning, can_turn, history_of}
 use Rattle.dbtg_explore.specs.Results.{is_failure}
 use Rattle.dbtg_explore.specs.States.{MeetingState}
@@ -65,10 +63,6 @@ pub record StandsAt (m : Meeting) (order : List ℕ) (w : Walk) : Type 0 where
   pub order_is : order_of w.turns.items ≡ order
   pub are_taken : AreTaken m (beginning m) w.turns.items
   pub stays_are : w.database.stays ≡ length (beginning m)
-  -- the numbers of the states that it came by, the first where the programs meet
-  pub kept_once : AreNumbers w.numbers
-  pub count : length w.states.items ≡ suc (length w.turns.items)
-  pub numbered : (k n : ℕ) → slice_get w.states.items k ≡ Some n → IsNumberOf m w.numbers (history_of m (take k order)) n
 
 -- it stands where its turns have led
 abbrev pub Stands : Meeting → Walk → Type 0

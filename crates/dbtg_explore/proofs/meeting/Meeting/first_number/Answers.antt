@@ -11,12 +11,12 @@ use Rattle.dbtg_explore.proofs.meeting.Meeting.first_number.Goals as goal
 pub put_all-requires-clause-cells : goal.put_all-requires-clause-cells
 put_all-requires-clause-cells c =
     let m = c.args.self.now in
-    let names = c.as_slice.ensures.value ∙ c.in_ok-names.ensures ∙ ap (λ (d : Making). cells_in_order d.schema d.capacity) c.requires.standing.database_is in
+    let names = c.as_slice.ensures.value ∙ c.in_ok-names.ensures ∙ ap (λ (d : Making). cells_in_order d.schema d.capacity) (c.database.ensures ∙ c.requires.place.database_is) in
     subst (λ (ns : List CellName). list_all (is_cell m.schema m.capacity) ns ≡ true) (sym names) (all_are_cells m.schema m.capacity)
 
 pub put_all-requires-clause-but : goal.put_all-requires-clause-but
 put_all-requires-clause-but c =
     let m = c.args.self.now in
-    let parts = parts_of m c.args.database.now.history in
-    let names = c.as_slice.ensures.value ∙ c.in_ok-names.ensures ∙ ap (λ (d : Making). cells_in_order d.schema d.capacity) c.requires.standing.database_is in
+    let parts = parts_of m c.args.walk.now.database.making.history in
+    let names = c.as_slice.ensures.value ∙ c.in_ok-names.ensures ∙ ap (λ (d : Making). cells_in_order d.schema d.capacity) (c.database.ensures ∙ c.requires.place.database_is) in
     subst (λ (ns : List CellName). IsNumberBut parts c.args.numbers.now 0 ns 0) (sym names) (nothing_said parts c.args.numbers.now c.requires.kept c.requires.room)

@@ -1,4 +1,4 @@
-use Rattle.std.proofs.Common.{◌≡◌, ℕ, true, List, subst, sym}
+use Rattle.std.proofs.Common.{◌≡◌, ◌∙◌, ℕ, true, List, subst, sym}
 use Rattle.std.specs.List.{list_all}
 use Rattle.std.proofs.lemmas.Result.{IfOk-weaker}
 use Rattle.dbtg_cells.specs.CellNumbers.{is_cell}
@@ -12,12 +12,12 @@ pub put_units-requires-clause-but : goal.put_units-requires-clause-but
 put_units-requires-clause-but c = (c.args.names.now, c.requires.but)
 
 pub put_cells-requires-clause-cells : goal.put_cells-requires-clause-cells
-put_cells-requires-clause-cells c = subst (λ (d : Making). list_all (is_cell d.schema d.capacity) c.args.names.now ≡ true) (sym c.requires.standing.database_is) c.requires.cells
+put_cells-requires-clause-cells c = subst (λ (d : Making). list_all (is_cell d.schema d.capacity) c.args.names.now ≡ true) (sym (c.database-database.ensures ∙ c.requires.place.database_is)) c.requires.cells
 
 pub put_cells-requires-clause-but : goal.put_cells-requires-clause-but
 put_cells-requires-clause-but c =
-    let d = c.args.database.now in
-    (unit_part c.args.self.now d.history, spelled_but c.args.self.now d c.args.goings.now c.requires.standing c.spelling.result.versions c.spelling.result.units c.spelling.ensures.versions c.spelling.ensures.units c.put_units.new.numbers c.args.names.now c.in_ok-number.number (c.in_ok-number.ensures.number c.args.names.now c.requires.but))
+    let d = c.args.walk.now.database.making in
+    (unit_part c.args.self.now d.history, spelled_but c.args.self.now d c.database-database.result.now c.args.walk.now.goings.items c.requires.place c.database-database.ensures c.spelling.result.versions c.spelling.result.units c.spelling.ensures.versions c.spelling.ensures.units c.put_units.new.numbers c.args.names.now c.in_ok-number.number (c.in_ok-number.ensures.number c.args.names.now c.requires.but))
 
 pub returns-clause-keeps : goal.returns-clause-keeps
 returns-clause-keeps c =
@@ -26,8 +26,10 @@ returns-clause-keeps c =
 pub returns-clause-number : goal.returns-clause-number
 returns-clause-number c =
     let m = c.args.self.now in
-    let d = c.args.database.now in
+    let d = c.args.walk.now.database.making in
+    let there = c.database-database.result.now in
+    let goings = c.args.walk.now.goings.items in
     IfOk-weaker c.put_cells.result _ _
-    (λ n is. spelled_state m d c.args.goings.now c.requires.standing c.spelling.result.versions c.spelling.result.units c.spelling.ensures.versions c.spelling.ensures.units c.put_cells.new.self n
-    (is (unit_part m d.history) (spelled_but m d c.args.goings.now c.requires.standing c.spelling.result.versions c.spelling.result.units c.spelling.ensures.versions c.spelling.ensures.units c.put_units.new.numbers c.args.names.now c.in_ok-number.number (c.in_ok-number.ensures.number c.args.names.now c.requires.but))))
+    (λ n is. spelled_state m d there goings c.requires.place c.database-database.ensures c.spelling.result.versions c.spelling.result.units c.spelling.ensures.versions c.spelling.ensures.units c.put_cells.new.self n
+    (is (unit_part m d.history) (spelled_but m d there goings c.requires.place c.database-database.ensures c.spelling.result.versions c.spelling.result.units c.spelling.ensures.versions c.spelling.ensures.units c.put_units.new.numbers c.args.names.now c.in_ok-number.number (c.in_ok-number.ensures.number c.args.names.now c.requires.but))))
     c.put_cells.ensures.number

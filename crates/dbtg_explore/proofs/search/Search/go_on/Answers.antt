@@ -8,7 +8,7 @@ use Rattle.dbtg_explore.proofs.search.Search.go_on.Goals as goal
 pub loop-before-init : goal.loop-before-init
 loop-before-init c =
     let m = c.args.meeting.now in
-    (stays m c.args.self.now c.args.place 0 c.requires.within c.requires.at (cannot_before m (get_or c.args.self.now.found.orders c.args.place [])), c.requires.stands, c.requires.known)
+    (stays m c.args.self.now c.args.place 0 c.requires.within c.requires.at (cannot_before m (get_or c.args.self.now.found.orders c.args.place [])), c.requires.stands)
 
 pub go_on_by-requires-clause-at : goal.go_on_by-requires-clause-at
 go_on_by-requires-clause-at c = c.loop-before.invariant.0.at
@@ -20,7 +20,6 @@ pub loop-before-preserved : goal.loop-before-preserved
 loop-before-preserved c = (
   goes_both c.args.meeting.now c.args.place (c.loop-before.before + 1) (c.loop-before.before + 1 + 1) c.args.self.now c.loop-before.self c.go_on_by.new.self c.loop-before.invariant.0 c.in_ok-go_on_by.ensures.goes,
   c.in_ok-go_on_by.ensures.stands,
-  c.in_ok-go_on_by.ensures.known,
 )
 
 pub returns-in_err-go_on_by-clause-stopped : goal.returns-in_err-go_on_by-clause-stopped

@@ -3,7 +3,6 @@ use Rattle.std.proofs.lemmas.List.Elements.{Contains-get_or}
 use Rattle.dbtg_unit.specs.declared.unit.Entry.{Entry}
 use Rattle.dbtg_explore.specs.Inside.Walks.{StandsAt}
 use Rattle.dbtg_explore.specs.Orders.{IsOrder, can_turn}
-use Rattle.dbtg_explore.proofs.Numbered.{numbered_later}
 use Rattle.dbtg_explore.proofs.Steps.{stays}
 use Rattle.dbtg_explore.proofs.Walks.{stands}
 use Rattle.dbtg_explore.proofs.search.Search.go_on_by.Goals as goal
@@ -17,18 +16,12 @@ go_to-requires-clause-order c =
 pub returns-then-not-can_turn-clause-goes : goal.returns-then-not-can_turn-clause-goes
 returns-then-not-can_turn-clause-goes c =
     let m = c.args.meeting.now in
-    let here = subst (λ (o : List ℕ). StandsAt m o c.go_to.new.walk) (c.as_slice.ensures.value ∙ c.in_ok-order.ensures) c.in_ok-go_to.ensures.stands in
+    let here = subst (λ (o : List ℕ). StandsAt m o c.go_to.new.walk) (c.as_slice.ensures.value ∙ c.in_ok-order.ensures) c.in_ok-go_to.ensures in
     stays m c.args.self.now c.args.place c.args.unit c.requires.within c.requires.at
     (ap (λ (es : List Entry). can_turn m es c.args.unit) (sym here.history_is) ∙ sym c.can_turn.ensures ∙ c.if-not-can_turn.true)
 
 pub returns-then-not-can_turn-clause-stands : goal.returns-then-not-can_turn-clause-stands
-returns-then-not-can_turn-clause-stands c = stands c.args.meeting.now _ c.go_to.new.walk c.in_ok-go_to.ensures.stands
+returns-then-not-can_turn-clause-stands c = stands c.args.meeting.now _ c.go_to.new.walk c.in_ok-go_to.ensures
 
 pub take_turn-requires-clause-here : goal.take_turn-requires-clause-here
-take_turn-requires-clause-here c = subst (λ (o : List ℕ). StandsAt c.args.meeting.now o c.go_to.new.walk) (c.as_slice.ensures.value ∙ c.in_ok-order.ensures) c.in_ok-go_to.ensures.stands
-
-pub take_turn-requires-clause-known : goal.take_turn-requires-clause-known
-take_turn-requires-clause-known c = numbered_later c.args.meeting.now c.args.walk.now.numbers c.go_to.new.walk.numbers c.in_ok-go_to.ensures.stands.kept_once c.in_ok-go_to.ensures.grown c.args.self.now.found.keys c.args.self.now.found.orders c.requires.known
-
-pub returns-then-not-can_turn-clause-known : goal.returns-then-not-can_turn-clause-known
-returns-then-not-can_turn-clause-known c = numbered_later c.args.meeting.now c.args.walk.now.numbers c.go_to.new.walk.numbers c.in_ok-go_to.ensures.stands.kept_once c.in_ok-go_to.ensures.grown c.args.self.now.found.keys c.args.self.now.found.orders c.requires.known
+take_turn-requires-clause-here c = subst (λ (o : List ℕ). StandsAt c.args.meeting.now o c.go_to.new.walk) (c.as_slice.ensures.value ∙ c.in_ok-order.ensures) c.in_ok-go_to.ensures

@@ -2,7 +2,6 @@ use Rattle.std.proofs.Common.{◌∙◌, ℕ, List, [], subst, sym, get_or}
 use Rattle.std.proofs.lemmas.List.Elements.{Contains-get_or}
 use Rattle.std.proofs.lemmas.Result.{on_ok_weaker}
 use Rattle.dbtg_explore.specs.Orders.{IsOrder}
-use Rattle.dbtg_explore.proofs.Numbered.{numbered_later}
 use Rattle.dbtg_explore.proofs.Visiting.{visited_more}
 use Rattle.dbtg_explore.proofs.Walks.{stands}
 use Rattle.dbtg_explore.proofs.search.Search.visit.Goals as goal
@@ -12,9 +11,6 @@ go_to-requires-clause-order c =
     let m = c.args.meeting.now in
     let os = c.args.self.now.found.orders in
     subst (IsOrder m) (sym (c.as_slice.ensures.value ∙ c.in_ok-order.ensures)) (c.requires.visited.at.under_way.are_orders (get_or os c.args.place []) (Contains-get_or os c.args.place [] c.requires.within))
-
-pub go_on-requires-clause-known : goal.go_on-requires-clause-known
-go_on-requires-clause-known c = numbered_later c.args.meeting.now c.args.walk.now.numbers c.go_to.new.walk.numbers c.in_ok-go_to.ensures.stands.kept_once c.in_ok-go_to.ensures.grown c.args.self.now.found.keys c.args.self.now.found.orders c.requires.known
 
 pub returns-clause-visited : goal.returns-clause-visited
 returns-clause-visited c =

@@ -1,4 +1,4 @@
-use Rattle.std.proofs.Common.{◌≡◌, ◌≤◌, ◌+◌, ◌-◌, ◌∙◌, List, ap, append-nil, refl, length, take, arith}
+use Rattle.std.proofs.Common.{◌≡◌, ◌≤◌, ◌-◌, ◌∙◌, List, ap, refl, length, arith}
 use Rattle.std.specs.Vec.{with_items}
 use Rattle.std.proofs.lemmas.List.{with_items_is}
 use Rattle.dbtg_unit.specs.declared.unit.Entry.{Entry}
@@ -6,7 +6,7 @@ use Rattle.dbtg_step.specs.Core.Reversible.{made_first}
 use Rattle.dbtg_step.specs.Core.Whole.{Making}
 use Rattle.dbtg_step.specs.Machine.SequentialDatabase.{with_unit_at}
 use Rattle.dbtg_going.specs.declared.member.Going.{Going}
-use Rattle.dbtg_explore.proofs.Walks.{is_last, stands_back, stands_turns}
+use Rattle.dbtg_explore.proofs.Walks.{is_last, stands_back}
 use Rattle.dbtg_explore.proofs.walk.Walk.take_back.Goals as goal
 
 pub overflow_sub-count : goal.overflow_sub-count
@@ -41,10 +41,5 @@ returns-in-Some-clause-stands c = λ m h.
     let t = c.in-Some.field-0 in
     let count : length c.history-count.result.now ≡ length s.database.making.history = ap (λ (es : List Entry). length es) (c.history-count.ensures.history ∙ ap (λ (d : Making). d.history) c.database.ensures) in
     let long : length c.put_back.new.goings ≡ s.goings.len = omega (arith, c.put_back.auto.goings, c.as_mut_slice.ensures.len) in
-    let few : c.len.result ≡ length c.pop.new.self.items = omega (arith, c.len.ensures) in
-    stands_back m s c.pop.new.self.items t h c.in-Some.ensures.items (record { database = c.take_back_to.new.self; goings = with_items s.goings c.put_back.new.goings; turns = c.pop.new.self; states = c.truncate.new.self; numbers = s.numbers }) refl
+    stands_back m s c.pop.new.self.items t h c.in-Some.ensures.items (record { database = c.take_back_to.new.self; goings = with_items s.goings c.put_back.new.goings; turns = c.pop.new.self }) refl
     (c.take_back_to.ensures ∙ (λ i. record s.database { making = made_first (count i - 1) s.database.making })) (with_items_is s.goings c.put_back.new.goings long ∙ c.put_back.ensures ∙ ap (λ (gs : List Going). with_unit_at gs t.unit t.before) c.as_mut_slice.ensures.value)
-    refl (c.truncate.ensures.items ∙ ap (λ n. take (n + 1) s.states.items) few)
-
-pub returns-in_default-clause-stands : goal.returns-in_default-clause-stands
-returns-in_default-clause-stands c = λ m h. stands_turns m c.args.self.now (record c.args.self.now { turns = c.pop.new.self }) refl (c.in_default.ensures.items ∙ append-nil c.pop.new.self.items) h
