@@ -26,31 +26,7 @@ use Rattle.dbtg_explore.specs.Inside.Walks.{AreStanding}
 use Rattle.dbtg_explore.proofs.Parts.{shown_first}
 use Rattle.dbtg_explore.proofs.Searched.{contains_behind, contains_cases, contains_here, contains_none}
 
--- ALL CELLS
-
-all_from : (test : CellName → Bool) (ns : List CellName) → ((i : ℕ) (c : CellName) → slice_get ns i ≡ Some c → test c ≡ true) → list_all test ns ≡ true
-all_from test [] h = refl
-all_from test (n ∷ ns) h = and_from _ _ (h zero n refl) (all_from test ns (λ i c e. h (suc i) c e))
-
--- the names of all cells are names of cells
-pub all_are_cells : (schema : Lists) (capacity : ℕ) → list_all (is_cell schema capacity) (cells_in_order schema capacity) ≡ true
-all_are_cells schema capacity = all_from (is_cell schema capacity) (cells_in_order schema capacity) (λ i c e. sym (has_number schema capacity c) ∙ ap is_some (numbered_at schema capacity i c e))
-
-zero_at : (count i : ℕ) → i < count → slice_get {X = ℕ} (replicate count 0) i ≡ Some 0
-zero_at zero i low = absurd (omega (arith, low))
-zero_at (suc count) zero low = refl
-zero_at (suc count) (suc i) low = zero_at count i (omega (arith, low))
-
--- the array of zeros says nothing yet of any unit or cell
-pub nothing_said : (p : Parts) (kept : Numbers) → AreNumbers kept → p.count + cell_count p.schema p.capacity ≤ size kept.arrays → IsNumberBut p kept 0 (cells_in_order p.schema p.capacity) 0
-nothing_said p kept once room = record {
-  kept_once = once;
-  room = room;
-  is_array = zeros_array kept.arrays once.arrays;
-  units_are = λ u low high. absurd (omega (arith, low, high));
-  cells_are = λ c k number free. absurd (true≢false (sym (cell_in_order p.schema p.capacity c ∙ sym (has_number p.schema p.capacity c) ∙ ap is_some number) ∙ free));
-  zeros = λ i past low. ap (λ (es : List ℕ). slice_get es i) (zeros_elements kept.arrays once.arrays) ∙ zero_at (size kept.arrays) i low;
-}
+-- ONE MORE STATE
 
 -- the array of a state says what is so of the next, but for the units and the cells that are named
 pub but_units : (p : Parts) (unit : ℕ → List ℕ) (cell : CellName → List ℕ) (kept : Numbers) (names : List CellName) (n : ℕ) → NumbersState p kept n → ((c : CellName) → is_named names c ≡ false → cell c ≡ p.cell c) → IsNumberBut (with_parts p unit cell) kept 0 names n
