@@ -1,5 +1,7 @@
 use Rattle.std.proofs.Common.{◌≡◌, ℕ, length, subst, arith}
+use Rattle.std.proofs.lemmas.Result.{err_from_is_err_and}
 use Rattle.dbtg_explore.specs.Inside.Visits.{IsVisited}
+use Rattle.dbtg_explore.specs.States.{HasMoreStates}
 use Rattle.dbtg_explore.proofs.Visiting.{on_the_way, one_on_the_way}
 use Rattle.dbtg_explore.proofs.Walks.{stands}
 use Rattle.dbtg_explore.proofs.explored.visit_all.Goals as goal
@@ -14,6 +16,11 @@ loop-place-preserved g c = (
   one_on_the_way c.args.meeting.now c.args.limit c.loop-place.place c.loop-place.search c.visit.new.self c.loop-place.ends c.visit.new.ends c.loop-place.invariant.0 c.in_ok-visit.ensures.visited,
   c.in_ok-visit.ensures.stands,
 )
+
+pub returns-in_err-visit-clause-stopped : goal.returns-in_err-visit-clause-stopped
+returns-in_err-visit-clause-stopped g c =
+    let told = err_from_is_err_and c.from_residual-in_err-visit.result c.from_residual-in_err-visit.ensures.1 in
+    rw (told.1, told.2) (λ e. subst (HasMoreStates c.args.meeting.now) c.loop-place.invariant.0.limit_is (c.in_err-visit.ensures.stopped e))
 
 pub returns-clause-through : goal.returns-clause-through
 returns-clause-through g c =
