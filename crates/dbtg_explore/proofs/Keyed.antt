@@ -1,6 +1,6 @@
 -- How programs stand is known by their numbers; orders lead to legal states; states with the same essence have the same text.
 -- m is a meeting, u a unit, o and p are orders.
-use Rattle.std.proofs.Common.{◌≡◌, ℕ, zero, suc, ◌+◌, Bool, true, false, List, [], ◌∷◌, ◌++◌, length, Option, Some, None, refl, ap, subst, sym, ◌∙◌, map}
+use Rattle.std.proofs.Common.{◌≡◌, ℕ, zero, suc, Bool, true, false, List, [], ◌∷◌, ◌++◌, length, Option, Some, None, refl, ap, subst, sym, ◌∙◌, map}
 use Rattle.std.specs.Prelude.{⊤, if◌then◌else◌, nat_lt, option_and_then}
 use Rattle.std.specs.List.{list_all, range_with_len}
 use Rattle.dbtg_schema.specs.Lists.{Lists}

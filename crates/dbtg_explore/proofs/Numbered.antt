@@ -1,19 +1,11 @@
 -- Numbers of states, as they are made and kept.
 -- m is a meeting, h is a history, o an order, os are orders, u a unit, c the name of a cell, n and k are numbers of states, d is a database.
-use Rattle.std.proofs.Common.{◌≡◌, refl, sym, ◌∙◌, ap, subst, ℕ, zero, suc, ◌+◌, ◌-◌, ◌<◌, ◌≤◌, Bool, true, false, List, [], ◌∷◌, ◌++◌, length, get_or, Some, arith, inl, inr, true≢false, take, slice_get, replicate}
-use Rattle.std.specs.Prelude.{Contains, is_some, option_and_then}
-use Rattle.std.specs.List.{list_all}
-use Rattle.std.proofs.lemmas.Bool.{and_from, and_parts}
-use Rattle.dbtg_schema.specs.Lists.{Lists}
-use Rattle.dbtg_interned.specs.Arrays.{elements, size}
-use Rattle.dbtg_interned.proofs.Public.{zeros_array, zeros_elements}
-use Rattle.dbtg_cells.specs.CellNumbers.{cell_count, cell_number, cells_in_order, is_cell}
+use Rattle.std.proofs.Common.{◌≡◌, refl, sym, ◌∙◌, ap, subst, ℕ, zero, suc, ◌+◌, ◌-◌, ◌<◌, Bool, false, List, [], ◌∷◌, ◌++◌, length, get_or, Some, arith, inl, inr, take}
+use Rattle.std.specs.Prelude.{Contains}
 use Rattle.dbtg_cells.specs.declared.name.CellName.{CellName}
-use Rattle.dbtg_cells.proofs.Public.{cell_in_order, has_number, numbered_at}
 use Rattle.dbtg_unit.specs.declared.unit.Entry.{Entry}
-use Rattle.dbtg_unit.specs.Database.State.Base.{Database}
-use Rattle.dbtg_step.specs.Core.Reversible.{OnlyChanged, OnlyLastChanged, is_named, made_first}
-use Rattle.dbtg_step.specs.Core.Whole.{Making, state_now}
+use Rattle.dbtg_step.specs.Core.Reversible.{OnlyChanged, OnlyLastChanged, is_named}
+use Rattle.dbtg_step.specs.Core.Whole.{Making}
 use Rattle.dbtg_going.specs.declared.member.Going.{Going}
 use Rattle.dbtg_outcomes.specs.Numbers.{AreNumbers, Grow, HasPut, IsNumberBut, Numbers, NumbersState}
 use Rattle.dbtg_outcomes.specs.Parts.{Parts, parts_in}

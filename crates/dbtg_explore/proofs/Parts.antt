@@ -1,8 +1,8 @@
 -- Two states of a meeting have the same essence exactly if each part of them is the same.
 -- m is a meeting, u a unit, c the name of a cell, h and g are histories, o and p are orders; db is a database.
-use Rattle.std.proofs.Common.{◌≡◌, refl, sym, ◌∙◌, ap, subst, ◌&&◌, ℕ, zero, suc, ◌+◌, ◌<◌, ◌≤◌, true, false, List, [], ◌∷◌, ◌++◌, append-nil, length, Option, Some, None, map, arith, slice_get}
+use Rattle.std.proofs.Common.{◌≡◌, refl, sym, ◌∙◌, ap, subst, ◌&&◌, ℕ, zero, suc, ◌+◌, ◌<◌, ◌≤◌, true, false, List, [], ◌∷◌, ◌++◌, append-nil, length, Option, Some, None, arith}
 use Rattle.std.specs.Prelude.{flat_map, is_some, nat_le, nat_lt, option_map, option_to_list}
-use Rattle.std.specs.List.{list_all, range_with_len}
+use Rattle.std.specs.List.{list_all}
 use Rattle.std.proofs.lemmas.List.{length-map}
 use Rattle.dbtg_schema.specs.Lists.{Lists}
 use Rattle.dbtg_cells.specs.CellNumbers.{is_cell}
@@ -10,10 +10,8 @@ use Rattle.dbtg_cells.specs.declared.name.CellName.{CellName}
 use Rattle.dbtg_cells.specs.declared.name.CellName.TheVariants.{Usage, Extent, Ring, Slot}
 use Rattle.dbtg_cells.proofs.Public.{there_is}
 use Rattle.dbtg_unit.specs.declared.unit.Entry.{Entry}
-use Rattle.dbtg_unit.specs.declared.unit.Unit.{Unit}
 use Rattle.dbtg_unit.specs.Database.State.Base.{Database, Record, key_at}
 use Rattle.dbtg_unit.specs.Database.State.Cells.{cell, owner_at, slot_of}
-use Rattle.dbtg_unit.specs.Database.Laws.StaysLegal.{IsLegalState}
 use Rattle.dbtg_program.specs.declared.program.Program.{Program}
 use Rattle.dbtg_program.specs.Going.{Due}
 use Rattle.dbtg_step.specs.Machine.SequentialDatabase.{unit_at}
@@ -22,7 +20,7 @@ use Rattle.dbtg_outcomes.specs.Numbers.{Numbers}
 use Rattle.dbtg_outcomes.specs.Parts.{last_at, number_numbers, record_of, shown_numbers}
 use Rattle.dbtg_outcomes.specs.Inside.Parts.{cell_numbers}
 use Rattle.dbtg_outcomes.specs.Spelling.{unit_numbers}
-use Rattle.dbtg_outcomes.proofs.States.Numbers.{HaveTheSame, one_number_of, same_by_number, with_parts}
+use Rattle.dbtg_outcomes.proofs.States.Numbers.{one_number_of, same_by_number}
 use Rattle.dbtg_outcomes.proofs.States.SameImages.{uses_from}
 use Rattle.dbtg_outcomes.proofs.States.SameParts.{cells_same, same_at_each, same_last, same_lists, same_records, same_users, unit_spelled}
 use Rattle.dbtg_outcomes.proofs.States.ShownParts.{keys_said}

@@ -1,6 +1,6 @@
 -- A walk: where it stands after turns are taken, and taken back.
 -- m is a meeting, u a unit, t a turn that was taken, ts are turns, w is a walk, o an order.
-use Rattle.std.proofs.Common.{◌≡◌, refl, sym, ◌∙◌, ap, subst, ℕ, ◌+◌, ◌-◌, ◌<◌, ◌≤◌, true, false, List, [], ◌∷◌, ◌++◌, length, length-append, map, get_or, take, drop, take-append-drop, append-nil, append_assoc, Option, Some, None, arith, true≢false}
+use Rattle.std.proofs.Common.{◌≡◌, refl, sym, ◌∙◌, ap, subst, ℕ, ◌+◌, ◌-◌, ◌<◌, ◌≤◌, true, false, List, [], ◌∷◌, ◌++◌, length, length-append, get_or, take, drop, take-append-drop, append-nil, append_assoc, Option, Some, None, arith, true≢false}
 use Rattle.std.specs.List.{take-map}
 use Rattle.std.proofs.lemmas.List.{length-take-le, map_push, take-append-le, take-take, take_all, take_more}
 use Rattle.dbtg_unit.specs.declared.unit.Entry.{Entry}
@@ -16,9 +16,9 @@ use Rattle.dbtg_going.proofs.Turning.{one_less}
 use Rattle.dbtg_explore.specs.declared.walk.Taken.{Taken}
 use Rattle.dbtg_explore.specs.declared.walk.Walk.{Walk}
 use Rattle.dbtg_explore.specs.Orders.{CanFollow, IsOrder, Meeting, after_order, after_turn, beginning, can_turn, history_of}
-use Rattle.dbtg_explore.specs.Inside.Walks.{AreStanding, AreTaken, HasTurned, IsPlace, IsTaken, Stands, StandsAt, order_of}
+use Rattle.dbtg_explore.specs.Inside.Walks.{AreStanding, AreTaken, HasTurned, IsTaken, Stands, StandsAt, order_of}
 use Rattle.dbtg_explore.proofs.Placed.{has_number}
-use Rattle.dbtg_explore.proofs.Turning.{first_can, follow_front, follow_rest, history_on, no_turn, none_follow, one_turn, order_behind, order_on}
+use Rattle.dbtg_explore.proofs.Turning.{first_can, follow_front, follow_rest, history_on, no_turn, none_follow, order_behind, order_on}
 
 -- some elements from the beginning of all, without the last of them
 pub one_less_left : {X : Type 0} (all some less : List X) → 0 < length some → some ≡ take (length some) all → less ≡ take (length some - 1) some → (length less ≡ length some - 1) × (less ≡ take (length less) all)

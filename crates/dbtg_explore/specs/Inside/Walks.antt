@@ -3,7 +3,6 @@
 use Rattle.std.specs.Prelude.{ℕ, ◌≡◌, ◌++◌, true, List, [], ◌∷◌, Option, Some, None, if◌then◌else◌, length, map, option_and_then, ⊤}
 use Rattle.dbtg_unit.specs.declared.unit.Entry.{Entry}
 use Rattle.dbtg_unit.specs.Database.Laws.Replay.{entries_of}
-use Rattle.dbtg_step.specs.Core.Reversible.{Reversible}
 use Rattle.dbtg_step.specs.Core.Whole.{Making}
 use Rattle.dbtg_going.specs.declared.member.Going.{Going}
 use Rattle.dbtg_program.specs.declared.program.End.{End}

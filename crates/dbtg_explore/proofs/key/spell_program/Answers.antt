@@ -1,4 +1,4 @@
-use Rattle.std.proofs.Common.{◌∙◌, ◌++◌, Some, ap, sym, append-nil, refl}
+use Rattle.std.proofs.Common.{◌∙◌, ◌++◌, ap, sym, append-nil, refl}
 use Rattle.std.specs.Prelude.{flat_map, option_to_list}
 use Rattle.std.proofs.lemmas.Result.{on_ok_weaker}
 use Rattle.dbtg_going.specs.Goings.{comes_of}

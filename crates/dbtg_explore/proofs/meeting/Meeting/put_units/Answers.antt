@@ -1,5 +1,4 @@
-use Rattle.std.proofs.Common.{◌≡◌, ℕ, List, length, subst, arith}
-use Rattle.dbtg_cells.specs.declared.name.CellName.{CellName}
+use Rattle.std.proofs.Common.{◌≡◌, ℕ, length, subst, arith}
 use Rattle.dbtg_outcomes.specs.Numbers.{IsNumberBut}
 use Rattle.dbtg_explore.specs.Inside.Parts.{parts_of}
 use Rattle.dbtg_explore.proofs.Numbered.{none_put, one_put}

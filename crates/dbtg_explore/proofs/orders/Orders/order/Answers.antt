@@ -1,4 +1,4 @@
-use Rattle.std.proofs.Common.{◌≡◌, ◌++◌, ◌∙◌, List, ℕ, [], ap, subst, sym, length, get_or, reverse, append-nil, arith}
+use Rattle.std.proofs.Common.{◌≡◌, ◌++◌, ◌∙◌, List, ℕ, [], ap, sym, get_or, reverse, append-nil, arith}
 use Rattle.dbtg_explore.specs.Inside.Links.{orders_of}
 use Rattle.dbtg_explore.proofs.Links.{first_of, gone_back, is_before, length_of}
 use Rattle.dbtg_explore.proofs.orders.Orders.order.Goals as goal

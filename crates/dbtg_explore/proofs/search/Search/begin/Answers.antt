@@ -1,4 +1,4 @@
-use Rattle.std.proofs.Common.{◌≡◌, ◌<◌, ◌≤◌, List, refl, subst, length, arith}
+use Rattle.std.proofs.Common.{◌<◌, ◌≤◌, List, refl, subst, length, arith}
 use Rattle.dbtg_unit.specs.declared.unit.Entry.{Entry}
 use Rattle.dbtg_explore.specs.Inside.Parts.{IsNumberOf}
 use Rattle.dbtg_explore.proofs.Steps.{at_first, over_first}

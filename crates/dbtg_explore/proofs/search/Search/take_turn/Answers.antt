@@ -1,4 +1,4 @@
-use Rattle.std.proofs.Common.{◌≡◌, ◌∙◌, ◌<◌, ◌≤◌, ◌++◌, ◌∷◌, [], ℕ, List, refl, ap, subst, sym, length, get_or, arith}
+use Rattle.std.proofs.Common.{◌∙◌, ◌<◌, ◌≤◌, ◌++◌, ◌∷◌, [], ℕ, List, refl, ap, subst, sym, length, get_or, arith}
 use Rattle.dbtg_unit.specs.declared.unit.Entry.{Entry}
 use Rattle.dbtg_explore.specs.Inside.Parts.{IsNumberOf}
 use Rattle.dbtg_explore.specs.Orders.{can_turn, history_of}

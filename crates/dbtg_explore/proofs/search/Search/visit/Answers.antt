@@ -1,9 +1,8 @@
-use Rattle.std.proofs.Common.{◌∙◌, ℕ, List, [], subst, sym, get_or}
+use Rattle.std.proofs.Common.{◌∙◌, [], subst, sym, get_or}
 use Rattle.std.proofs.lemmas.List.Elements.{Contains-get_or}
 use Rattle.std.proofs.lemmas.Result.{on_ok_weaker}
 use Rattle.dbtg_explore.specs.Orders.{IsOrder}
 use Rattle.dbtg_explore.proofs.Visiting.{visited_more}
-use Rattle.dbtg_explore.proofs.Walks.{stands}
 use Rattle.dbtg_explore.proofs.search.Search.visit.Goals as goal
 
 pub go_to-requires-clause-order : goal.go_to-requires-clause-order
