@@ -134,11 +134,11 @@ module _ (m : Meeting) where
   -- ONE MORE TURN
 
   -- the statement that is due, and the state of its program
-  record IsDueOf (history : List Entry) (u : ℕ) (s : Statement) : Type 0 where
-    program : Program
-    found : unit_at m.programs u ≡ Some program
-    at : ProgramState
-    comes_is : comes m.schema program u history ≡ due at s
+  pub record IsDueOf (history : List Entry) (u : ℕ) (s : Statement) : Type 0 where
+    pub program : Program
+    pub found : unit_at m.programs u ≡ Some program
+    pub at : ProgramState
+    pub comes_is : comes m.schema program u history ≡ due at s
 
   due_by : (d : Due) (s : Statement) → statement_due m.schema d ≡ Some s → (at : ProgramState) × (d ≡ due at s)
   due_by (ended at how) s e = absurd cc
@@ -147,7 +147,7 @@ module _ (m : Meeting) where
     same true f = cc
     same false f = absurd cc
 
-  due_there : (history : List Entry) (u : ℕ) (s : Statement) → due_of m history u ≡ Some s → IsDueOf history u s
+  pub due_there : (history : List Entry) (u : ℕ) (s : Statement) → due_of m history u ≡ Some s → IsDueOf history u s
   due_there history u s e = by (unit_at m.programs u) refl e where
     by : (o : Option Program) → unit_at m.programs u ≡ o → option_and_then (λ (p : Program). statement_due m.schema (comes m.schema p u history)) o ≡ Some s → IsDueOf history u s
     by None found f = absurd cc

@@ -118,14 +118,14 @@ module _ (m : Meeting) where
   fit_made history u None h f = h
   fit_made history u (Some s) h f = fit_outcome history u s _ h (f s refl)
 
-  due_fits : (d : Due) (s : Statement) → statement_due m.schema d ≡ Some s → fits m.schema s ≡ true
+  pub due_fits : (d : Due) (s : Statement) → statement_due m.schema d ≡ Some s → fits m.schema s ≡ true
   due_fits (ended at how) s e = absurd cc
   due_fits (due at t) s e = by (fits m.schema t) refl e where
     by : (b : Bool) → fits m.schema t ≡ b → (if b then Some t else None) ≡ Some s → fits m.schema s ≡ true
     by true is f = let same : t ≡ s = cc in subst (λ (z : Statement). fits m.schema z ≡ true) same is
     by false is f = absurd cc
 
-  of_due : (o : Option Program) (f : Program → Option Statement) → ((p : Program) (s : Statement) → f p ≡ Some s → fits m.schema s ≡ true) → (s : Statement) → option_and_then f o ≡ Some s → fits m.schema s ≡ true
+  pub of_due : (o : Option Program) (f : Program → Option Statement) → ((p : Program) (s : Statement) → f p ≡ Some s → fits m.schema s ≡ true) → (s : Statement) → option_and_then f o ≡ Some s → fits m.schema s ≡ true
   of_due None f h s e = absurd cc
   of_due (Some p) f h s e = h p s e
 
@@ -163,8 +163,11 @@ module _ (m : Meeting) where
   units_after state [] = refl
   units_after state (e ∷ es) = units_after (after_entry m.schema m.capacity state e) es ∙ effect_keeps_count state e.unit (effect_of_unit m.schema m.capacity state e.unit e.statement)
 
+  pub units_counted : (history : List Entry) → length (sequential_after m history).units ≡ length m.programs
+  units_counted history = units_after (opening_state m.schema (length m.programs)) history ∙ opening_length m.schema (length m.programs)
+
   pub units_count : (o : List ℕ) → length (state_of m o).sequential.units ≡ length m.programs
-  units_count o = units_after (opening_state m.schema (length m.programs)) (history_of m o) ∙ opening_length m.schema (length m.programs)
+  units_count o = units_counted (history_of m o)
 
   -- THE SAME TEXT
 

@@ -15,6 +15,9 @@ pub mod Steps
 pub mod Noting
 pub mod Numbered
 pub mod Parts
+pub mod Said
+pub mod Transitions
+pub mod Next
 pub mod Visiting
 pub mod Rounding
 pub mod Rows

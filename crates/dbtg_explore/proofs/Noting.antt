@@ -1,6 +1,6 @@
 -- What is noted of one more order.
 -- m is a meeting, o and p are orders, seen are the earlier orders, f is a failure.
-use Rattle.std.proofs.Common.{◌≡◌, refl, sym, ◌∙◌, ap, subst, ℕ, ◌+◌, ◌-◌, ◌<◌, ◌≤◌, true, false, not, List, [], ◌∷◌, ◌++◌, length, map, get_or, None, Some, arith, inl, inr, ◌⊎◌, ⊎_elim, true≢false}
+use Rattle.std.proofs.Common.{◌≡◌, refl, sym, ◌∙◌, ap, subst, ℕ, ◌+◌, ◌-◌, ◌<◌, ◌≤◌, true, false, not, List, [], ◌∷◌, ◌++◌, length, map, get_or, Option, None, Some, arith, inl, inr, ◌⊎◌, ⊎_elim, true≢false}
 use Rattle.std.specs.Prelude.{Contains, option_and_then}
 use Rattle.std.specs.List.{list_any, range_with_len}
 use Rattle.std.proofs.lemmas.Bool.{cases_Bool, cases_lt}
@@ -14,7 +14,7 @@ use Rattle.dbtg_step.specs.Machine.SequentialDatabase.{unit_at}
 use Rattle.dbtg_unit.specs.declared.unit.Entry.{Entry}
 use Rattle.dbtg_explore.specs.declared.ends.Ends as given
 use Rattle.dbtg_explore.specs.declared.explored.Failure.{Failure}
-use Rattle.dbtg_explore.specs.Inside.Ends.{AreFailuresOf, AreResultsOf, FailsAt, FailsIn, Notes, NotesResult}
+use Rattle.dbtg_explore.specs.Inside.Ends.{AreFailuresOf, AreResultsOf, FailsAt, FailsIn, FailsSo, Notes, NotesResult}
 use Rattle.dbtg_explore.specs.Inside.Failures.{Take}
 use Rattle.dbtg_explore.specs.Inside.Found.{FoundOrders, IsEntered}
 use Rattle.dbtg_explore.specs.Inside.Search.{AreFirsts}
@@ -27,8 +27,23 @@ use Rattle.dbtg_explore.proofs.Steps.{in_map, none_before, none_beyond, of_map}
 
 -- FAILURES
 
-pub takes_none : (fs : List Failure) (P : Failure → Type 0) → ((f : Failure) → P f → ⊥) → Take P fs fs
+takes_none : (fs : List Failure) (P : Failure → Type 0) → ((f : Failure) → P f → ⊥) → Take P fs fs
 takes_none fs P none = record { kept = λ f c. c; all = λ f p. absurd (none f p); only = λ f c. inl c; in_order = λ h. h }
+
+-- one failure, or none
+pub takes_one : (u : ℕ) (how : End) (so : Option End) (fs gs : List Failure) → Some how ≡ so → Take (λ f. record { unit = u; how = how } ≡ f) fs gs → Take (FailsSo so u) fs gs
+takes_one u how so fs gs is t = record {
+  kept = t.kept;
+  all = λ f p.
+      let there : Some how ≡ Some f.how = is ∙ p.1 in
+      let same : how ≡ f.how = cc in
+      t.all f (λ i. record { unit = sym p.0 i; how = same i });
+  only = λ f c. ⊎_elim (λ d. inl d) (λ e. inr (ap (λ (g : Failure). g.unit) (sym e), sym is ∙ ap (λ (g : Failure). Some g.how) e)) (t.only f c);
+  in_order = t.in_order;
+}
+
+pub takes_nothing : (u : ℕ) (so : Option End) (fs : List Failure) → None ≡ so → Take (FailsSo so u) fs fs
+takes_nothing u so fs none = takes_none fs (FailsSo so u) (λ f p. let clash : None ≡ Some f.how = none ∙ p.1 in cc)
 
 pub takes_both : (P Q R : Failure → Type 0) (a b c : List Failure) → Take P a b → Take Q b c → ((f : Failure) → R f → P f ⊎ Q f) → ((f : Failure) → P f ⊎ Q f → R f) → Take R a c
 takes_both P Q R a b c p q of to = record {
@@ -64,19 +79,14 @@ module _ (m : Meeting) (history : List Entry) where
     nothing : (u : ℕ) → failure_in (state_after m history) u ≡ Some f.how → unit_at (state_after m history).programs u ≡ None → ⊥
     nothing u e none = let clash : None ≡ Some f.how = ap (option_and_then failure_by) (sym none) ∙ e in cc
 
-  pub fails_one : (u : ℕ) (how : End) (fs gs : List Failure) → Some how ≡ failure_in (state_after m history) u → Take (λ f. record { unit = u; how = how } ≡ f) fs gs → Take (FailsAt m history u) fs gs
-  fails_one u how fs gs is t = record {
+  -- what is said of a unit is so
+  pub fails_at : (u : ℕ) (so : Option End) (fs gs : List Failure) → so ≡ failure_in (state_after m history) u → Take (FailsSo so u) fs gs → Take (FailsAt m history u) fs gs
+  fails_at u so fs gs is t = record {
     kept = t.kept;
-    all = λ f p.
-        let there : Some how ≡ Some f.how = is ∙ ap (failure_in (state_after m history)) (sym p.0) ∙ p.1 in
-        let same : how ≡ f.how = cc in
-        t.all f (λ i. record { unit = sym p.0 i; how = same i });
-    only = λ f c. ⊎_elim (λ d. inl d) (λ e. inr (ap (λ (g : Failure). g.unit) (sym e), subst (FailsIn (state_after m history)) e (sym is))) (t.only f c);
+    all = λ f p. t.all f (p.0, is ∙ ap (failure_in (state_after m history)) (sym p.0) ∙ p.1);
+    only = λ f c. ⊎_elim (λ d. inl d) (λ e. inr (e.0, ap (failure_in (state_after m history)) e.0 ∙ sym is ∙ e.1)) (t.only f c);
     in_order = t.in_order;
   }
-
-  pub fails_none : (u : ℕ) (fs : List Failure) → None ≡ failure_in (state_after m history) u → Take (FailsAt m history u) fs fs
-  fails_none u fs none = takes_none fs (FailsAt m history u) (λ f p. let clash : None ≡ Some f.how = none ∙ ap (failure_in (state_after m history)) (sym p.0) ∙ p.1 in cc)
 
   pub fails_first : (fs : List Failure) → Take (FailsTo m history 0) fs fs
   fails_first fs = takes_none fs (FailsTo m history 0) (λ f p. let low = p.0 in let high = (fails_within f p.1).0 in omega arith)
@@ -136,7 +146,7 @@ module _ (m : Meeting) where
         keys_are = put.keys_are ∙ (λ j. h.keys_are j ++ key_is j ∷ []) ∙ sym (map_push (result_text m) old.orders o) ∙ ap (map (result_text m)) (sym orders);
       }
 
-  cannot_go : (history : List Entry) (u : ℕ) → unit_at m.programs u ≡ None → can_go_on m history u ≡ false
+  pub cannot_go : (history : List Entry) (u : ℕ) → unit_at m.programs u ≡ None → can_go_on m history u ≡ false
   cannot_go history u none = rw none refl
 
   -- if none of the programs can go on, no unit can

@@ -117,6 +117,12 @@ module _ (m : Meeting) where
     numbered_there (n ∷ ns) (o ∷ os) zero h low = h.0
     numbered_there (n ∷ ns) (o ∷ os) (suc i) h low = numbered_there ns os i h.1 (omega (arith, low))
 
+    pub numbered_low : (ns : List ℕ) (os : List (List ℕ)) (i : ℕ) → AreNumbered m kept ns os → i < length os → i < length ns
+    numbered_low ns os i h low = let long = numbered_long ns os h in omega (arith, long, low)
+
+    pub state_at : (ns : List ℕ) (os : List (List ℕ)) (i n : ℕ) → AreNumbered m kept ns os → i < length os → n ≡ get_or ns i 0 → IsNumberOf m kept (history_of m (get_or os i [])) n
+    state_at ns os i n h low is = subst (IsNumberOf m kept (history_of m (get_or os i []))) (sym is) (numbered_there ns os i h low)
+
     pub numbered_more : (ns : List ℕ) (os : List (List ℕ)) (n : ℕ) (o : List ℕ) → AreNumbered m kept ns os → IsNumberOf m kept (history_of m o) n → AreNumbered m kept (ns ++ n ∷ []) (os ++ o ∷ [])
     numbered_more [] [] n o h number = (number, tt)
     numbered_more [] (p ∷ os) n o h number = absurd h

@@ -1,60 +1,123 @@
 -- Two states of a meeting have the same essence exactly if each part of them is the same.
 -- m is a meeting, u a unit, c the name of a cell, h and g are histories, o and p are orders; db is a database.
 use Rattle.std.proofs.Common.{◌≡◌, refl, sym, ◌∙◌, ap, subst, ◌&&◌, ℕ, zero, suc, ◌+◌, ◌<◌, ◌≤◌, true, false, List, [], ◌∷◌, ◌++◌, append-nil, length, Option, Some, None, arith}
-use Rattle.std.specs.Prelude.{flat_map, is_some, nat_le, nat_lt, option_map, option_to_list}
-use Rattle.std.specs.List.{list_all}
+use Rattle.std.specs.Prelude.{flat_map, if◌then◌else◌, is_some, map, nat_le, nat_lt, option_and_then, option_map, option_to_list, unwrap_or}
+use Rattle.std.specs.List.{list_all, range_with_len}
 use Rattle.std.proofs.lemmas.List.{length-map}
 use Rattle.dbtg_schema.specs.Lists.{Lists}
+use Rattle.dbtg_schema.specs.Structure.{set_numbers}
 use Rattle.dbtg_cells.specs.CellNumbers.{is_cell}
+use Rattle.dbtg_cells.specs.declared.extent.Number.{Number}
+use Rattle.dbtg_cells.specs.declared.key.DbKey.{DbKey}
+use Rattle.dbtg_cells.specs.declared.key.Owner.{Owner}
+use Rattle.dbtg_cells.specs.declared.key.Value.{Value}
 use Rattle.dbtg_cells.specs.declared.name.CellName.{CellName}
 use Rattle.dbtg_cells.specs.declared.name.CellName.TheVariants.{Usage, Extent, Ring, Slot}
+use Rattle.dbtg_cells.specs.declared.ring.Occurrence.{Occurrence}
 use Rattle.dbtg_cells.proofs.Public.{there_is}
+use Rattle.dbtg_unit.specs.declared.statement.Statement.{Statement}
 use Rattle.dbtg_unit.specs.declared.unit.Entry.{Entry}
-use Rattle.dbtg_unit.specs.Database.State.Base.{Database, Record, key_at}
-use Rattle.dbtg_unit.specs.Database.State.Cells.{cell, owner_at, slot_of}
+use Rattle.dbtg_unit.specs.declared.unit.Unit.{Unit}
+use Rattle.dbtg_unit.specs.Database.State.Base.{Database, Record, calc_items, is_live, items_of, key_at}
+use Rattle.dbtg_unit.specs.Database.State.Cells.{cell, owner_at, ring_of, slot_of}
 use Rattle.dbtg_program.specs.declared.program.Program.{Program}
 use Rattle.dbtg_program.specs.Going.{Due}
 use Rattle.dbtg_step.specs.Machine.SequentialDatabase.{unit_at}
-use Rattle.dbtg_going.specs.Turns.{comes}
+use Rattle.dbtg_going.specs.Turns.{comes, statement_due}
 use Rattle.dbtg_outcomes.specs.Numbers.{Numbers}
-use Rattle.dbtg_outcomes.specs.Parts.{last_at, number_numbers, record_of, shown_numbers}
-use Rattle.dbtg_outcomes.specs.Inside.Parts.{cell_numbers}
-use Rattle.dbtg_outcomes.specs.Spelling.{unit_numbers}
+use Rattle.dbtg_outcomes.specs.Parts.{number_numbers, occurrence_numbers, record_numbers, shown_numbers, up_to_used}
+use Rattle.dbtg_outcomes.specs.Spelling.{list_numbers, option_numbers, owner_numbers, unit_numbers, value_numbers}
 use Rattle.dbtg_outcomes.proofs.States.Numbers.{one_number_of, same_by_number}
 use Rattle.dbtg_outcomes.proofs.States.SameImages.{uses_from}
 use Rattle.dbtg_outcomes.proofs.States.SameParts.{cells_same, same_at_each, same_last, same_lists, same_records, same_users, unit_spelled}
-use Rattle.dbtg_outcomes.proofs.States.ShownParts.{keys_said}
 use Rattle.dbtg_explore.specs.Orders.{IsMeeting, Meeting, history_of}
 use Rattle.dbtg_explore.specs.States.{Essence, comes_of_each, essence, essence_of, sequential_after, state_after, state_of}
 use Rattle.dbtg_explore.specs.Versions.{at_first, unversioned, unversioned_database, unversioned_unit}
 use Rattle.dbtg_explore.specs.Inside.Keys.{due_numbers}
-use Rattle.dbtg_explore.specs.Inside.Parts.{IsNumberOf, cell_part, parts_of, unit_part}
-use Rattle.dbtg_explore.proofs.Alike.{comes_at}
+use Rattle.dbtg_explore.specs.Inside.Parts.{IsNumberOf, cell_part, kept_count, parts_of, unit_part}
+use Rattle.dbtg_explore.proofs.Alike.{comes_at, due_is}
 use Rattle.dbtg_explore.proofs.Keyed.{due_apart, legal, said_comes, units_count}
+use Rattle.dbtg_explore.proofs.Versions.Facts.{owner_is, sort_key_is}
 use Rattle.dbtg_explore.proofs.Versions.Images.{legal_first}
+use Rattle.dbtg_explore.proofs.Versions.Stored.{first_items, first_lives}
 
 -- WHAT CELLS SHOW WITHOUT VERSIONS
 
-module _ (schema : Lists) (capacity : ℕ) (db : Database) where
-  record_first : (r : Option Record) (t n : ℕ) → option_map (record_of false) (option_map (slot_of schema capacity db (key_at db t n)) r) ≡ option_map at_first r
-  record_first None t n = refl
-  record_first (Some r) t n = refl
+calc_first : (schema : Lists) (t : ℕ) (o : Option Record) → option_map (λ (r : Record). calc_items schema t r.items) o ≡ option_map (λ (r : Record). calc_items schema t r.items) (option_map at_first o)
+calc_first schema t None = refl
+calc_first schema t (Some r) = refl
 
-  pub shown_first : (units : ℕ) (c : CellName) → shown_numbers false units (last_at db c) (cell schema capacity db c) ≡ cell_numbers units (unversioned_database db) c
+module _ (schema : Lists) (capacity : ℕ) (db : Database) where
+  abbrev first : Database
+  first = unversioned_database db
+
+  live : (k : DbKey) → is_live db k ≡ is_some (first.records k)
+  live k = first_lives (db.records k)
+
+  items : (k : DbKey) → items_of db k ≡ unwrap_or (option_map (λ (r : Record). r.items) (first.records k)) []
+  items k = first_items (db.records k)
+
+  stored_first : (k : DbKey) (o : Option Record) → flat_map (record_numbers false) (option_to_list (option_map (slot_of schema capacity db k) o)) ≡ flat_map (record_numbers true) (option_to_list (option_map (slot_of schema capacity first k) (option_map at_first o)))
+  stored_first k None = refl
+  stored_first k (Some r) = λ i. (k.generation ∷ 1 ∷ list_numbers value_numbers r.items ++ flat_map (option_numbers owner_numbers) (map (λ s. owner_is schema capacity db first.records live items s k i) (set_numbers schema))) ++ []
+
+  ring_first : (s : ℕ) (o : Owner) (list : Option (List DbKey)) → option_map (ring_of schema db s o) list ≡ option_map (ring_of schema first s o) list
+  ring_first s o None = refl
+  ring_first s o (Some ks) = λ i. Some (record { owner = o; members = map {B = DbKey × Option Value} (λ k. (k, sort_key_is schema capacity db first.records live items s k i)) ks })
+
+  -- without versions a cell says what it says of the database without versions
+  pub shown_first : (units : ℕ) (c : CellName) → shown_numbers false units (cell schema capacity db c) ≡ shown_numbers true units (cell schema capacity first c)
   unfolding cell
   shown_first units (Usage a) = refl
-  shown_first units (Extent t) = refl
-  shown_first units (Ring s o) = keys_said schema capacity db s (owner_at db o)
-  shown_first units (Slot t n) = ap (number_numbers (db.last t n)) (record_first (db.records (key_at db t n)) t n)
+  shown_first units (Extent t) = λ i. flat_map number_numbers (up_to_used (map {B = Number} (λ n. record { last = db.last t n; calc = calc_first schema t (db.records (key_at db t n)) i }) (range_with_len 1 capacity)))
+  shown_first units (Ring s o) = ap (λ (r : Option Occurrence). flat_map occurrence_numbers (option_to_list r)) (ring_first s (owner_at db o) (db.lists s (owner_at db o)))
+  shown_first units (Slot t n) = stored_first (key_at db t n) (db.records (key_at db t n))
 
 -- THE SAME PARTS
 
-some_at : {X : Type 0} (xs : List X) (v : ℕ) → 0 < v → v ≤ length xs → is_some (unit_at xs v) ≡ true
+pub some_at : {X : Type 0} (xs : List X) (v : ℕ) → 0 < v → v ≤ length xs → is_some (unit_at xs v) ≡ true
 unfolding unit_at
 some_at xs zero none within = absurd (omega (arith, none))
 some_at xs (suc i) low within = ap is_some (there_is xs i (omega (arith, within))).1
 
 module _ (m : Meeting) where
+  -- WHAT A UNIT'S PART SAYS
+
+  -- by what is due in its program, and by the unit without versions
+  abbrev pub said_of : Option Due → Option Unit → List ℕ
+  said_of d unit =
+      kept_count unit
+      ∷ (if is_some (option_and_then (statement_due m.schema) d) then 1 else 0)
+      ∷ flat_map due_numbers (option_to_list d)
+      ++ flat_map unit_numbers (option_to_list unit)
+
+  pub part_said : (h : List Entry) (u : ℕ) → unit_part m h u ≡ said_of (unit_at (state_after m h).programs u) (unit_at (unversioned (sequential_after m h)).units u)
+  part_said h u =
+      ap (λ (s : Option Statement). kept_count (unit_at (unversioned (sequential_after m h)).units u) ∷ (if is_some s then 1 else 0) ∷ flat_map due_numbers (option_to_list (unit_at (state_after m h).programs u)) ++ flat_map unit_numbers (option_to_list (unit_at (unversioned (sequential_after m h)).units u)))
+      (due_is m h u)
+
+  abbrev behind_two : List ℕ → List ℕ
+  behind_two [] = []
+  behind_two (a ∷ []) = []
+  behind_two (a ∷ b ∷ rest) = rest
+
+  dues_spelled : (x y : Due) (a b : List ℕ) → flat_map due_numbers (option_to_list (Some x)) ++ a ≡ flat_map due_numbers (option_to_list (Some y)) ++ b → due_numbers x ++ a ≡ due_numbers y ++ b
+  dues_spelled x y a b e = sym (ap (λ l. l ++ a) (append-nil (due_numbers x))) ∙ e ∙ ap (λ l. l ++ b) (append-nil (due_numbers y))
+
+  -- it tells how the program stands, and the unit without versions
+  pub part_tells : (h g : List Entry) (u : ℕ) (program : Program) → unit_at m.programs u ≡ Some program → is_some (unit_at (unversioned (sequential_after m h)).units u) ≡ true → is_some (unit_at (unversioned (sequential_after m g)).units u) ≡ true → unit_part m h u ≡ unit_part m g u
+      → (comes m.schema program u h ≡ comes m.schema program u g) × (unit_at (unversioned (sequential_after m h)).units u ≡ unit_at (unversioned (sequential_after m g)).units u)
+  part_tells h g u program found here there same =
+      let x = comes m.schema program u h in
+      let y = comes m.schema program u g in
+      let rest_of : List Entry → List ℕ = λ es. flat_map unit_numbers (option_to_list (unit_at (unversioned (sequential_after m es)).units u)) in
+      let stands : (es : List Entry) → unit_at (state_after m es).programs u ≡ Some (comes m.schema program u es) = λ es. comes_at m es u ∙ ap (option_map (λ (q : Program). comes m.schema q u es)) found in
+      let spelled : flat_map due_numbers (option_to_list (Some x)) ++ rest_of h ≡ flat_map due_numbers (option_to_list (Some y)) ++ rest_of g
+      = sym (ap (λ d. flat_map due_numbers (option_to_list d) ++ rest_of h) (stands h)) ∙ ap behind_two same ∙ ap (λ d. flat_map due_numbers (option_to_list d) ++ rest_of g) (stands g) in
+      let both = due_apart m.schema program x y (rest_of h) (rest_of g) (said_comes m program u h) (said_comes m program u g) (dues_spelled x y (rest_of h) (rest_of g) spelled) in
+      let units = unit_spelled _ _ [] [] here there (ap (λ l. l ++ []) both.1) in
+      (both.0, units.0)
+
   -- the parts of two states are the same
   record HaveSameParts (h g : List Entry) : Type 0 where
     units : (u : ℕ) → 0 < u → u ≤ length m.programs → unit_part m h u ≡ unit_part m g u
@@ -63,14 +126,11 @@ module _ (m : Meeting) where
   -- so they are if the essence is
   parts_same : (h g : List Entry) → essence (state_after m h) ≡ essence (state_after m g) → HaveSameParts h g
   parts_same h g e = record {
-    units = λ u low high. λ i. flat_map due_numbers (option_to_list (unit_at (e i).programs u)) ++ flat_map unit_numbers (option_to_list (unit_at (e i).sequential.units u));
-    cells = λ c there. cells_same (length m.programs) (unversioned (sequential_after m h)) (unversioned (sequential_after m g)) (ap (λ (s : Essence). s.sequential) e) c;
+    units = λ u low high. part_said h u ∙ (λ i. said_of (unit_at (e i).programs u) (unit_at (e i).sequential.units u)) ∙ sym (part_said g u);
+    cells = λ c there. cells_same m.schema m.capacity (length m.programs) (unversioned (sequential_after m h)) (unversioned (sequential_after m g)) (ap (λ (s : Essence). s.sequential) e) c;
   }
 
   -- and only then
-  dues_spelled : (x y : Due) (a b : List ℕ) → flat_map due_numbers (option_to_list (Some x)) ++ a ≡ flat_map due_numbers (option_to_list (Some y)) ++ b → due_numbers x ++ a ≡ due_numbers y ++ b
-  dues_spelled x y a b e = sym (ap (λ l. l ++ a) (append-nil (due_numbers x))) ∙ e ∙ ap (λ l. l ++ b) (append-nil (due_numbers y))
-
   module _ (meets : IsMeeting m) (o p : List ℕ) (same : HaveSameParts (history_of m o) (history_of m p)) where
     abbrev h : List Entry
     h = history_of m o
@@ -81,16 +141,9 @@ module _ (m : Meeting) where
     each_unit : (u : ℕ) → 0 < u → u ≤ length m.programs → (program : Program) → unit_at m.programs u ≡ Some program
         → (unit_at (state_after m h).programs u ≡ unit_at (state_after m g).programs u) × (unit_at (unversioned (sequential_after m h)).units u ≡ unit_at (unversioned (sequential_after m g)).units u)
     each_unit u low high program found =
-        let x = comes m.schema program u h in
-        let y = comes m.schema program u g in
-        let here : unit_at (state_after m h).programs u ≡ Some x = comes_at m h u ∙ ap (option_map (λ (q : Program). comes m.schema q u h)) found in
-        let there : unit_at (state_after m g).programs u ≡ Some y = comes_at m g u ∙ ap (option_map (λ (q : Program). comes m.schema q u g)) found in
-        let rest_of : List Entry → List ℕ = λ es. flat_map unit_numbers (option_to_list (unit_at (unversioned (sequential_after m es)).units u)) in
-        let spelled : flat_map due_numbers (option_to_list (Some x)) ++ rest_of h ≡ flat_map due_numbers (option_to_list (Some y)) ++ rest_of g
-        = sym (ap (λ d. flat_map due_numbers (option_to_list d) ++ rest_of h) here) ∙ same.units u low high ∙ ap (λ d. flat_map due_numbers (option_to_list d) ++ rest_of g) there in
-        let both = due_apart m.schema program x y (rest_of h) (rest_of g) (said_comes m program u h) (said_comes m program u g) (dues_spelled x y (rest_of h) (rest_of g) spelled) in
-        let units = unit_spelled _ _ [] [] (unit_there (history_of m o) u low (high_at o high)) (unit_there (history_of m p) u low (high_at p high)) (ap (λ l. l ++ []) both.1) in
-        (here ∙ ap Some both.0 ∙ sym there, units.0) where
+        let stands : (es : List Entry) → unit_at (state_after m es).programs u ≡ Some (comes m.schema program u es) = λ es. comes_at m es u ∙ ap (option_map (λ (q : Program). comes m.schema q u es)) found in
+        let both = part_tells h g u program found (unit_there (history_of m o) u low (high_at o high)) (unit_there (history_of m p) u low (high_at p high)) (same.units u low high) in
+        (stands h ∙ ap Some both.0 ∙ sym (stands g), both.1) where
           high_at : (q : List ℕ) → u ≤ length m.programs → u ≤ length (unversioned (sequential_after m (history_of m q))).units
           high_at q within =
               let counted = units_count m q in

@@ -1,7 +1,7 @@
 -- Where a meeting is, and where a turn leads from there.
 -- m is a meeting, u a unit, x a statement.
-use Rattle.std.proofs.Common.{◌≡◌, ℕ, zero, suc, ◌+◌, ◌-◌, ◌<◌, ◌≤◌, Bool, true, false, ◌&&◌, List, [], ◌∷◌, ◌++◌, length, map, Option, Some, None, inr, refl, ap, subst, sym, ◌∙◌, slice_get, arith}
-use Rattle.std.specs.Prelude.{flat_map, is_some, not, option_and_then, option_map, option_to_list, nat_lt, slice_index_or, ◌||◌}
+use Rattle.std.proofs.Common.{append_assoc, ◌≡◌, ℕ, zero, suc, ◌+◌, ◌-◌, ◌<◌, ◌≤◌, Bool, true, false, ◌&&◌, List, [], ◌∷◌, ◌++◌, length, map, Option, Some, None, inr, refl, ap, subst, sym, ◌∙◌, slice_get, arith}
+use Rattle.std.specs.Prelude.{flat_map, if◌then◌else◌, is_some, not, option_and_then, option_map, option_to_list, nat_lt, slice_index_or, ◌||◌}
 use Rattle.std.specs.List.{list_all, list_any, range_with_len}
 use Rattle.std.proofs.lemmas.Bool.Decides.{nat_tests}
 use Rattle.dbtg_schema.specs.Lists.{Lists}
@@ -29,16 +29,16 @@ use Rattle.dbtg_going.specs.Texts.{programs_text}
 use Rattle.dbtg_script.specs.Printing.Texts.{run_text}
 use Rattle.dbtg_outcomes.specs.Results.{by_unit}
 use Rattle.dbtg_outcomes.specs.Spelling.{unit_numbers}
-use Rattle.dbtg_explore.specs.Orders.{IsMeeting, Meeting, after_turn, can_turn, due_of, waits}
+use Rattle.dbtg_explore.specs.Orders.{IsMeeting, Meeting, after_turn, can_go_on, can_turn, due_of, waits}
 use Rattle.dbtg_explore.specs.Results.{reached_of, state_text}
 use Rattle.dbtg_explore.specs.States.{comes_of_each, sequential_after, state_after, without_versions}
 use Rattle.dbtg_explore.specs.Inside.Keys.{due_numbers}
-use Rattle.dbtg_explore.specs.Inside.Parts.{unit_part}
+use Rattle.dbtg_explore.specs.Inside.Parts.{kept_count, unit_part}
 use Rattle.dbtg_explore.specs.Inside.Versions.{is_in_order}
 use Rattle.dbtg_explore.specs.Versions.{unversioned, unversioned_unit}
 use Rattle.dbtg_explore.proofs.Keyed.{legal_after}
 use Rattle.dbtg_explore.proofs.Versions.Images.{image_first, kept_in_order}
-use Rattle.dbtg_explore.specs.Inside.Walks.{AreStanding, HasTurned, failure_by, failure_in}
+use Rattle.dbtg_explore.specs.Inside.Walks.{AreStanding, HasTurned}
 use Rattle.dbtg_explore.proofs.Alike.{due_is}
 
 -- WHAT IS DUE
@@ -117,6 +117,11 @@ module _ (m : Meeting) (database : Making) (goings : List Going) (w : AreStandin
 
 -- if a unit can have its turn, a statement is due
 module _ (m : Meeting) where
+  pub turn_numbered : (history : List Entry) (u : ℕ) → can_turn m history u ≡ true → 0 < u
+  unfolding unit_at
+  turn_numbered history zero can = absurd (cc (can))
+  turn_numbered history (suc i) can = omega arith
+
   pub turn_due : (history : List Entry) (u : ℕ) → can_turn m history u ≡ true → None ≡ due_of m history u → ⊥
   turn_due history u c e = by (due_of m history u) e c where
     by : (o : Option Statement) → None ≡ o → (is_some o && not (waits m history u)) ≡ true → ⊥
@@ -160,9 +165,6 @@ module _ (m : Meeting) (history : List Entry) where
 
   pub due_one : (goings : List Going) (u : ℕ) (o : Option Going) → AreGoing m.schema m.programs history goings → unit_at goings u ≡ o → option_and_then (λ g. statement_due m.schema (comes_of g)) o ≡ due_of m history u
   due_one goings u o are is = ap (option_and_then (λ g. statement_due m.schema (comes_of g))) (sym is) ∙ sym (by_goings goings (statement_due m.schema) u are) ∙ sym (due_is m history u)
-
-  pub failure_one : (goings : List Going) (u : ℕ) (o : Option Going) → AreGoing m.schema m.programs history goings → unit_at goings u ≡ o → option_and_then (λ g. failure_by (comes_of g)) o ≡ failure_in (state_after m history) u
-  failure_one goings u o are is = ap (option_and_then (λ g. failure_by (comes_of g))) (sym is) ∙ sym (by_goings goings failure_by u are)
 
 -- BY INDEX
 
@@ -217,11 +219,20 @@ module _ (m : Meeting) (database : Making) (goings : List Going) (w : AreStandin
   pub unversioned_there : (units : List Unit) → units ≡ (state_now database).units → map (unversioned_unit (state_now database).database) units ≡ (unversioned (sequential_after m database.history)).units
   unversioned_there units are = ap (map (unversioned_unit (state_now database).database)) are ∙ ap (λ (d : Making). (unversioned (state_now d)).units) w.database_is
 
+  -- two numbers, and what comes after them, one after another
+  pub one_by_one : (a : List ℕ) (k f : ℕ) (p o : List ℕ) → (((a ++ k ∷ []) ++ f ∷ []) ++ p) ++ o ≡ a ++ (k ∷ f ∷ (p ++ o))
+  one_by_one a k f p o = append_assoc ((a ++ k ∷ []) ++ f ∷ []) p o ∙ append_assoc (a ++ k ∷ []) (f ∷ []) (p ++ o) ∙ append_assoc a (k ∷ []) (f ∷ (p ++ o))
+
   -- what the part of a unit says, by its program and its unit
-  pub part_there : (u : ℕ) → flat_map (λ g. due_numbers (comes_of g)) (option_to_list (unit_at goings u)) ++ flat_map unit_numbers (option_to_list (unit_at (unversioned (state_now database)).units u)) ≡ unit_part m database.history u
+  pub part_there : (u : ℕ)
+      → kept_count (unit_at (unversioned (state_now database)).units u)
+      ∷ (if can_go_on m database.history u then 1 else 0)
+      ∷ flat_map (λ g. due_numbers (comes_of g)) (option_to_list (unit_at goings u))
+      ++ flat_map unit_numbers (option_to_list (unit_at (unversioned (state_now database)).units u)) ≡ unit_part m database.history u
   part_there u =
+      let kept = ap (λ (d : Making). kept_count (unit_at (unversioned (state_now d)).units u)) w.database_is in
       let units = ap (λ (d : Making). flat_map unit_numbers (option_to_list (unit_at (unversioned (state_now d)).units u))) w.database_is in
-      λ i. programs i ++ units i where
+      λ i. kept i ∷ (if can_go_on m database.history u then 1 else 0) ∷ programs i ++ units i where
         spelled : (o : Option Going) → flat_map (λ g. due_numbers (comes_of g)) (option_to_list o) ≡ flat_map due_numbers (option_to_list (option_map comes_of o))
         spelled None = refl
         spelled (Some g) = refl

@@ -12,6 +12,7 @@ use Rattle.dbtg_explore.specs.Inside.Found.{FoundOrders, IsEntered, IsPut}
 use Rattle.dbtg_explore.specs.Inside.Search.{IsUnderWay}
 use Rattle.dbtg_explore.specs.Inside.Parts.{AreNumbered, IsNumberOf}
 use Rattle.dbtg_explore.specs.Inside.Steps.{Goes, IsAt, can_follow}
+use Rattle.dbtg_explore.specs.Inside.Transitions.{AreSeen}
 use Rattle.dbtg_explore.specs.Orders.{IsMeeting, IsOrder, Meeting, beginning, can_turn, history_of}
 use Rattle.dbtg_explore.specs.States.{HasMoreStates, essence_of}
 use Rattle.dbtg_explore.proofs.Alike.{can_turn_alike, same_after}
@@ -79,12 +80,13 @@ module _ (m : Meeting) where
     begins : found.orders ≡ [] ∷ []
     begins = ap (λ (f : FoundOrders ℕ). f.orders) is
 
-    pub at_first : (s : given.Search) → s.found ≡ found → IsNumberOf m s.numbers (history_of m []) n → length found.orders ≤ s.limit → IsAt m 0 0 s
-    at_first s found_is number few =
+    pub at_first : (s : given.Search) → s.found ≡ found → IsNumberOf m s.numbers (history_of m []) n → AreSeen m s.numbers.contents s.seen → length found.orders ≤ s.limit → IsAt m 0 0 s
+    at_first s found_is number seen few =
         let orders : s.found.orders ≡ [] ∷ [] = ap (λ (f : FoundOrders ℕ). f.orders) found_is ∙ begins in
         record {
           under_way = subst (λ os. Under os 0 0) (sym orders) (at_beginning (IsOrder m) (can_follow m) (essence_of m) goes_on);
           known = subst (λ (f : FoundOrders ℕ). AreNumbered m s.numbers f.keys f.orders) (sym (found_is ∙ is)) (number, tt);
+          seen = seen;
           few = let long = ap (λ (f : FoundOrders ℕ). length f.orders) found_is in omega arith;
         }
 
@@ -149,12 +151,12 @@ module _ (m : Meeting) where
             ]
 
         -- the search goes on
-        pub goes_further : (new : given.Search) → new.found ≡ found → new.numbers ≡ kept → new.limit ≡ old.limit → length found.orders ≤ old.limit → Goes m i (u + 1) old new
-        goes_further new found_is numbers_is limit_is few =
+        pub goes_further : (new : given.Search) → new.found ≡ found → new.numbers ≡ kept → AreSeen m new.numbers.contents new.seen → new.limit ≡ old.limit → length found.orders ≤ old.limit → Goes m i (u + 1) old new
+        goes_further new found_is numbers_is seen limit_is few =
             let t = subst (λ (f : FoundOrders ℕ). Turned old.found f i (u + 1)) (sym found_is) has_turned in
             let long = ap (λ (f : FoundOrders ℕ). length f.orders) found_is in
             let numbered = subst (λ k. AreNumbered m k new.found.keys new.found.orders) (sym numbers_is) (subst (λ (f : FoundOrders ℕ). AreNumbered m kept f.keys f.orders) (sym found_is) still_numbered) in
-            record { at = record { under_way = t.way; known = numbered; few = omega arith }; more = t.more; kept = t.kept; limit_is = limit_is }
+            record { at = record { under_way = t.way; known = numbered; seen = seen; few = omega arith }; more = t.more; kept = t.kept; limit_is = limit_is }
 
         -- or there are more states than the limit
         pub goes_over : old.limit < length found.orders → HasMoreStates m old.limit
@@ -166,7 +168,7 @@ module _ (m : Meeting) where
 
   pub stays : (s : given.Search) (i u : ℕ) (in_range : i < length s.found.orders) (at : IsAt m i u s) → can_follow m (get_or s.found.orders i []) u ≡ false → Goes m i (u + 1) s s
   stays s i u in_range at cannot = record {
-    at = record { under_way = no_turn (IsOrder m) (can_follow m) (essence_of m) goes_on s.found.orders i u in_range at.under_way cannot; known = at.known; few = at.few };
+    at = record { under_way = no_turn (IsOrder m) (can_follow m) (essence_of m) goes_on s.found.orders i u in_range at.under_way cannot; known = at.known; seen = at.seen; few = at.few };
     more = [];
     kept = sym (append-nil s.found.orders);
     limit_is = refl;
@@ -192,6 +194,7 @@ module _ (m : Meeting) where
     at = record {
       under_way = next_place (IsOrder m) (can_follow m) (essence_of m) goes_on b.found.orders i (length m.programs + 1) (kept_range i i (length m.programs + 1) a b g low) g.at.under_way (λ v le. cannot_beyond (get_or b.found.orders i []) v (omega arith));
       known = g.at.known;
+      seen = g.at.seen;
       few = g.at.few;
     };
     more = g.more;

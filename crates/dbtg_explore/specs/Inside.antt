@@ -5,10 +5,13 @@ pub mod Failures
 pub mod Found
 pub mod Keys
 pub mod Links
+pub mod Next
 pub mod Parts
 pub mod Rounds
 pub mod Search
+pub mod Standing
 pub mod Steps
+pub mod Transitions
 pub mod Versions
 pub mod Visits
 pub mod Walks

@@ -1,13 +1,16 @@
 //! A way that programs can go round for ever. A guess at one counts only if going round it once has come back.
 
 ghost use Rattle.dbtg_explore.specs.Explored.{IsEndless};
-ghost use Rattle.dbtg_explore.specs.Inside.Walks.{IsPlace, Stands, StandsAt, order_of};
+ghost use Rattle.dbtg_explore.specs.Inside.Standing.{turns_in};
+ghost use Rattle.dbtg_explore.specs.Inside.Walks.{Stands, StandsAt, order_of};
 ghost use Rattle.dbtg_explore.specs.Inside.Parts.{IsNumberOf};
 ghost use Rattle.dbtg_explore.specs.Inside.Rounds.{ComesBack, HasEach};
 ghost use Rattle.dbtg_explore.specs.Inside.Steps.{IsAt};
-ghost use Rattle.dbtg_explore.specs.Orders.{IsMeeting, IsOrder, can_turn, history_of};
+ghost use Rattle.dbtg_explore.specs.Orders.{IsMeeting, IsOrder, history_of};
+ghost use Rattle.dbtg_interned.specs.Arrays.{IsArray};
+ghost use Rattle.dbtg_unit.specs.declared.unit.Entry.{Entry};
 ghost use Rattle.dbtg_outcomes.specs.Numbers.{Grow};
-ghost use Rattle.std.specs.Prelude.{◌≡◌, ◌++◌, true, length, Contains, IfOk, IfSome};
+ghost use Rattle.std.specs.Prelude.{◌≡◌, ◌++◌, true, List, length, Contains, IfOk, IfSome};
 
 use crate::explored::Endless;
 use crate::graph::guess_round;
@@ -18,12 +21,13 @@ use dbtg_outcomes::Numbers;
 use dbtg_schema::Row;
 use std::alloc::{AllocError, Global};
 
-// Does the unit have a turn in the round, if it can have one here?
-fn has_one(meeting: &Meeting, here: &Walk, round: &[u8], unit: u8) -> bool
-    requires here { IsPlace meeting.now here.now }
-    ensures { result ≡ true → can_turn meeting.now here.now.database.making.history unit ≡ true → Contains round.now unit }
+// Does the unit have a turn in the round, if it can have one in the state of this number?
+fn has_one(meeting: &Meeting, numbers: &Numbers, state: u32, round: &[u8], unit: u8) -> bool
+    requires meeting { IsMeeting meeting.now }
+    requires array { IsArray numbers.now.arrays state }
+    ensures { result ≡ true → turns_in meeting.now numbers.now state unit ≡ true → Contains round.now unit }
 {
-    if meeting.can_turn(here, unit) {
+    if meeting.can_turn(numbers, state, unit) {
         round.contains(&unit)
     } else {
         true
@@ -31,13 +35,13 @@ fn has_one(meeting: &Meeting, here: &Walk, round: &[u8], unit: u8) -> bool
 }
 
 // Does each unit?
-fn has_each(meeting: &Meeting, here: &Walk, round: &[u8]) -> bool
+fn has_each(meeting: &Meeting, numbers: &Numbers, state: u32, round: &[u8]) -> bool
     requires meeting { IsMeeting meeting.now }
-    requires here { IsPlace meeting.now here.now }
-    ensures { result ≡ true → HasEach meeting.now here.now.database.making.history round.now }
+    requires state { (history : List Entry) × IsNumberOf meeting.now numbers.now history state }
+    ensures { result ≡ true → (history : List Entry) → IsNumberOf meeting.now numbers.now history state → HasEach meeting.now history round.now }
 {
     for before in 0..meeting.units() {
-        if !has_one(meeting, here, round, before + 1) {
+        if !has_one(meeting, numbers, state, round, before + 1) {
             return false;
         }
     }
@@ -63,7 +67,7 @@ impl<'a> Meeting<'a> {
     {
         let mut number = before;
         for unit in turns {
-            if !self.can_turn(walk, *unit) {
+            if !self.can_turn(numbers, number, *unit) {
                 return Ok(None);
             }
             number = self.number_after(alloc, walk, *unit, numbers, number)?;
@@ -105,7 +109,7 @@ impl<'a> Meeting<'a> {
         requires before { IsNumberOf self.now numbers.old walk.old.database.making.history before }
         ensures { IfOk result (λ endless. endless ≡ true → IsEndless self.now (record { turns = order_of walk.old.turns.items; round = round.now })) }
     {
-        if round.is_empty() || !has_each(self, walk, round) {
+        if round.is_empty() || !has_each(self, numbers, before, round) {
             return Ok(false);
         }
         self.comes_back(alloc, walk, round, numbers, before)

@@ -1,18 +1,23 @@
 //! What is noted of the states that a search finds: the results, told apart by their texts, and the failures.
 
-ghost use Rattle.dbtg_explore.specs.Inside.Ends.{AreEndsOf, FailsAt, FailsIn, Notes, NotesResult};
+ghost use Rattle.dbtg_explore.specs.Inside.Ends.{AreEndsOf, FailsIn, FailsSo, NotesResult};
 ghost use Rattle.dbtg_explore.specs.Inside.Failures.{Take};
-ghost use Rattle.dbtg_explore.specs.Inside.Walks.{IsPlace, StandsAt};
-ghost use Rattle.dbtg_explore.specs.Orders.{IsMeeting, Meeting as MeetingOfPrograms};
+ghost use Rattle.dbtg_explore.specs.Inside.Parts.{IsNumberOf};
+ghost use Rattle.dbtg_explore.specs.Inside.Standing.{fails_in};
+ghost use Rattle.dbtg_explore.specs.Inside.Walks.{StandsAt};
+ghost use Rattle.dbtg_explore.specs.Orders.{IsMeeting, Meeting as MeetingOfPrograms, can_go_on, history_of};
 ghost use Rattle.dbtg_explore.specs.States.{state_after};
-ghost use Rattle.std.specs.Prelude.{◌≡◌, [], OnOk};
+ghost use Rattle.dbtg_interned.specs.Arrays.{IsArray};
+ghost use Rattle.dbtg_unit.specs.declared.unit.Entry.{Entry};
+ghost use Rattle.std.specs.Prelude.{◌≡◌, ◌<◌, ℕ, List, [], false, OnOk};
 
 use crate::explored::Failure;
 use crate::failures::enter_failure;
 use crate::found::Found;
 use crate::meeting::Meeting;
+use crate::standing::failure;
 use crate::walk::Walk;
-use dbtg_outcomes::as_numbers;
+use dbtg_outcomes::{Numbers, as_numbers};
 use dbtg_schema::Row;
 use std::alloc::{AllocError, Global};
 
@@ -23,56 +28,37 @@ pub struct Ends {
     pub failures: Vec<Failure>,
 }
 
-// The failure of the unit's program there, if it has failed.
+// The failure of the unit's program in a state, if it has failed.
 fn note_failure(
-    meeting: &Meeting,
     failures: &mut Vec<Failure>,
-    here: &Walk,
+    numbers: &Numbers,
+    state: u32,
     unit: u8,
 ) -> Result<(), AllocError>
-    requires here { IsPlace meeting.now here.now }
-    ensures { OnOk result (Take (FailsAt meeting.now here.now.database.making.history unit) failures.old.items failures.new.items) }
+    requires array { IsArray numbers.now.arrays state }
+    requires numbered { 0 < unit }
+    ensures { OnOk result (Take (FailsSo (fails_in numbers.now state unit) unit) failures.old.items failures.new.items) }
 {
-    match meeting.failure(here, unit) {
+    match failure(numbers, state, unit) {
         Some(how) => enter_failure(failures, Failure { unit, how }),
         None => Ok(()),
     }
 }
 
-// The failures of all programs there.
+// The failures of all programs in a state.
 fn note_each_failure(
     meeting: &Meeting,
     failures: &mut Vec<Failure>,
-    here: &Walk,
+    numbers: &Numbers,
+    state: u32,
 ) -> Result<(), AllocError>
     requires meeting { IsMeeting meeting.now }
-    requires here { IsPlace meeting.now here.now }
-    ensures { OnOk result (Take (FailsIn (state_after meeting.now here.now.database.making.history)) failures.old.items failures.new.items) }
+    requires state { (history : List Entry) × IsNumberOf meeting.now numbers.now history state }
+    ensures { OnOk result ((history : List Entry) → IsNumberOf meeting.now numbers.now history state → Take (FailsIn (state_after meeting.now history)) failures.old.items failures.new.items) }
 {
     for before in 0..meeting.units() {
-        note_failure(meeting, failures, here, before + 1)?;
+        note_failure(failures, numbers, state, before + 1)?;
     }
-    Ok(())
-}
-
-// The order that leads there, if no program can go on.
-fn note_result(
-    alloc: Global,
-    meeting: &Meeting,
-    results: &mut Found,
-    order: &[u8],
-    here: &Walk,
-) -> Result<(), AllocError>
-    requires meeting { IsMeeting meeting.now }
-    requires here { StandsAt meeting.now order.now here.now }
-    ensures { OnOk result (NotesResult meeting.now order.now results.old results.new) }
-{
-    if !meeting.is_at_end(here) {
-        return Ok(());
-    }
-    let text = meeting.text(alloc, here)?;
-    let key = as_numbers(alloc, text.as_slice())?;
-    results.enter(key, Row::of(Vec::from_slice(alloc, order)?))?;
     Ok(())
 }
 
@@ -87,8 +73,23 @@ impl Ends {
         }
     }
 
-    /// Notes the state to which an order leads.
-    pub fn note(
+    /// Notes how programs have failed in the state of this array.
+    pub fn note_failures(
+        &mut self,
+        meeting: &Meeting,
+        numbers: &Numbers,
+        state: u32,
+    ) -> Result<(), AllocError>
+        requires meeting { IsMeeting meeting.now }
+        requires state { (history : List Entry) × IsNumberOf meeting.now numbers.now history state }
+        ensures failures { OnOk result ((history : List Entry) → IsNumberOf meeting.now numbers.now history state → Take (FailsIn (state_after meeting.now history)) self.old.failures.items self.new.failures.items) }
+        ensures results { OnOk result (self.new.results ≡ self.old.results) }
+    {
+        note_each_failure(meeting, &mut self.failures, numbers, state)
+    }
+
+    /// Notes the order that leads there, where no program can go on.
+    pub fn note_result(
         &mut self,
         alloc: Global,
         meeting: &Meeting,
@@ -97,9 +98,14 @@ impl Ends {
     ) -> Result<(), AllocError>
         requires meeting { IsMeeting meeting.now }
         requires here { StandsAt meeting.now order.now here.now }
-        ensures { OnOk result (Notes meeting.now order.now self.old self.new) }
+        requires end { (u : ℕ) → can_go_on meeting.now (history_of meeting.now order.now) u ≡ false }
+        ensures result { OnOk result (NotesResult meeting.now order.now self.old.results self.new.results) }
+        ensures failures { OnOk result (self.new.failures.items ≡ self.old.failures.items) }
     {
-        note_each_failure(meeting, &mut self.failures, here)?;
-        note_result(alloc, meeting, &mut self.results, order, here)
+        let text = meeting.text(alloc, here)?;
+        let key = as_numbers(alloc, text.as_slice())?;
+        self.results
+            .enter(key, Row::of(Vec::from_slice(alloc, order)?))?;
+        Ok(())
     }
 }

@@ -1,12 +1,13 @@
 //! Everything that programs can come to when they meet.
 
 ghost use Rattle.dbtg_explore.specs.Explored.{IsExplored};
+ghost use Rattle.dbtg_explore.specs.Inside.Ends.{Notes};
 ghost use Rattle.dbtg_explore.specs.Inside.Visits.{HasVisited, IsThrough, IsVisited};
 ghost use Rattle.dbtg_explore.specs.Inside.Walks.{Stands, StandsAt};
 ghost use Rattle.dbtg_explore.specs.Orders.{IsMeeting};
 ghost use Rattle.dbtg_explore.specs.States.{HasMoreStates};
 ghost use Rattle.dbtg_outcomes.specs.declared.search.Stop.TheVariants.{States};
-ghost use Rattle.std.specs.Prelude.{◌≡◌, ◌≤◌, ◌<◌, [], length, IfErr, IfOk, OnOk};
+ghost use Rattle.std.specs.Prelude.{◌≡◌, ◌≤◌, ◌<◌, [], length, slice_index_or, IfErr, IfOk, OnOk};
 
 use crate::endless::endless_in;
 use crate::ends::Ends;
@@ -16,7 +17,7 @@ use crate::walk::Walk;
 use dbtg_outcomes::{Stop, Watch};
 use dbtg_program::End;
 use dbtg_schema::Row;
-use std::alloc::Global;
+use std::alloc::{AllocError, Global};
 
 /// A unit whose program fails, and how.
 #[derive(Clone, Copy, Debug, PartialEq, Eq)]
@@ -42,6 +43,32 @@ pub struct Explored {
 }
 
 impl Search {
+    // Notes the failures of the state at this place; and its result, if no program can go on there.
+    fn note<'a>(
+        &self,
+        alloc: Global,
+        meeting: &Meeting<'a>,
+        walk: &mut Walk<'a>,
+        ends: &mut Ends,
+        place: usize,
+    ) -> Result<(), AllocError>
+        requires meeting { IsMeeting meeting.now }
+        requires stands { Stands meeting.now walk.old }
+        requires visited { IsVisited meeting.now place self.now ends.old }
+        requires within { place < length self.now.found.orders }
+        ensures stands { OnOk result (Stands meeting.now walk.new) }
+        ensures notes { OnOk result (Notes meeting.now (slice_index_or self.now.found.orders place []) ends.old ends.new) }
+    {
+        let state = self.found.number(place);
+        ends.note_failures(meeting, &self.numbers, state)?;
+        if !meeting.is_at_end(&self.numbers, state) {
+            return Ok(());
+        }
+        let order = self.found.order(alloc, place)?;
+        meeting.go_to(alloc, walk, order.as_slice())?;
+        ends.note_result(alloc, meeting, order.as_slice(), walk)
+    }
+
     // The state to which the order at this place leads: notes its ends, and finds what can be next.
     fn visit<'a>(
         &mut self,
@@ -59,9 +86,7 @@ impl Search {
         ensures visited { OnOk result (HasVisited meeting.now place self.old self.new ends.new) }
         ensures stopped { IfErr result (λ stop. stop ≡ States → HasMoreStates meeting.now self.old.limit) }
     {
-        let order = self.found.order(alloc, place)?;
-        meeting.go_to(alloc, walk, order.as_slice())?;
-        ends.note(alloc, meeting, order.as_slice(), walk)?;
+        self.note(alloc, meeting, walk, ends, place)?;
         self.go_on(alloc, meeting, place, walk)
     }
 }

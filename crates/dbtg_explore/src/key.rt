@@ -1,7 +1,7 @@
 //! What the parts of units say, in numbers: how a program stands, and its unit without versions.
 
 ghost use Rattle.dbtg_explore.specs.Inside.Keys.{due_numbers, how_numbers};
-ghost use Rattle.dbtg_explore.specs.Inside.Parts.{unit_part};
+ghost use Rattle.dbtg_explore.specs.Inside.Parts.{kept_count, unit_part};
 ghost use Rattle.dbtg_explore.specs.Inside.Versions.{is_in_order};
 ghost use Rattle.dbtg_explore.specs.Inside.Walks.{IsPlace};
 ghost use Rattle.dbtg_explore.specs.Orders.{IsMeeting};
@@ -13,7 +13,7 @@ ghost use Rattle.dbtg_step.specs.Core.Whole.{state_now};
 ghost use Rattle.dbtg_step.specs.Machine.SequentialDatabase.{unit_at};
 ghost use Rattle.dbtg_unit.specs.Database.State.Legal.{Legal};
 ghost use Rattle.dbtg_unit.specs.Database.Laws.StaysLegal.{IsLegalState};
-ghost use Rattle.std.specs.Prelude.{◌≡◌, ◌<◌, ◌++◌, ◌∷◌, [], true, flat_map, option_to_list, IfOk, OnOk};
+ghost use Rattle.std.specs.Prelude.{◌≡◌, ◌<◌, ◌++◌, ◌∷◌, [], true, if◌then◌else◌, flat_map, option_to_list, IfOk, OnOk};
 
 use crate::meeting::Meeting;
 use crate::unversioned::{unversioned_unit, unversioned_units};
@@ -96,6 +96,25 @@ fn spell_unit(
     }
 }
 
+// 1 if it is so, and 0 otherwise.
+fn number_of(is_so: bool) -> u64
+    ensures { result ≡ if is_so then 1 else 0 }
+{
+    if is_so { 1 } else { 0 }
+}
+
+// How many records the unit with this number keeps.
+fn count_kept(database: &WholeDatabase, unit: u8) -> u64
+    requires numbered { 0 < unit }
+    requires legal { IsLegalState database.now.schema database.now.capacity (state_now database.now) }
+    ensures { result ≡ kept_count (unit_at (unversioned (state_now database.now)).units unit) }
+{
+    match database.units().get(unit as usize - 1) {
+        Some(own) => own.kept.as_slice().len() as u64,
+        None => 0,
+    }
+}
+
 impl<'a> Meeting<'a> {
     /// The units of a place without versions.
     pub(crate) fn unversioned_units(
@@ -129,6 +148,8 @@ impl<'a> Meeting<'a> {
         // Its history says that the database is legal.
         let database = walk.database.database();
         let _history = database.history();
+        out.push(count_kept(database, unit))?;
+        out.push(number_of(self.can_go_on(walk, unit)))?;
         spell_program(walk.goings.as_slice(), unit, out)?;
         spell_unit(alloc, database, unit, out)
     }

@@ -1,9 +1,8 @@
-//! Programs that meet, and the turns that they can take.
+//! Programs that meet, and the statements that are due in them.
 
 ghost use Rattle.dbtg_explore.specs.Inside.Walks.{IsPlace};
-ghost use Rattle.dbtg_explore.specs.Orders.{IsMeeting, can_go_on, can_turn, due_of, waits};
-ghost use Rattle.std.specs.List.{list_any, range_with_len};
-ghost use Rattle.std.specs.Prelude.{◌≡◌, length, not, option_map};
+ghost use Rattle.dbtg_explore.specs.Orders.{IsMeeting, can_go_on, due_of};
+ghost use Rattle.std.specs.Prelude.{◌≡◌, length, option_map};
 
 use crate::walk::Walk;
 use dbtg_program::Program;
@@ -60,45 +59,5 @@ impl<'a> Meeting<'a> {
         ensures { result ≡ can_go_on self.now walk.now.database.making.history unit }
     {
         self.due(walk, unit).is_some()
-    }
-
-    // Can one of the programs of the first units go on?
-    fn can_one_go_on(&self, walk: &Walk, units: u8) -> bool
-        requires { IsPlace self.now walk.now }
-        ensures { result ≡ list_any (can_go_on self.now walk.now.database.making.history) (range_with_len 1 units) }
-    {
-        for before in 0..units {
-            if self.can_go_on(walk, before + 1) {
-                return true;
-            }
-        }
-        false
-    }
-
-    // Is it the last unit, which waits?
-    fn waits(&self, walk: &Walk, unit: u8) -> bool
-        requires { IsPlace self.now walk.now }
-        ensures { result ≡ waits self.now walk.now.database.making.history unit }
-    {
-        self.last_waits
-            && unit as usize == self.programs.len()
-            && self.can_one_go_on(walk, unit.saturating_sub(1))
-    }
-
-    /// Can the unit have its turn?
-    pub(crate) fn can_turn(&self, walk: &Walk, unit: u8) -> bool
-        requires { IsPlace self.now walk.now }
-        ensures { result ≡ can_turn self.now walk.now.database.making.history unit }
-    {
-        self.can_go_on(walk, unit) && !self.waits(walk, unit)
-    }
-
-    /// Can no program go on?
-    pub(crate) fn is_at_end(&self, walk: &Walk) -> bool
-        requires meeting { IsMeeting self.now }
-        requires place { IsPlace self.now walk.now }
-        ensures { result ≡ not (list_any (can_go_on self.now walk.now.database.making.history) (range_with_len 1 (length self.now.programs))) }
-    {
-        !self.can_one_go_on(walk, self.units())
     }
 }

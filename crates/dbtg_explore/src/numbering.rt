@@ -4,7 +4,7 @@
 ghost use Rattle.dbtg_cells.specs.CellNumbers.{cell_count, is_cell};
 ghost use Rattle.dbtg_cells.specs.declared.name.CellName.{CellName};
 ghost use Rattle.dbtg_explore.specs.Inside.Parts.{IsNumberOf, parts_of, unit_part};
-ghost use Rattle.dbtg_explore.specs.Inside.Walks.{IsPlace, Stands, StandsAt, order_of};
+ghost use Rattle.dbtg_explore.specs.Inside.Walks.{HasTurned, IsPlace, Stands, StandsAt, order_of};
 ghost use Rattle.dbtg_explore.specs.Orders.{IsMeeting, can_turn};
 ghost use Rattle.dbtg_interned.specs.Arrays.{IsArray, size};
 ghost use Rattle.dbtg_outcomes.specs.Numbers.{AreNumbers, Grow, HasPut, IsNumberBut};
@@ -29,12 +29,14 @@ impl<'a> Meeting<'a> {
     }
 
     // Cells are spelled without versions.
-    fn spelling(&self) -> Spelling
+    fn spelling(&self) -> Spelling<'a>
         requires { IsMeeting self.now }
+        ensures schema { result.schema.now ≡ self.now.schema }
         ensures units { result.units ≡ length self.now.programs }
         ensures versions { result.versions ≡ false }
     {
         Spelling {
+            schema: self.schema,
             units: self.units(),
             versions: false,
         }
@@ -100,7 +102,7 @@ impl<'a> Meeting<'a> {
     {
         let number = self.put_units(alloc, numbers, walk, array)?;
         let database = walk.database.database();
-        numbers.put_cells(alloc, self.spelling(), database, number, names)
+        numbers.put_cells(alloc, &self.spelling(), database, number, names)
     }
 
     /// The number of the first state, where the walk stands.
@@ -155,6 +157,7 @@ impl<'a> Meeting<'a> {
         requires turn { can_turn self.now walk.old.database.making.history unit ≡ true }
         requires before { IsNumberOf self.now numbers.old walk.old.database.making.history before }
         ensures stands { OnOk result (StandsAt self.now (order_of walk.old.turns.items ++ unit ∷ []) walk.new) }
+        ensures turned { OnOk result (HasTurned self.now unit walk.old.database.making walk.new.database.making walk.new.goings.items) }
         ensures keeps { IfOk result (λ n. Grow numbers.old numbers.new) }
         ensures number { IfOk result (IsNumberOf self.now numbers.new walk.new.database.making.history) }
     {

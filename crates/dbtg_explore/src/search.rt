@@ -3,7 +3,7 @@
 
 ghost use Rattle.dbtg_explore.specs.Inside.Walks.{Stands, StandsAt};
 ghost use Rattle.dbtg_explore.specs.Inside.Steps.{Goes, IsAt};
-ghost use Rattle.dbtg_explore.specs.Orders.{IsMeeting, can_turn};
+ghost use Rattle.dbtg_explore.specs.Orders.{IsMeeting, can_turn, history_of};
 ghost use Rattle.dbtg_explore.specs.States.{HasMoreStates};
 ghost use Rattle.dbtg_outcomes.specs.declared.search.Stop.TheVariants.{States};
 ghost use Rattle.std.specs.Prelude.{◌≡◌, ◌+◌, ◌<◌, [], true, length, slice_index_or, IfErr, IfOk, OnOk};
@@ -11,6 +11,7 @@ ghost use Rattle.std.specs.Prelude.{◌≡◌, ◌+◌, ◌<◌, [], true, lengt
 use crate::graph::Edge;
 use crate::known::Known;
 use crate::meeting::Meeting;
+use crate::next_state::Seen;
 use crate::walk::Walk;
 use dbtg_outcomes::{Numbers, Stop};
 use std::alloc::{AllocError, Global};
@@ -20,6 +21,7 @@ use std::alloc::{AllocError, Global};
 pub struct Search {
     pub found: Known,
     pub numbers: Numbers,
+    pub seen: Seen,
     pub edges: Vec<Edge>,
     pub limit: usize,
 }
@@ -47,12 +49,13 @@ impl Search {
         Ok(Search {
             found,
             numbers,
+            seen: Seen::none(alloc),
             edges: Vec::new(alloc),
             limit,
         })
     }
 
-    // The unit has its turn where the walk stands, which is where the order at this place leads.
+    // The unit has its turn where the order at this place leads.
     fn take_turn<'a>(
         &mut self,
         alloc: Global,
@@ -64,14 +67,13 @@ impl Search {
         requires meeting { IsMeeting meeting.now }
         requires at { IsAt meeting.now place unit self.old }
         requires within { place < length self.old.found.orders }
-        requires here { StandsAt meeting.now (slice_index_or self.old.found.orders place []) walk.old }
-        requires turn { can_turn meeting.now walk.old.database.making.history unit ≡ true }
+        requires stands { Stands meeting.now walk.old }
+        requires turn { can_turn meeting.now (history_of meeting.now (slice_index_or self.old.found.orders place [])) unit ≡ true }
         ensures stands { OnOk result (Stands meeting.now walk.new) }
         ensures goes { OnOk result (Goes meeting.now place (unit + 1) self.old self.new) }
         ensures stopped { IfErr result (λ stop. stop ≡ States → HasMoreStates meeting.now self.old.limit) }
     {
-        let before = self.found.number(place);
-        let number = meeting.number_after(alloc, walk, unit, &mut self.numbers, before)?;
+        let number = self.next_state(alloc, meeting, place, walk, unit)?;
         let (to, _is_new) = self.found.enter(number, place, unit)?;
         self.edges.push(Edge {
             from: place,
@@ -101,9 +103,8 @@ impl Search {
         ensures goes { OnOk result (Goes meeting.now place (unit + 1) self.old self.new) }
         ensures stopped { IfErr result (λ stop. stop ≡ States → HasMoreStates meeting.now self.old.limit) }
     {
-        let order = self.found.order(alloc, place)?;
-        meeting.go_to(alloc, walk, order.as_slice())?;
-        if !meeting.can_turn(walk, unit) {
+        let state = self.found.number(place);
+        if !meeting.can_turn(&self.numbers, state, unit) {
             return Ok(());
         }
         self.take_turn(alloc, meeting, place, walk, unit)

@@ -1,8 +1,8 @@
-//! What is printed of a state, and how its programs have failed.
+//! What is printed of a state.
 
-ghost use Rattle.dbtg_explore.specs.Inside.Walks.{IsPlace, failure_by, failure_in};
+ghost use Rattle.dbtg_explore.specs.Inside.Walks.{IsPlace};
 ghost use Rattle.dbtg_explore.specs.Orders.{IsMeeting};
-ghost use Rattle.dbtg_explore.specs.Results.{is_failure, reached_of, state_text};
+ghost use Rattle.dbtg_explore.specs.Results.{reached_of, state_text};
 ghost use Rattle.dbtg_explore.specs.States.{state_after, without_versions};
 ghost use Rattle.dbtg_going.specs.Goings.{comes_of};
 ghost use Rattle.std.specs.Prelude.{◌≡◌, map, IfOk};
@@ -11,7 +11,7 @@ use crate::meeting::Meeting;
 use crate::told::told_text;
 use crate::walk::Walk;
 use dbtg_going::{Going, Reached, Standing};
-use dbtg_program::{Due, End};
+use dbtg_program::Due;
 use dbtg_schema::Row;
 use dbtg_step::Run;
 use std::alloc::{AllocError, Global};
@@ -39,41 +39,7 @@ fn reached_of_each(alloc: Global, goings: &[Going]) -> Result<Vec<Reached>, Allo
     Ok(each)
 }
 
-// Does a program fail by this end?
-fn is_failure(end: End) -> bool
-    ensures { result ≡ is_failure end }
-{
-    match end {
-        End::Stop => false,
-        End::Assert(_) | End::Size(_) | End::Astray(_) => true,
-    }
-}
-
-// How a program has failed, if it has.
-fn failure_of(going: &Going) -> Option<End>
-    ensures { result ≡ failure_by (comes_of going.now) }
-{
-    match going.due {
-        Due::End(end) if is_failure(end) => Some(end),
-        _ => None,
-    }
-}
-
 impl<'a> Meeting<'a> {
-    /// How the program of the unit has failed, if it has.
-    pub(crate) fn failure(&self, walk: &Walk, unit: u8) -> Option<End>
-        requires { IsPlace self.now walk.now }
-        ensures { result ≡ failure_in (state_after self.now walk.now.database.making.history) unit }
-    {
-        if unit == 0 {
-            return None;
-        }
-        match walk.goings.get(unit as usize - 1) {
-            Some(going) => failure_of(going),
-            None => None,
-        }
-    }
-
     /// What tells the result at a place from others: what is printed after `--`, except that the units that have an area open are in the order
     /// of their numbers, and of versions only that is told which tells kept records from their own.
     pub(crate) fn text(&self, alloc: Global, walk: &Walk) -> Result<Vec<u8>, AllocError>

@@ -51,7 +51,7 @@ shifts zero = refl
 shifts (suc k) =
     ap (λ m. 2 ^ m) (let e : 4 * suc k ≡ 4 * k + 4 = omega arith in e) ∙ pow-add 2 (4 * k) 4 ∙ ap (λ m. m * 16) (shifts k) ∙ sym (pow-suc 16 k)
 
-next : (level : ℕ) → (level ≡ 0 → ⊥) → suc (level - 1) ≡ level
+pub next : (level : ℕ) → (level ≡ 0 → ⊥) → suc (level - 1) ≡ level
 next level some = omega (arith, some)
 
 module _ (level at : ℕ) (some : level ≡ 0 → ⊥) (within : at < 16 ^ level) where
@@ -75,7 +75,7 @@ module _ (level at : ℕ) (some : level ≡ 0 → ⊥) (within : at < 16 ^ level
     whole =
         (λ i. at / 2 ^ (4 * (level - 1)) * sym (shifts (level - 1)) i + rest_is i) ∙ div-add-mod' at (2 ^ (4 * (level - 1)))
 
-if_ok : {E : Type 0} (r : Result ℕ E) (P Q : ℕ → Type 0) → IfOk r P → ((n : ℕ) → P n → Q n) → IfOk r Q
+pub if_ok : {E : Type 0} (r : Result ℕ E) (P Q : ℕ → Type 0) → IfOk r P → ((n : ℕ) → P n → Q n) → IfOk r Q
 if_ok (Ok n) P Q h f = f n h
 if_ok (Err e) P Q h f = tt
 

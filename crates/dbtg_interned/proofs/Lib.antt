@@ -5,3 +5,6 @@ mod Trees
 mod Changed
 mod Rows
 pub mod Public
+mod Several
+mod Counted
+mod Below

@@ -32,7 +32,7 @@ stays_below old new (suc k) n keeps h =
 pub got_children : (nodes : List (List ℕ)) (n : ℕ) → n < length nodes → slice_get nodes n ≡ Some (children nodes n)
 got_children nodes n l = slice_get-get_or nodes n [] l
 
-power : (k : ℕ) → 16 * 16 ^ k ≡ 16 ^ suc k
+pub power : (k : ℕ) → 16 * 16 ^ k ≡ 16 ^ suc k
 power k = mul_comm 16 (16 ^ k) ∙ sym (pow-suc 16 k)
 
 pub below_length : (nodes : List (List ℕ)) (k n : ℕ) → AreNodes nodes → IsNode nodes k n → length (elements_below nodes k n) ≡ 16 ^ k

@@ -1,5 +1,5 @@
 -- Arrays of 16 ^ levels numbers, as trees of nodes with 16 children. An array is named by the number of its root.
-use Rattle.std.specs.Prelude.{ℕ, zero, suc, ◌≡◌, ◌<◌, ◌≤◌, ◌^◌, List, [], ◌∷◌, Some, length, replicate, slice_get, slice_index_or}
+use Rattle.std.specs.Prelude.{ℕ, zero, suc, ◌≡◌, ◌<◌, ◌≤◌, ◌^◌, List, [], ◌∷◌, Some, length, replicate, slice_get, slice_index_or, slice_set}
 use Rattle.std.specs.List.{All, flat_map}
 use Rattle.dbtg_interned.specs.Kept.{IsOnce, Keeps}
 
@@ -50,3 +50,8 @@ pub record AreArrays (arrays : KeptArrays) : Type 0 where
 pub record Grows (old new : KeptArrays) : Type 0 where
   pub nodes : Keeps old.nodes new.nodes
   pub levels : new.levels ≡ old.levels
+
+-- the elements after the changes, one after the other: each is a place and the element that it gets
+abbrev pub with_each : List (ℕ × ℕ) → List ℕ → List ℕ
+with_each [] es = es
+with_each (c ∷ cs) es = with_each cs (slice_set es c.0 c.1)

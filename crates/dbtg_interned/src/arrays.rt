@@ -1,7 +1,9 @@
 //! Arrays of numbers, of which equal ones have the same number.
-ghost use Rattle.std.specs.Prelude.{◌≡◌, ◌<◌, ◌≤◌, ◌+◌, ◌-◌, ◌^◌, Some, length, replicate, slice_get, slice_set, IfOk};
+ghost use Rattle.std.specs.Prelude.{◌≡◌, ◌<◌, ◌≤◌, ◌+◌, ◌-◌, ◌*◌, ◌^◌, ℕ, List, [], ◌∷◌, Some, true, false, length, replicate, slice_get, slice_set, IfOk};
+ghost use Rattle.std.specs.List.{All};
 ghost use Rattle.dbtg_interned.specs.Kept.{Keeps};
-ghost use Rattle.dbtg_interned.specs.Arrays.{AreArrays, AreNodes, Grows, IsArray, IsNode, elements, elements_below, size};
+ghost use Rattle.dbtg_interned.specs.Arrays.{AreArrays, AreNodes, Grows, IsArray, IsNode, elements, elements_below, size, with_each};
+ghost use Rattle.dbtg_interned.specs.Inside.Changed.{HasChanges, changes_before, part};
 
 use crate::nodes::{Nodes, WIDTH};
 use std::alloc::{AllocError, Global};
@@ -53,6 +55,13 @@ impl Arrays {
         let _nodes = &self.nodes;
     }
 
+    /// How many elements each array has.
+    pub fn len(&self) -> usize
+        ensures { result ≡ size self.now }
+    {
+        span(self.levels)
+    }
+
     /// The element of an array at a place.
     pub fn element(&self, array: u32, at: usize) -> u32
         requires array { IsArray self.now array }
@@ -75,6 +84,27 @@ impl Arrays {
     {
         with_element_below(&mut self.nodes, self.levels, array, at, element)
     }
+
+    /// The number of the array that has these elements at their places, of which the last counts, and is otherwise the same as this array.
+    /// A place past the end is passed over. It fails where there is no memory, or no number of 32 bits is left.
+    pub fn with_elements(&mut self, array: u32, changes: &[(usize, u32)]) -> Result<u32, AllocError>
+        requires array { IsArray self.old array }
+        ensures sound { AreArrays self.new }
+        ensures grows { Grows self.old self.new }
+        ensures few { 0 < length changes.now → All (λ c. c.0 < size self.old) changes.now → length self.new.nodes ≤ length self.old.nodes + self.old.levels * length changes.now }
+        ensures array { IfOk result (λ n. IsArray self.new n) }
+        ensures elements { IfOk result (λ n. elements self.new n ≡ with_each changes.now (elements self.old array)) }
+    {
+        with_elements_below(&mut self.nodes, self.levels, array, 0, changes)
+    }
+}
+
+// How many elements a node has that is this many levels above elements.
+fn span(level: u8) -> usize
+    requires { level ≤ 6 }
+    ensures { result ≡ 16 ^ level }
+{
+    1 << (BITS * level as u32)
 }
 
 // The fewest levels, at least one, that have room for this many elements.
@@ -144,4 +174,63 @@ fn with_element_below(
     }
     children[place] = child;
     nodes.enter(children)
+}
+
+// The number of the node that is this many levels above elements, and has those of this node, which stand from this place on, after the changes.
+fn with_elements_below(
+    nodes: &mut Nodes,
+    level: u8,
+    node: u32,
+    first: usize,
+    changes: &[(usize, u32)],
+) -> Result<u32, AllocError>
+    requires few { level ≤ 6 }
+    requires sound { AreNodes nodes.old }
+    requires node { IsNode nodes.old level node }
+    requires within { first + 16 ^ level ≤ 2 ^ 24 }
+    ensures sound { AreNodes nodes.new }
+    ensures keeps { Keeps nodes.old nodes.new }
+    ensures few { changes_before first changes.now < changes_before (first + 16 ^ level) changes.now → length nodes.new + level * changes_before first changes.now ≤ length nodes.old + level * changes_before (first + 16 ^ level) changes.now }
+    ensures node { IfOk result (λ n. IsNode nodes.new level n) }
+    ensures elements { IfOk result (λ n. HasChanges nodes.old nodes.new level first changes.now node n) }
+{
+    if level == 0 {
+        return Ok(changed_element(changes, first, node));
+    }
+    let below = level - 1;
+    let count = span(below);
+    let mut children = nodes.children(node);
+    for place in 0..WIDTH {
+        let start = first + place * count;
+        if touches(changes, start, count) {
+            children[place] = with_elements_below(nodes, below, children[place], start, changes)?;
+        }
+    }
+    nodes.enter(children)
+}
+
+// Whether a change is at one of this many places from this one on.
+fn touches(changes: &[(usize, u32)], first: usize, count: usize) -> bool
+    ensures none { result ≡ false → All (λ c. first ≤ c.0 → first + count ≤ c.0) changes.now }
+    ensures some { result ≡ true → changes_before first changes.now < changes_before (first + count) changes.now }
+{
+    for change in changes {
+        if change.0 >= first && change.0 - first < count {
+            return true;
+        }
+    }
+    false
+}
+
+// What the element at a place is after the changes.
+fn changed_element(changes: &[(usize, u32)], at: usize, element: u32) -> u32
+    ensures { (es : List ℕ) → element ∷ [] ≡ part at 1 es → result ∷ [] ≡ part at 1 (with_each changes.now es) }
+{
+    let mut changed = element;
+    for change in changes {
+        if change.0 == at {
+            changed = change.1;
+        }
+    }
+    changed
 }

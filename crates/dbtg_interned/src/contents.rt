@@ -1,5 +1,5 @@
 //! Lists that are kept once each, under numbers.
-ghost use Rattle.std.specs.Prelude.{◌≡◌, ◌∷◌, ◌<◌, [], Some, length, slice_get, IfOk};
+ghost use Rattle.std.specs.Prelude.{◌≡◌, ◌∷◌, ◌<◌, [], Some, length, option_map, slice_get, IfOk};
 ghost use Rattle.dbtg_interned.specs.Kept.{AddsOnly, IsContents, Keeps};
 
 use indexmap::IndexSet;
@@ -46,6 +46,17 @@ impl Contents {
         ensures { slice_get self.now number ≡ Some result.now }
     {
         self.lists[number as usize].as_slice()
+    }
+
+    /// The list with a number, if there is one.
+    pub fn get(&self, number: u32) -> Option<&[u64]>
+        ensures { option_map (λ l. l.now) result ≡ slice_get self.now number }
+    {
+        if (number as usize) < self.lists.len() {
+            Some(self.list(number))
+        } else {
+            None
+        }
     }
 
     /// The number of a list, which is copied if it is new. It fails where there is no memory, or no number of 32 bits is left.

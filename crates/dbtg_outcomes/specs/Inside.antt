@@ -3,6 +3,7 @@
 pub mod Gathered
 pub mod Given
 pub mod Grouped
+pub mod InHand
 pub mod Numbers
 pub mod Outcomes
 pub mod Parts
@@ -10,5 +11,6 @@ pub mod Search
 pub mod Spelling
 pub mod Statuses
 pub mod Steps
+pub mod Transitions
 pub mod Walks
 pub mod Wishes

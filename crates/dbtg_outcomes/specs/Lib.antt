@@ -3,6 +3,7 @@ pub mod Brief
 pub mod Counted
 pub mod Groups
 pub mod Laws
+pub mod Looked
 pub mod Named
 pub mod Numbers
 pub mod Orders
@@ -10,5 +11,6 @@ pub mod Outcomes
 pub mod Parts
 pub mod Results
 pub mod Spelling
+pub mod Transitions
 pub mod Wishes
 pub mod Inside

@@ -67,10 +67,11 @@ impl<'a> Meeting<'a> {
         ensures number { IfOk result (NumbersState (parts_of self.now (statements_of database.now.history)) numbers.new) }
     {
         let spelling = Spelling {
+            schema: self.schema,
             units: self.units(),
             versions: true,
         };
-        numbers.put_cells(alloc, spelling, database, array, names)
+        numbers.put_cells(alloc, &spelling, database, array, names)
     }
 
     // The number of the array that says of each unit what is so now, and of no cell anything.
@@ -105,7 +106,8 @@ impl<'a> Meeting<'a> {
         requires making { IsMaking self.now (statements_of database.now.making.history) database.now.making }
         requires kept { AreNumbers numbers.old }
         requires room { length self.now.scripts + cell_count self.now.schema self.now.capacity ≤ size numbers.old.arrays }
-        ensures { IfOk result (IsNumberOf self.now numbers.new (statements_of database.now.making.history)) }
+        ensures keeps { IfOk result (λ n. Grow numbers.old numbers.new) }
+        ensures number { IfOk result (IsNumberOf self.now numbers.new (statements_of database.now.making.history)) }
     {
         let database = database.database();
         // Unused here; the contract mentions it.

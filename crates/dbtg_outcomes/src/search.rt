@@ -61,10 +61,12 @@ impl<'a> Meeting<'a> {
         ensures stands { OnOk result (Stands self.now walk.new) }
         ensures extends { OnOk result (Extends self.now group.now (turn.unit ∷ []) next.old next.new walk.old walk.new) }
     {
-        let status = self.turned(alloc, walk, group.turns.as_slice(), turn)?;
-        let (numbers, database) = (&mut walk.numbers, &walk.database);
-        let number = self.next_number(alloc, numbers, database, group.number, turn.unit)?;
-        let turns = Row::of(Vec::from_slice(alloc, walk.turns.as_slice())?);
+        let (number, status) = self.next_state(alloc, walk, group, turn)?;
+        let before = group.turns.as_slice();
+        let mut turns = Vec::with_capacity(alloc, before.len() + 1)?;
+        turns.extend_from_slice(before)?;
+        turns.push(turn)?;
+        let turns = Row::of(turns);
         let orders = group.orders;
         next.add(Group {
             number,

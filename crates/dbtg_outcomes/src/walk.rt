@@ -10,18 +10,21 @@ ghost use Rattle.dbtg_outcomes.specs.Inside.Walks.{AreTaken, HasStatusIn, HasTak
 use crate::meeting::Meeting;
 use crate::notes::Note;
 use crate::numbers::Numbers;
+use crate::transitions::Transitions;
 use crate::turns::{Turn, shared_by};
 use dbtg_step::{ReversibleDatabase, WholeDatabase};
 use dbtg_unit::Statement;
 use std::alloc::{AllocError, Global};
 
-/// A database that stands after these turns, the numbers of states, and the statuses that were noted on the way.
+/// A database that stands after these turns, the numbers of states, the statuses that were noted on the way, and the transitions that are
+/// known.
 #[derive(Drop)]
 pub struct Walk<'a> {
     pub database: ReversibleDatabase<'a>,
     pub turns: Vec<Turn>,
     pub numbers: Numbers,
     pub notes: Vec<Note>,
+    pub transitions: Transitions,
 }
 
 impl<'a> Walk<'a> {
@@ -52,6 +55,7 @@ impl<'a> Meeting<'a> {
             turns: Vec::new(alloc),
             numbers: self.no_numbers(alloc)?,
             notes,
+            transitions: Transitions::none(alloc),
         })
     }
 
@@ -117,6 +121,7 @@ impl<'a> Meeting<'a> {
         ensures turns { OnOk result (walk.new.turns.items ≡ turns.now) }
         ensures notes { OnOk result (walk.new.notes.items ≡ walk.old.notes.items) }
         ensures numbers { OnOk result (walk.new.numbers ≡ walk.old.numbers) }
+        ensures transitions { OnOk result (walk.new.transitions ≡ walk.old.transitions) }
     {
         let shared = shared_by(walk.turns.as_slice(), turns);
         walk.take_back_to(shared);
@@ -153,6 +158,7 @@ impl<'a> Meeting<'a> {
         ensures turns { OnOk result (walk.new.turns.items ≡ turns.now ++ turn ∷ []) }
         ensures notes { OnOk result (walk.new.notes.items ≡ walk.old.notes.items) }
         ensures numbers { OnOk result (walk.new.numbers ≡ walk.old.numbers) }
+        ensures transitions { OnOk result (walk.new.transitions ≡ walk.old.transitions) }
         ensures status { IfOk result (HasStatusIn self.now (order_of self.now turns.now) turn) }
     {
         self.go_to(alloc, walk, turns)?;

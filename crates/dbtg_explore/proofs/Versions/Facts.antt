@@ -41,7 +41,7 @@ module _ (schema : Lists) (capacity : ℕ) (db : Database) (records : DbKey → 
   pub owners_are : (s : ℕ) → owners schema capacity db s ≡ owners schema capacity eb s
   owners_are s = λ i. if is_system schema s then System ∷ [] else unwrap_or (option_map (λ t. map Rec (keys_are t i)) (owner_type schema s)) []
 
-  owner_is : (s : ℕ) (k : DbKey) → owner_of schema capacity db s k ≡ owner_of schema capacity eb s k
+  pub owner_is : (s : ℕ) (k : DbKey) → owner_of schema capacity db s k ≡ owner_of schema capacity eb s k
   owner_is s k = λ i. find (λ o. is_member k (members_of db s o)) (owners_are s i)
 
   pub sort_key_is : (s : ℕ) (x : DbKey) → sort_key schema db s x ≡ sort_key schema eb s x

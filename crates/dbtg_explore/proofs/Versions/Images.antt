@@ -118,32 +118,37 @@ unfolding unit_at
 order_at schema capacity s legal zero unit at = absurd (cc (at))
 order_at schema capacity s legal (suc n) unit at = (legal.each n unit at).of_schema.kept_order
 
--- LEGAL WITHOUT VERSIONS
+-- LEGAL WITH OTHER VERSIONS
 
 -- no clause speaks of versions
+module _ (schema : Lists) (capacity : ℕ) (db : Database) (records : DbKey → Option Record)
+    (live : (k : DbKey) → is_live db k ≡ is_some (records k))
+    (items : (k : DbKey) → items_of db k ≡ unwrap_or (option_map (λ (r : Record). r.items) (records k)) []) where
+  -- the database with these records
+  abbrev with_records : Database
+  with_records = record db { records = records }
+
+  occurrence : (s : ℕ) (o : Owner) → has_occurrence schema db s o ≡ has_occurrence schema with_records s o
+  occurrence s System = refl
+  occurrence s (Rec k) = ap (λ b. owns schema s k.rtype && b) (live k)
+
+  pub legal_with : Legal schema capacity db → Legal schema capacity with_records
+  legal_with legal =
+      record {
+        keys = λ k h. legal.keys k (live k ∙ h);
+        items = λ k h. subst (λ (values : List Value). values_fit (pictures schema k.rtype) values ≡ true) (items k) (legal.items k (live k ∙ h));
+        generations = legal.generations;
+        no_number = legal.no_number;
+        no_area = legal.no_area;
+        pairs = λ s o. legal.pairs s o ∙ occurrence s o;
+        members = λ s o m h. let r = legal.members s o m h in (sym (live m) ∙ r.0, r.1);
+        in_one = legal.in_one;
+        once = legal.once;
+        sorted = λ s o. sym (λ i. pairwise (λ x y. keys_in_order (order_of schema s) (key_item schema s x.rtype (items x i)) (key_item schema s y.rtype (items y i))) (members_of db s o)) ∙ legal.sorted s o;
+        calc = λ j k h g t none same. legal.calc j k (live j ∙ h) (live k ∙ g) t none ((λ i. values_eq (calc_items schema j.rtype (items j i)) (calc_items schema k.rtype (items k i))) ∙ same);
+        mandatory_automatic = λ s m h mandatory. legal.mandatory_automatic s m (live m ∙ h) mandatory;
+        usage = legal.usage;
+      }
+
 pub legal_first : (schema : Lists) (capacity : ℕ) (db : Database) → Legal schema capacity db → Legal schema capacity (unversioned_database db)
-legal_first schema capacity db legal =
-    record {
-      keys = λ k h. legal.keys k (live k ∙ h);
-      items = λ k h. subst (λ (values : List Value). values_fit (pictures schema k.rtype) values ≡ true) (items k) (legal.items k (live k ∙ h));
-      generations = legal.generations;
-      no_number = legal.no_number;
-      no_area = legal.no_area;
-      pairs = λ s o. legal.pairs s o ∙ occurrence s o;
-      members = λ s o m h. let r = legal.members s o m h in (sym (live m) ∙ r.0, r.1);
-      in_one = legal.in_one;
-      once = legal.once;
-      sorted = λ s o. sym (λ i. pairwise (λ x y. keys_in_order (order_of schema s) (key_item schema s x.rtype (items x i)) (key_item schema s y.rtype (items y i))) (members_of db s o)) ∙ legal.sorted s o;
-      calc = λ j k h g t none same. legal.calc j k (live j ∙ h) (live k ∙ g) t none ((λ i. values_eq (calc_items schema j.rtype (items j i)) (calc_items schema k.rtype (items k i))) ∙ same);
-      mandatory_automatic = λ s m h mandatory. legal.mandatory_automatic s m (live m ∙ h) mandatory;
-      usage = legal.usage;
-    } where
-      live : (k : DbKey) → is_live db k ≡ is_live (unversioned_database db) k
-      live k = first_lives (db.records k)
-
-      items : (k : DbKey) → items_of db k ≡ items_of (unversioned_database db) k
-      items k = first_items (db.records k)
-
-      occurrence : (s : ℕ) (o : Owner) → has_occurrence schema db s o ≡ has_occurrence schema (unversioned_database db) s o
-      occurrence s System = refl
-      occurrence s (Rec k) = ap (λ b. owns schema s k.rtype && b) (live k)
+legal_first schema capacity db legal = legal_with schema capacity db (unversioned_database db).records (λ k. first_lives (db.records k)) (λ k. first_items (db.records k)) legal

@@ -29,7 +29,7 @@ pub record IsKept (s : State) : Type 0 where
 
 -- UNITS
 
-got_mapped : {X Y : Type 0} (f : X → Y) (xs : List X) (n : ℕ) → slice_get (map f xs) n ≡ option_map f (slice_get xs n)
+pub got_mapped : {X Y : Type 0} (f : X → Y) (xs : List X) (n : ℕ) → slice_get (map f xs) n ≡ option_map f (slice_get xs n)
 got_mapped f [] n = refl
 got_mapped f (x ∷ xs) zero = refl
 got_mapped f (x ∷ xs) (suc n) = got_mapped f xs n
@@ -44,7 +44,7 @@ of_set [] n x y i = inl i
 of_set (z ∷ xs) zero x y i = ⊎_elim (λ e. inr e) (λ j. inl (inr j)) i
 of_set (z ∷ xs) (suc n) x y i = ⊎_elim (λ e. inl (inl e)) (λ j. ⊎_elim (λ k. inl (inr k)) (λ e. inr e) (of_set xs n x y j)) i
 
-got_in : {X : Type 0} (xs : List X) (n : ℕ) (x : X) → slice_get xs n ≡ Some x → In x xs
+pub got_in : {X : Type 0} (xs : List X) (n : ℕ) (x : X) → slice_get xs n ≡ Some x → In x xs
 got_in [] n x e = absurd cc
 got_in (y ∷ xs) zero x e = inl cc
 got_in (y ∷ xs) (suc n) x e = inr (got_in xs n x e)

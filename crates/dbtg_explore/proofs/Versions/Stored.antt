@@ -17,6 +17,12 @@ has_version n o = some_and (λ r. n == r.version) o
 abbrev pub flag : ℕ → Option Record → ℕ
 flag n o = if has_version n o then 1 else 0
 
+pub same_flag : (b c : Bool) → ◌≡◌ {A = ℕ} (if b then 1 else 0) (if c then 1 else 0) → b ≡ c
+same_flag true true h = refl
+same_flag false false h = refl
+same_flag true false h = absurd cc
+same_flag false true h = absurd cc
+
 abbrev pub version_in : Option Record → ℕ
 version_in o = unwrap_or (option_map (λ (r : Record). r.version) o) 0
 

@@ -1,7 +1,8 @@
 -- What is noted of the orders that a search has found: results and failures.
 -- m is a meeting, o and p are orders, seen are the earlier ones.
-use Rattle.std.specs.Prelude.{ℕ, ◌≡◌, ◌++◌, List, [], ◌∷◌, Some, Contains, map}
+use Rattle.std.specs.Prelude.{ℕ, ◌≡◌, ◌++◌, List, [], ◌∷◌, Option, Some, Contains, map}
 use Rattle.dbtg_unit.specs.declared.unit.Entry.{Entry}
+use Rattle.dbtg_program.specs.declared.program.End.{End}
 use Rattle.dbtg_explore.specs.declared.ends.Ends as given
 use Rattle.dbtg_explore.specs.declared.explored.Failure.{Failure}
 use Rattle.dbtg_explore.specs.Inside.Found.{FoundOrders}
@@ -15,6 +16,10 @@ use Rattle.dbtg_explore.specs.States.{MeetingState, state_after, state_of}
 -- a program for which this is due has failed in this way
 abbrev pub FailsIn : MeetingState → Failure → Type 0
 FailsIn state f = failure_in state f.unit ≡ Some f.how
+
+-- it is of unit u, whose program has failed so
+abbrev pub FailsSo : Option End → ℕ → Failure → Type 0
+FailsSo so u f = (f.unit ≡ u) × (so ≡ Some f.how)
 
 -- the program of unit u has failed in this way after a history
 abbrev pub FailsAt : Meeting → List Entry → ℕ → Failure → Type 0

@@ -4,6 +4,7 @@ use Rattle.std.specs.Prelude.{ℕ, ◌≡◌, ◌≤◌, ◌++◌, Bool, List, l
 use Rattle.dbtg_explore.specs.declared.search.Search as given
 use Rattle.dbtg_explore.specs.Inside.Parts.{AreNumbered}
 use Rattle.dbtg_explore.specs.Inside.Search.{IsUnderWay}
+use Rattle.dbtg_explore.specs.Inside.Transitions.{AreSeen}
 use Rattle.dbtg_explore.specs.Orders.{IsOrder, Meeting, can_turn, history_of}
 use Rattle.dbtg_explore.specs.States.{essence_of}
 
@@ -11,10 +12,11 @@ use Rattle.dbtg_explore.specs.States.{essence_of}
 abbrev pub can_follow : Meeting → List ℕ → ℕ → Bool
 can_follow m o u = can_turn m (history_of m o) u
 
--- the search is at place i and unit u, and has each order with the number of its state
+-- the search is at place i and unit u, has each order with the number of its state, and knows of what it has seen where it leads
 pub record IsAt (m : Meeting) (i u : ℕ) (s : given.Search) : Type 0 where
   pub under_way : IsUnderWay (IsOrder m) (can_follow m) (essence_of m) s.found.orders i u
   pub known : AreNumbered m s.numbers s.found.keys s.found.orders
+  pub seen : AreSeen m s.numbers.contents s.seen
   pub few : length s.found.orders ≤ s.limit
 
 -- it has gone on to place i and unit u, and kept what it had found

@@ -59,13 +59,13 @@ swapped p q (x ∷ xs) = by (swapped p q xs) (p x) (q x) refl refl where
 -- ONE STATEMENT
 
 -- outcomes that differ at most in the order of users
-record Alike (o p : StatementEffect) : Type 0 where
-  answer : o.answer ≡ p.answer
-  unit_is : o.unit ≡ p.unit
-  records : o.database.records ≡ p.database.records
-  lists : o.database.lists ≡ p.database.lists
-  last : o.database.last ≡ p.database.last
-  uses : (a : ℕ) → SameUsers (o.database.usage a) (p.database.usage a)
+pub record Alike (o p : StatementEffect) : Type 0 where
+  pub answer : o.answer ≡ p.answer
+  pub unit_is : o.unit ≡ p.unit
+  pub records : o.database.records ≡ p.database.records
+  pub lists : o.database.lists ≡ p.database.lists
+  pub last : o.database.last ≡ p.database.last
+  pub uses : (a : ℕ) → SameUsers (o.database.usage a) (p.database.usage a)
 
 module _ (db : Database) (unit : Unit) (usage : ℕ → List (ℕ × Mode)) (same : (a : ℕ) → SameUsers (db.usage a) (usage a)) where
   -- the database with these users
@@ -141,7 +141,7 @@ module _ (db : Database) (unit : Unit) (usage : ℕ → List (ℕ × Mode)) (sam
     checks_alike Keep = refl
     checks_alike (Free all) = refl
 
-    effect_alike : (statement : Statement) → Alike (effect schema capacity db unit statement) (effect schema capacity eb unit statement)
+    pub effect_alike : (statement : Statement) → Alike (effect schema capacity db unit statement) (effect schema capacity eb unit statement)
     unfolding effect
     effect_alike statement =
         unless (refused_at_once schema capacity unit statement) (effect_on_cells schema capacity db unit statement) (effect_on_cells schema capacity eb unit statement)

@@ -10,6 +10,7 @@ use Rattle.dbtg_cells.proofs.Public.{get_set_other}
 use Rattle.dbtg_script.specs.Printing.Texts.{answers_text}
 use Rattle.dbtg_unit.specs.declared.statement.Statement.{Statement}
 use Rattle.dbtg_unit.specs.declared.unit.Entry.{Entry}
+use Rattle.dbtg_unit.specs.Database.State.Cells.{cell}
 use Rattle.dbtg_unit.specs.Database.Statements.Effect.{StatementEffect}
 use Rattle.dbtg_unit.specs.Database.Laws.Replay.{IsHistoryOf, State, after_effect, effect_of_unit, entries_of, opening_state}
 use Rattle.dbtg_unit.specs.Database.Laws.Replaying.{statements_of}
@@ -20,15 +21,15 @@ use Rattle.dbtg_step.specs.Core.Whole.{Making, state_now}
 use Rattle.dbtg_outcomes.specs.Orders.{made}
 use Rattle.dbtg_outcomes.specs.Results.{Meeting, state_of, unit_answers}
 use Rattle.dbtg_outcomes.specs.Numbers.{IsNumberBut, Numbers, NumbersState}
-use Rattle.dbtg_outcomes.specs.Parts.{Parts, part_in, parts_in}
-use Rattle.dbtg_outcomes.specs.Inside.Parts.{cell_numbers, cell_part, parts_of, unit_part}
+use Rattle.dbtg_outcomes.specs.Parts.{Parts, parts_in, shown_numbers}
+use Rattle.dbtg_outcomes.specs.Inside.Parts.{cell_part, parts_of, unit_part}
 use Rattle.dbtg_outcomes.specs.Inside.Walks.{IsMaking}
 use Rattle.dbtg_outcomes.specs.Spelling.{unit_numbers}
 use Rattle.dbtg_outcomes.proofs.Orders.Begun.{made_more}
 use Rattle.dbtg_outcomes.proofs.States.Numbers.{Follows}
 use Rattle.dbtg_outcomes.proofs.States.Runs.{run_state_is}
 use Rattle.dbtg_outcomes.proofs.States.SameStates.{answers_more, state_more}
-use Rattle.dbtg_outcomes.proofs.States.ShownParts.{as_shown, unchanged_part}
+use Rattle.dbtg_outcomes.proofs.States.ShownParts.{unchanged_shown}
 
 module _ (m : Meeting) where
   -- LEGAL STATES
@@ -67,7 +68,7 @@ module _ (m : Meeting) where
     told true v apart = same_answers v apart
     told false v apart = refl
 
-    same_unit_part : (v : ℕ) → 0 < v → 0 < u → v ≢ u → unit_part m more v ≡ unit_part m o v
+    pub same_unit_part : (v : ℕ) → 0 < v → 0 < u → v ≢ u → unit_part m more v ≡ unit_part m o v
     same_unit_part v low numbered apart =
         let count : made v more ≡ made v o = let none = none_made v apart in let all = made_more v o (u, x) in omega (arith, none, all) in
         let unit : slice_get (state_of m more).units (v - 1) ≡ slice_get (state_of m o).units (v - 1)
@@ -95,7 +96,7 @@ module _ (m : Meeting) where
       record {
         there = (numbered, within);
         units = λ v low apart. same_unit_part o u x v low numbered apart;
-        cells = λ c free. unchanged_part m.schema m.capacity (length m.scripts) names (state_of m o).database (state_of m (o ++ (u, x) ∷ [])).database changed c free;
+        cells = λ c free. unchanged_shown true m.schema m.capacity (length m.scripts) names (state_of m o).database (state_of m (o ++ (u, x) ∷ [])).database changed c free;
       }
 
   -- AS A DATABASE SHOWS IT
@@ -108,9 +109,7 @@ module _ (m : Meeting) where
     spelled_parts =
         let o = statements_of d.history in
         let state = run_state_is m o d is in
-        let cell_is : (c : CellName) → part_in true (length m.scripts) d c ≡ cell_part m o c
-        = λ c. as_shown d.schema d.capacity (state_now d).database (length m.scripts) c ∙ ap (λ (s : State). cell_numbers (length m.scripts) s.database c) state in
-        λ i. record { schema = (is.same i).schema; capacity = (is.same i).capacity; count = length m.scripts; unit = unit_part m o; cell = λ c. cell_is c i }
+        λ i. record { schema = (is.same i).schema; capacity = (is.same i).capacity; count = length m.scripts; unit = unit_part m o; cell = λ c. shown_numbers true (length m.scripts) (cell (is.same i).schema (is.same i).capacity (state i).database c) }
 
     -- the parts of a state are those that a database shows, spelled with versions
     pub spelled_but : (units : ℕ) → units ≡ length m.scripts → (kept : Numbers) (names : List CellName) (n : ℕ) → IsNumberBut (parts_of m (statements_of d.history)) kept (length m.scripts) names n → IsNumberBut (shown_parts units) kept units names n

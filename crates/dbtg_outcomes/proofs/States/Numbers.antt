@@ -38,7 +38,7 @@ same_number contents once (Some a) None x e f = absurd (cc)
 same_number contents once (Some a) (Some b) x e f = ap Some (once a b x e f)
 
 -- a content stays
-still_there : (old new : List (List ℕ)) → Keeps old new → (a : Option ℕ) (x : List ℕ) → option_and_then (slice_get old) a ≡ Some x → option_and_then (slice_get new) a ≡ Some x
+pub still_there : (old new : List (List ℕ)) → Keeps old new → (a : Option ℕ) (x : List ℕ) → option_and_then (slice_get old) a ≡ Some x → option_and_then (slice_get new) a ≡ Some x
 still_there old new keeps None x e = absurd (cc)
 still_there old new keeps (Some a) x e = stays_list old new a x keeps e
 

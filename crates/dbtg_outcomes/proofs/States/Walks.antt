@@ -1,7 +1,7 @@
 -- A walk: where it stands after turns are taken, and taken back.
 -- m is a meeting, w a walk, t a turn, ts are turns, x is a statement.
 use Rattle.std.proofs.Common.{◌≡◌, refl, sym, ◌∙◌, ap, subst, ℕ, zero, suc, ◌<◌, ◌≤◌, Bool, true, List, [], ◌∷◌, ◌++◌, length, get_or, take, Option, Some, None, arith, append-nil, append_assoc, slice_get}
-use Rattle.std.specs.Prelude.{◌&&◌, is_some, option_and_then, option_map, option_to_list}
+use Rattle.std.specs.Prelude.{◌&&◌, Contains, is_some, option_and_then, option_map, option_to_list}
 use Rattle.std.specs.List.{list_all}
 use Rattle.std.proofs.lemmas.Bool.{false≢true}
 use Rattle.std.proofs.lemmas.List.{length-map, take-map}
@@ -19,7 +19,10 @@ use Rattle.dbtg_outcomes.specs.declared.turns.Turn.{Turn}
 use Rattle.dbtg_outcomes.specs.declared.walk.Walk.{Walk}
 use Rattle.dbtg_outcomes.specs.Outcomes.{HasStatus, IsMeeting}
 use Rattle.dbtg_outcomes.specs.Results.{Meeting}
-use Rattle.dbtg_outcomes.specs.Numbers.{Numbers}
+use Rattle.dbtg_outcomes.specs.Numbers.{Grow, Numbers}
+use Rattle.dbtg_outcomes.specs.declared.transitions.Transition.{Transition}
+use Rattle.dbtg_outcomes.specs.Inside.Transitions.{AreKnown}
+use Rattle.dbtg_outcomes.proofs.States.Transitions.{known_later}
 use Rattle.dbtg_outcomes.specs.Inside.Numbers.{IsNumberOf}
 use Rattle.dbtg_outcomes.specs.Inside.Walks.{AreTaken, HasTaken, IsMaking, IsTakenBack, LeadsTo, Stands, have_statements, order_of, statement_at}
 use Rattle.dbtg_outcomes.proofs.Orders.Turns.{order_append, order_taken, there_both, there_parts}
@@ -56,11 +59,25 @@ unit_found scripts t s e = by (option_and_then (λ (script : List Statement). sl
   by None e = absurd (cc (e))
   by (Some x) e = let p : ℕ × Statement = (t.unit, x) in let same : p ≡ s = cc in ap (λ (q : ℕ × Statement). q.0) (sym same)
 
+-- nothing is in the empty list
+not_in_none : (t : Transition) → Contains {X = Transition} [] t → ⊥
+not_in_none t there = let low = there.1 in absurd (omega (arith, low))
+
 module _ (m : Meeting) where
   pub turn_fits : IsMeeting m → (t : Turn) (x : Statement) → statement_at m.scripts t ≡ Some (t.unit, x) → IsFit m t x
   turn_fits meets t x e =
       let is = fits_there (fits m.schema) m.scripts t.unit t.place x meets.fit (named t.unit (option_and_then (λ (script : List Statement). slice_get script t.place) (unit_at m.scripts t.unit)) x e) in
       record { numbered = is.0; within = is.1; fitting = is.2 }
+
+  -- WHAT A WALK KNOWS
+
+  pub known_still : (old new : Walk) → AreKnown m old.numbers.contents old.transitions → new.numbers ≡ old.numbers → new.transitions ≡ old.transitions → AreKnown m new.numbers.contents new.transitions
+  known_still old new known numbers transitions =
+      subst (λ (ns : Numbers). AreKnown m ns.contents new.transitions) (sym numbers) (subst (λ (ts : List Transition). AreKnown m old.numbers.contents ts) (sym transitions) known)
+
+  -- more numbers take nothing away
+  pub known_on : (old new : Numbers) (ts : List Transition) → Grow old new → AreKnown m old.contents ts → AreKnown m new.contents ts
+  known_on old new ts grown known t there = known_later m old.contents new.contents grown.contents t.unit t (known t there)
 
   -- WHERE A WALK STANDS
 
@@ -68,16 +85,17 @@ module _ (m : Meeting) where
   pub own_order : (w : Walk) → Stands m w → IsMaking m (statements_of w.database.making.history) w.database.making
   own_order w h = record { same = h.is_making.same; made = refl }
 
-  -- numbers and notes are no part of where it stands
-  pub stands_noted : (v w : Walk) → Stands m w → v.database ≡ w.database → v.turns ≡ w.turns → Stands m v
-  stands_noted v w h database turns = record {
+  -- notes are no part of where it stands, nor what else is known
+  pub stands_noted : (v w : Walk) → Stands m w → v.database ≡ w.database → v.turns ≡ w.turns → AreKnown m v.numbers.contents v.transitions → Stands m v
+  stands_noted v w h database turns known = record {
     is_making = subst (λ (ts : List Turn). IsMaking m (order_of m ts) v.database.making) (ap (λ ts. ts.items) (sym turns)) (subst (λ (d : Reversible). IsMaking m (order_of m w.turns.items) d.making) (sym database) h.is_making);
     stays_is = ap (λ (d : Reversible). d.stays) database ∙ h.stays_is;
     there = ap (λ ts. have_statements m ts.items) turns ∙ h.there;
+    known = known;
   }
 
-  pub stands_first : (w : Walk) (making : Making) → IsMaking m [] making → w.database ≡ record { making = making; stays = length making.history } → w.turns.items ≡ [] → Stands m w
-  stands_first w making is at none =
+  pub stands_first : (w : Walk) (making : Making) → IsMaking m [] making → w.database ≡ record { making = making; stays = length making.history } → w.turns.items ≡ [] → w.transitions ≡ [] → Stands m w
+  stands_first w making is at none unknown =
       let no_entries = ap (λ (o : List (ℕ × Statement)). length o) is.made in
       let long : length (statements_of making.history) ≡ length making.history = length-map making.history (λ (e : Entry). (e.unit, e.statement)) in
       let zero_is : length making.history ≡ 0 = omega (arith, long, no_entries) in
@@ -85,6 +103,7 @@ module _ (m : Meeting) where
         is_making = subst (λ (ts : List Turn). IsMaking m (order_of m ts) w.database.making) (sym none) (subst (λ (k : Making). IsMaking m [] k) (ap (λ (d : Reversible). d.making) (sym at)) is);
         stays_is = ap (λ (d : Reversible). d.stays) at ∙ zero_is;
         there = ap (have_statements m) none;
+        known = λ t there. absurd (not_in_none t (subst (λ (ts : List Transition). Contains ts t) unknown there));
       }
 
   pub stands_back : (count : ℕ) (old new : Walk) → Stands m old → IsTakenBack count old new → Stands m new
@@ -100,11 +119,12 @@ module _ (m : Meeting) where
         is_making = subst (λ (ts : List Turn). IsMaking m (order_of m ts) new.database.making) (sym back.turns_are) (subst (λ (k : Making). IsMaking m (order_of m (take count old.turns.items)) k) (sym making) back_making);
         stays_is = ap (λ (d : Reversible). d.stays) back.database_is ∙ h.stays_is;
         there = ap (have_statements m) back.turns_are ∙ (there_parts m count old.turns.items h.there).0;
+        known = known_still old new h.known back.numbers_are back.transitions_are;
       }
 
   -- one turn more
-  pub taken_one : (t : Turn) (x : Statement) (old new : Walk) → Stands m old → statement_at m.scripts t ≡ Some (t.unit, x) → new.turns.items ≡ old.turns.items ++ t ∷ [] → HasMade old.database.making t.unit x new.database.making → new.database.stays ≡ old.database.stays → new.notes.items ≡ old.notes.items → new.numbers ≡ old.numbers → HasTaken m t old new
-  taken_one t x old new h e turns made stays notes numbers =
+  pub taken_one : (t : Turn) (x : Statement) (old new : Walk) → Stands m old → statement_at m.scripts t ≡ Some (t.unit, x) → new.turns.items ≡ old.turns.items ++ t ∷ [] → HasMade old.database.making t.unit x new.database.making → new.database.stays ≡ old.database.stays → new.notes.items ≡ old.notes.items → new.numbers ≡ old.numbers → new.transitions ≡ old.transitions → HasTaken m t old new
+  taken_one t x old new h e turns made stays notes numbers transitions =
       let one : order_of m (t ∷ []) ≡ (t.unit, x) ∷ [] = ap (λ (o : Option (ℕ × Statement)). option_to_list o ++ []) e in
       let order : order_of m (old.turns.items ++ t ∷ []) ≡ order_of m old.turns.items ++ (t.unit, x) ∷ [] = order_append m old.turns.items (t ∷ []) ∙ ap (λ (o : List (ℕ × Statement)). order_of m old.turns.items ++ o) one in
       let there : have_statements m (t ∷ []) ≡ true = ap (λ (o : Option (ℕ × Statement)). is_some o && true) e in
@@ -116,10 +136,12 @@ module _ (m : Meeting) where
             is_making = is_making;
             stays_is = stays ∙ h.stays_is;
             there = ap (have_statements m) turns ∙ there_both m old.turns.items (t ∷ []) h.there there;
+            known = known_still old new h.known numbers transitions;
           };
           turns_are = turns;
           notes_are = notes;
           numbers_are = numbers;
+          transitions_are = transitions;
         };
         statement = x;
         statement_is = e;
@@ -127,7 +149,7 @@ module _ (m : Meeting) where
       }
 
   pub taken_none : (w : Walk) → Stands m w → AreTaken m [] w w
-  taken_none w h = record { stands = h; turns_are = sym (append-nil w.turns.items); notes_are = refl; numbers_are = refl }
+  taken_none w h = record { stands = h; turns_are = sym (append-nil w.turns.items); notes_are = refl; numbers_are = refl; transitions_are = refl }
 
   pub taken_more : (ts us : List Turn) (old mid new : Walk) → AreTaken m ts old mid → AreTaken m us mid new → AreTaken m (ts ++ us) old new
   taken_more ts us old mid new h g = record {
@@ -135,6 +157,7 @@ module _ (m : Meeting) where
     turns_are = g.turns_are ∙ ap (λ (l : List Turn). l ++ us) h.turns_are ∙ append_assoc old.turns.items ts us;
     notes_are = g.notes_are ∙ h.notes_are;
     numbers_are = g.numbers_are ∙ h.numbers_are;
+    transitions_are = g.transitions_are ∙ h.transitions_are;
   }
 
   -- THE LAST STATEMENT

@@ -13,6 +13,7 @@ use Rattle.dbtg_outcomes.specs.Outcomes.{HasStatus}
 use Rattle.dbtg_outcomes.specs.Results.{Meeting}
 use Rattle.dbtg_outcomes.specs.Numbers.{Numbers}
 use Rattle.dbtg_outcomes.specs.Inside.Numbers.{IsNumberOf}
+use Rattle.dbtg_outcomes.specs.Inside.Transitions.{AreKnown}
 
 -- TURNS
 
@@ -48,11 +49,12 @@ pub record IsMaking (m : Meeting) (o : List (ℕ × Statement)) (making : Making
   pub same : making ≡ record { schema = m.schema; capacity = m.capacity; units = length m.scripts; history = making.history }
   pub made : statements_of making.history ≡ o
 
--- a walk that stands after its turns, all of which it can take back
+-- a walk that stands after its turns, all of which it can take back, and knows transitions
 pub record Stands (m : Meeting) (w : Walk) : Type 0 where
   pub is_making : IsMaking m (order_of m w.turns.items) w.database.making
   pub stays_is : w.database.stays ≡ 0
   pub there : have_statements m w.turns.items ≡ true
+  pub known : AreKnown m w.numbers.contents w.transitions
 
 -- all turns but the first are taken back
 pub record IsTakenBack (count : ℕ) (old new : Walk) : Type 0 where
@@ -60,6 +62,7 @@ pub record IsTakenBack (count : ℕ) (old new : Walk) : Type 0 where
   pub turns_are : new.turns.items ≡ take count old.turns.items
   pub notes_are : new.notes.items ≡ old.notes.items
   pub numbers_are : new.numbers ≡ old.numbers
+  pub transitions_are : new.transitions ≡ old.transitions
 
 -- a walk with these turns more
 pub record AreTaken (m : Meeting) (ts : List Turn) (old new : Walk) : Type 0 where
@@ -67,6 +70,7 @@ pub record AreTaken (m : Meeting) (ts : List Turn) (old new : Walk) : Type 0 whe
   pub turns_are : new.turns.items ≡ old.turns.items ++ ts
   pub notes_are : new.notes.items ≡ old.notes.items
   pub numbers_are : new.numbers ≡ old.numbers
+  pub transitions_are : new.transitions ≡ old.transitions
 
 -- a walk with one turn more, in which its unit made its statement
 pub record HasTaken (m : Meeting) (t : Turn) (old new : Walk) : Type 0 where

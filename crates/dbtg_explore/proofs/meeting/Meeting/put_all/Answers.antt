@@ -1,6 +1,7 @@
-use Rattle.std.proofs.Common.{◌≡◌, ◌∙◌, true, subst, sym}
+use Rattle.std.proofs.Common.{◌≡◌, ◌∙◌, true, ap, subst, sym}
 use Rattle.std.specs.List.{list_all}
 use Rattle.std.proofs.lemmas.Result.{IfOk-weaker}
+use Rattle.dbtg_schema.specs.Sound.{IsSound}
 use Rattle.dbtg_cells.specs.CellNumbers.{is_cell}
 use Rattle.dbtg_step.specs.Core.Whole.{Making}
 use Rattle.dbtg_outcomes.proofs.States.Numbers.{grow_more}
@@ -13,6 +14,12 @@ put_units-requires-clause-but c = (c.args.names.now, c.requires.but)
 
 pub put_cells-requires-clause-cells : goal.put_cells-requires-clause-cells
 put_cells-requires-clause-cells c = subst (λ (d : Making). list_all (is_cell d.schema d.capacity) c.args.names.now ≡ true) (sym (c.database-database.ensures ∙ c.requires.place.database_is)) c.requires.cells
+
+pub put_cells-requires-clause-sound : goal.put_cells-requires-clause-sound
+put_cells-requires-clause-sound c = subst (λ (d : Making). IsSound d.schema) (sym (c.database-database.ensures ∙ c.requires.place.database_is)) c.requires.meeting.sound
+
+pub put_cells-requires-clause-schema : goal.put_cells-requires-clause-schema
+put_cells-requires-clause-schema c = ap (λ (d : Making). d.schema) (c.database-database.ensures ∙ c.requires.place.database_is) ∙ sym c.spelling.ensures.schema
 
 pub put_cells-requires-clause-but : goal.put_cells-requires-clause-but
 put_cells-requires-clause-but c =

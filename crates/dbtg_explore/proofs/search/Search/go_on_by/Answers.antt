@@ -1,27 +1,28 @@
-use Rattle.std.proofs.Common.{◌∙◌, ℕ, List, [], ap, subst, sym, get_or}
-use Rattle.std.proofs.lemmas.List.Elements.{Contains-get_or}
-use Rattle.dbtg_unit.specs.declared.unit.Entry.{Entry}
-use Rattle.dbtg_explore.specs.Inside.Walks.{StandsAt}
-use Rattle.dbtg_explore.specs.Orders.{IsOrder, can_turn}
+use Rattle.std.proofs.Common.{◌∙◌, [], sym, get_or}
+use Rattle.dbtg_explore.specs.Orders.{history_of}
+use Rattle.dbtg_explore.proofs.Numbered.{numbered_low, state_at}
+use Rattle.dbtg_explore.proofs.Said.{turns_is}
 use Rattle.dbtg_explore.proofs.Steps.{stays}
-use Rattle.dbtg_explore.proofs.Walks.{stands}
 use Rattle.dbtg_explore.proofs.search.Search.go_on_by.Goals as goal
 
-pub go_to-requires-clause-order : goal.go_to-requires-clause-order
-go_to-requires-clause-order c =
-    let m = c.args.meeting.now in
-    let os = c.args.self.now.found.orders in
-    subst (IsOrder m) (sym (c.as_slice.ensures.value ∙ c.in_ok-order.ensures)) (c.requires.at.under_way.are_orders (get_or os c.args.place []) (Contains-get_or os c.args.place [] c.requires.within))
+pub number-state-requires : goal.number-state-requires
+number-state-requires c = numbered_low c.args.meeting.now c.args.self.now.numbers c.args.self.now.found.keys c.args.self.now.found.orders c.args.place c.requires.at.known c.requires.within
+
+pub can_turn-requires-clause-array : goal.can_turn-requires-clause-array
+can_turn-requires-clause-array c =
+    (state_at c.args.meeting.now c.args.self.now.numbers c.args.self.now.found.keys c.args.self.now.found.orders c.args.place c.number-state.result c.requires.at.known c.requires.within c.number-state.ensures).number.is_array
 
 pub returns-then-not-can_turn-clause-goes : goal.returns-then-not-can_turn-clause-goes
 returns-then-not-can_turn-clause-goes c =
     let m = c.args.meeting.now in
-    let here = subst (λ (o : List ℕ). StandsAt m o c.go_to.new.walk) (c.as_slice.ensures.value ∙ c.in_ok-order.ensures) c.in_ok-go_to.ensures in
-    stays m c.args.self.now c.args.place c.args.unit c.requires.within c.requires.at
-    (ap (λ (es : List Entry). can_turn m es c.args.unit) (sym here.history_is) ∙ sym c.can_turn.ensures ∙ c.if-not-can_turn.true)
+    let s = c.args.self.now in
+    let at = state_at m s.numbers s.found.keys s.found.orders c.args.place c.number-state.result c.requires.at.known c.requires.within c.number-state.ensures in
+    stays m s c.args.place c.args.unit c.requires.within c.requires.at
+    (sym (turns_is m s.numbers (history_of m (get_or s.found.orders c.args.place [])) c.number-state.result at c.args.unit) ∙ sym c.can_turn.ensures ∙ c.if-not-can_turn.true)
 
-pub returns-then-not-can_turn-clause-stands : goal.returns-then-not-can_turn-clause-stands
-returns-then-not-can_turn-clause-stands c = stands c.args.meeting.now _ c.go_to.new.walk c.in_ok-go_to.ensures
-
-pub take_turn-requires-clause-here : goal.take_turn-requires-clause-here
-take_turn-requires-clause-here c = subst (λ (o : List ℕ). StandsAt c.args.meeting.now o c.go_to.new.walk) (c.as_slice.ensures.value ∙ c.in_ok-order.ensures) c.in_ok-go_to.ensures
+pub take_turn-requires-clause-turn : goal.take_turn-requires-clause-turn
+take_turn-requires-clause-turn c =
+    let m = c.args.meeting.now in
+    let s = c.args.self.now in
+    let at = state_at m s.numbers s.found.keys s.found.orders c.args.place c.number-state.result c.requires.at.known c.requires.within c.number-state.ensures in
+    sym (turns_is m s.numbers (history_of m (get_or s.found.orders c.args.place [])) c.number-state.result at c.args.unit) ∙ sym c.can_turn.ensures ∙ c.if-not-can_turn.false

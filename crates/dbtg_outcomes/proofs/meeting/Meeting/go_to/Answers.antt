@@ -30,3 +30,6 @@ returns-clause-notes c = on_ok_weaker c.take_turns.result (λ taken. taken.notes
 
 pub returns-clause-numbers : goal.returns-clause-numbers
 returns-clause-numbers c = on_ok_weaker c.take_turns.result (λ taken. taken.numbers_are ∙ c.take_back_to.ensures.numbers_are) c.take_turns.ensures
+
+pub returns-clause-transitions : goal.returns-clause-transitions
+returns-clause-transitions c = on_ok_weaker c.take_turns.result (λ taken. taken.transitions_are ∙ c.take_back_to.ensures.transitions_are) c.take_turns.ensures

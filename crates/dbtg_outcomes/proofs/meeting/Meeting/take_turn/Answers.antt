@@ -43,7 +43,7 @@ returns-in_ok-push-in-Some c =
     let t = c.args.turn in
     let x = c.in-Some.statement.now in
     let e : statement_at m.scripts t ≡ Some (t.unit, x) = sym c.statement_at.ensures ∙ ap (option_map (λ x. (t.unit, x.now))) c.in-Some.is in
-    let new : Walk = record { database = c.make.new.self; turns = c.push.new.self; numbers = w.numbers; notes = w.notes } in
+    let new : Walk = record { database = c.make.new.self; turns = c.push.new.self; numbers = w.numbers; notes = w.notes; transitions = w.transitions } in
     on_ok_weaker c.make.result
-    (λ made. taken_one m t x w new c.requires.stands e c.in_ok-push-in-Some.ensures.items (subst (λ (y : Statement). HasMade w.database.making t.unit y c.make.new.self.making) c.in_ok-statement-in-Some.ensures made) c.make.ensures.stays refl refl)
+    (λ made. taken_one m t x w new c.requires.stands e c.in_ok-push-in-Some.ensures.items (subst (λ (y : Statement). HasMade w.database.making t.unit y c.make.new.self.making) c.in_ok-statement-in-Some.ensures made) c.make.ensures.stays refl refl refl)
     c.make.ensures.made

@@ -19,6 +19,9 @@ returns-clause-notes c = c.in_ok-take_turn.ensures.taken.notes_are ∙ c.in_ok-g
 pub returns-clause-numbers : goal.returns-clause-numbers
 returns-clause-numbers c = c.in_ok-take_turn.ensures.taken.numbers_are ∙ c.in_ok-go_to.ensures.numbers
 
+pub returns-clause-transitions : goal.returns-clause-transitions
+returns-clause-transitions c = c.in_ok-take_turn.ensures.taken.transitions_are ∙ c.in_ok-go_to.ensures.transitions
+
 pub returns-clause-status : goal.returns-clause-status
 returns-clause-status c =
     let entry = c.index-history-before.result in

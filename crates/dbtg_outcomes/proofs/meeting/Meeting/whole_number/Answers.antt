@@ -10,7 +10,7 @@ use Rattle.dbtg_outcomes.specs.Inside.Numbers.{IsNumberOf}
 use Rattle.dbtg_outcomes.specs.Inside.Parts.{parts_of}
 use Rattle.dbtg_outcomes.specs.Inside.Walks.{IsMaking}
 use Rattle.dbtg_outcomes.proofs.States.LeadOn.{legal_now}
-use Rattle.dbtg_outcomes.proofs.States.Numbers.{all_are_cells}
+use Rattle.dbtg_outcomes.proofs.States.Numbers.{all_are_cells, grow_more}
 use Rattle.dbtg_outcomes.proofs.meeting.Meeting.whole_number.Goals as goal
 
 pub put_cells-requires-clause-cells : goal.put_cells-requires-clause-cells
@@ -31,8 +31,14 @@ put_units-requires-clause-making c = subst (λ (k : Making). IsMaking c.args.sel
 pub put_cells-requires-clause-making : goal.put_cells-requires-clause-making
 put_cells-requires-clause-making c = subst (λ (k : Making). IsMaking c.args.self.now (statements_of k.history) k) (sym c.database-database.ensures) c.requires.making
 
-pub returns : goal.returns
-returns c =
+pub returns-clause-keeps : goal.returns-clause-keeps
+returns-clause-keeps c =
+    IfOk-weaker c.put_cells.result _ _
+    (λ n keeps. grow_more c.args.numbers.now c.put_units.new.numbers c.put_cells.new.numbers c.in_ok-number.ensures.keeps keeps)
+    c.put_cells.ensures.keeps
+
+pub returns-clause-number : goal.returns-clause-number
+returns-clause-number c =
     let m = c.args.self.now in
     let d = c.database-database.result.now in
     let making = subst (λ (k : Making). IsMaking m (statements_of k.history) k) (sym c.database-database.ensures) c.requires.making in

@@ -21,12 +21,12 @@ put-requires-clause-within c =
 pub returns-in-Some : goal.returns-in-Some
 returns-in-Some c =
     let d = c.args.database.now in
-    let said = c.as_slice.ensures.value ∙ c.in_ok-spell_cell.ensures ∙ ap (λ l. l ++ part_in c.args.spelling.versions c.args.spelling.units d c.args.name.now) c.in_ok-content.ensures.items in
+    let said = c.as_slice.ensures.value ∙ c.in_ok-spell_cell.ensures ∙ ap (λ l. l ++ part_in c.args.spelling.now.versions c.args.spelling.now.units d c.args.name.now) c.in_ok-content.ensures.items in
     IfOk-weaker c.put.result _ _
     (λ n put k e.
     let place = same_Some c.in-Some.number k (sym c.in-Some.is ∙ c.cell_number.ensures ∙ e) in
-    subst (λ j. HasPut c.args.self.now c.put.new.self c.args.array (c.args.spelling.units + j) (part_in c.args.spelling.versions c.args.spelling.units d c.args.name.now) n) place
-    (subst (λ (l : List ℕ). HasPut c.args.self.now c.put.new.self c.args.array (c.args.spelling.units + c.in-Some.number) l n) said put))
+    subst (λ j. HasPut c.args.self.now c.put.new.self c.args.array (c.args.spelling.now.units + j) (part_in c.args.spelling.now.versions c.args.spelling.now.units d c.args.name.now) n) place
+    (subst (λ (l : List ℕ). HasPut c.args.self.now c.put.new.self c.args.array (c.args.spelling.now.units + c.in-Some.number) l n) said put))
     c.put.ensures.put
 
 pub returns : goal.returns

@@ -1,0 +1,88 @@
+use Rattle.std.proofs.Common.{◌∙◌, ◌++◌, ◌∷◌, [], ℕ, List, ap, subst, sym, get_or}
+use Rattle.std.specs.Prelude.{IfSome}
+use Rattle.dbtg_cells.specs.declared.name.CellName.{CellName}
+use Rattle.dbtg_unit.specs.declared.unit.Entry.{Entry}
+use Rattle.dbtg_explore.specs.declared.search.Search.{Search}
+use Rattle.dbtg_explore.specs.Inside.Parts.{IsNumberOf}
+use Rattle.dbtg_explore.specs.Inside.Transitions.{AreLookedAt, AreSeen, SlotsStay}
+use Rattle.dbtg_explore.specs.Inside.Walks.{StandsAt, order_of}
+use Rattle.dbtg_explore.specs.Orders.{history_of}
+use Rattle.dbtg_explore.specs.States.{sequential_after}
+use Rattle.dbtg_explore.proofs.Next.{reaches, slots_stay}
+use Rattle.dbtg_explore.proofs.Numbered.{number_later, numbered_low, state_at}
+use Rattle.dbtg_explore.proofs.Transitions.{seen_later}
+use Rattle.dbtg_explore.proofs.Walks.{history_before, stands, turn_above}
+use Rattle.dbtg_explore.proofs.search.Search.made_state.Goals as goal
+use Rattle.dbtg_explore.proofs.search.Search.made_state.Goals.{in-Some+in_ok-remember, in_default}
+
+pub number-before-requires : goal.number-before-requires
+number-before-requires c = numbered_low c.args.meeting.now c.args.self.now.numbers c.args.self.now.found.keys c.args.self.now.found.orders c.args.place c.requires.at.known c.requires.within
+
+pub number_after-requires-clause-before : goal.number_after-requires-clause-before
+number_after-requires-clause-before c =
+    let m = c.args.meeting.now in
+    let s = c.args.self.now in
+    let here = subst (λ (o : List ℕ). StandsAt m o c.go_to.new.walk) (c.as_slice.ensures.value ∙ c.in_ok-order.ensures) c.in_ok-go_to.ensures in
+    subst (λ (es : List Entry). IsNumberOf m s.numbers es c.number-before.result) (sym here.history_is)
+    (state_at m s.numbers s.found.keys s.found.orders c.args.place c.number-before.result c.requires.at.known c.requires.within c.number-before.ensures)
+
+pub has_changed_record-changing-requires : goal.has_changed_record-changing-requires
+has_changed_record-changing-requires c =
+    let m = c.args.meeting.now in
+    let w = c.go_to.new.walk in
+    let after = c.in_ok-after.ensures in
+    turn_above m (order_of w.turns.items ++ c.args.unit ∷ []) c.args.unit w c.number_after.new.walk (stands m _ w c.in_ok-go_to.ensures) after.stands after.turned
+
+pub remember-requires-clause-passed : goal.remember-requires-clause-passed
+remember-requires-clause-passed c =
+    let m = c.args.meeting.now in
+    let s = c.args.self.now in
+    let u = c.args.unit in
+    let o = get_or s.found.orders c.args.place [] in
+    let w = c.go_to.new.walk in
+    let v = c.number_after.new.walk in
+    let kept = c.number_after.new.numbers in
+    let after = c.in_ok-after.ensures in
+    let here = subst (λ (o : List ℕ). StandsAt m o w) (c.as_slice.ensures.value ∙ c.in_ok-order.ensures) c.in_ok-go_to.ensures in
+    let there = after.stands.history_is ∙ ap (λ (p : List ℕ). history_of m (p ++ u ∷ [])) here.order_is in
+    let at = state_at m s.numbers s.found.keys s.found.orders c.args.place c.number-before.result c.requires.at.known c.requires.within c.number-before.ensures in
+    let cells = subst (λ r. IfSome r (λ names. AreLookedAt m w.database.making.history u names.items)) c.in-Some.is c.in_ok-names.ensures in (
+      o,
+      record {
+        before = number_later m s.numbers kept after.number.number.kept_once after.keeps (history_of m o) c.number-before.result at;
+        after = subst (λ (es : List Entry). IsNumberOf m kept es c.in_ok-after.after) there after.number;
+        looks_at =
+            subst (λ (ns : List CellName). AreLookedAt m (history_of m o) u ns) (sym c.as_slice-in-Some.ensures.value)
+            (subst (λ (es : List Entry). AreLookedAt m es u c.in-Some.names.items) here.history_is cells);
+        stay = λ none.
+            subst (λ (es : List Entry). SlotsStay m (sequential_after m (history_of m o)).database (sequential_after m es).database) there
+            (slots_stay m v.database.making v.goings.items after.stands.is_place (history_of m o) (c.has_changed_record-changing.ensures none) (history_before m u w.database.making v.database.making v.goings.items after.turned ∙ here.history_is));
+      },
+    )
+
+pub remember-requires-clause-seen : goal.remember-requires-clause-seen
+remember-requires-clause-seen c = seen_later c.args.meeting.now c.args.self.now.numbers.contents c.number_after.new.numbers.contents c.in_ok-after.ensures.keeps.contents c.args.self.now.seen c.requires.at.seen
+
+pub returns-clause-reaches : goal.returns-clause-reaches
+returns-clause-reaches c =
+    let m = c.args.meeting.now in
+    let s = c.args.self.now in
+    let u = c.args.unit in
+    let o = get_or s.found.orders c.args.place [] in
+    let w = c.go_to.new.walk in
+    let kept = c.number_after.new.numbers in
+    let after = c.in_ok-after.ensures in
+    let here = subst (λ (o : List ℕ). StandsAt m o w) (c.as_slice.ensures.value ∙ c.in_ok-order.ensures) c.in_ok-go_to.ensures in
+    let there = after.stands.history_is ∙ ap (λ (p : List ℕ). history_of m (p ++ u ∷ [])) here.order_is in
+    let number = subst (λ (es : List Entry). IsNumberOf m kept es c.in_ok-after.after) there after.number in
+    let new = c.match-names-2.self in
+    elim c.match-names-2.branch [
+      | in-Some+in_ok-remember x ↦
+          let e = x.self-is ∙ x.in_ok-remember.ensures.rest in
+          reaches m (o ++ u ∷ []) s new kept c.in_ok-after.after (ap (λ (z : Search). z.found) e) (ap (λ (z : Search). z.numbers) e) (ap (λ (z : Search). z.limit) e) number after.keeps
+          (subst (λ (z : Search). AreSeen m kept.contents z.seen) (sym x.self-is) x.in_ok-remember.ensures.seen)
+      | in_default x ↦
+          let e = x.self-is in
+          reaches m (o ++ u ∷ []) s new kept c.in_ok-after.after (ap (λ (z : Search). z.found) e) (ap (λ (z : Search). z.numbers) e) (ap (λ (z : Search). z.limit) e) number after.keeps
+          (subst (λ (z : Search). AreSeen m kept.contents z.seen) (sym e) (seen_later m s.numbers.contents kept.contents after.keeps.contents s.seen c.requires.at.seen))
+    ]

@@ -1,0 +1,38 @@
+use Rattle.std.proofs.Common.{true, false, subst}
+use Rattle.std.specs.Prelude.{IfSome}
+use Rattle.std.proofs.lemmas.Result.{on_ok_weaker}
+use Rattle.dbtg_outcomes.specs.declared.transitions.Transition.{Transition}
+use Rattle.dbtg_explore.specs.Inside.Transitions.{AreLooks, IsPassage}
+use Rattle.dbtg_explore.proofs.Next.{known_more}
+use Rattle.dbtg_explore.proofs.Transitions.{is_known}
+use Rattle.dbtg_explore.proofs.search.Search.remember.Goals as goal
+
+pub returns-then-changing-clause-seen : goal.returns-then-changing-clause-seen
+returns-then-changing-clause-seen c =
+    let m = c.args.meeting.now in
+    let s = c.args.self.now in
+    let passage = c.args.passage in
+    let names = c.args.names.now in
+    let o = c.requires.passed.0 in
+    let looks = subst (λ found. IfSome found (AreLooks m s.numbers passage names)) c.in-Some.is c.in_ok-looks.ensures in
+    let passed = subst (λ b. IsPassage m s.numbers o names b passage) c.if-changing.true c.requires.passed.1 in
+    let last : Transition = record { unit = passage.unit; looks = c.in-Some.looks; status = 0 } in
+    let fresh = is_known m c.what_is_looked_at_determines.ensures c.requires.meeting s.numbers o names true passage c.in-Some.looks passed looks 0 in
+    on_ok_weaker c.enter.result
+    (λ adds. record { plain = c.requires.seen.plain; changing = known_more m s.numbers.contents true s.seen.changing c.enter.new.self last adds c.requires.seen.changing fresh })
+    c.enter.ensures
+
+pub returns-else-changing-clause-seen : goal.returns-else-changing-clause-seen
+returns-else-changing-clause-seen c =
+    let m = c.args.meeting.now in
+    let s = c.args.self.now in
+    let passage = c.args.passage in
+    let names = c.args.names.now in
+    let o = c.requires.passed.0 in
+    let looks = subst (λ found. IfSome found (AreLooks m s.numbers passage names)) c.in-Some.is c.in_ok-looks.ensures in
+    let passed = subst (λ b. IsPassage m s.numbers o names b passage) c.if-changing.false c.requires.passed.1 in
+    let last : Transition = record { unit = passage.unit; looks = c.in-Some.looks; status = 0 } in
+    let fresh = is_known m c.what_is_looked_at_determines.ensures c.requires.meeting s.numbers o names false passage c.in-Some.looks passed looks 0 in
+    on_ok_weaker c.enter-else-changing.result
+    (λ adds. record { plain = known_more m s.numbers.contents false s.seen.plain c.enter-else-changing.new.self last adds c.requires.seen.plain fresh; changing = c.requires.seen.changing })
+    c.enter-else-changing.ensures

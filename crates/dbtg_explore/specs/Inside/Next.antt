@@ -1,0 +1,43 @@
+-- How the code comes to the state after a turn.
+-- m is a meeting, o an order, n the number of a state, t a transition, c the name of a cell.
+use Rattle.std.specs.Prelude.{ℕ, ◌≡◌, ◌-◌, Bool, true, false, List, Contains, length, ◌⊎◌}
+use Rattle.dbtg_cells.specs.declared.name.CellName.{CellName}
+use Rattle.dbtg_cells.specs.declared.name.CellName.TheVariants.{Usage, Extent, Ring, Slot}
+use Rattle.dbtg_unit.specs.Database.State.Cells.{cell}
+use Rattle.dbtg_step.specs.Core.Reversible.{made_first}
+use Rattle.dbtg_step.specs.Core.Whole.{Making, state_now}
+use Rattle.dbtg_outcomes.specs.declared.transitions.Transition.{Transition}
+use Rattle.dbtg_outcomes.specs.Numbers.{Grow, Numbers}
+use Rattle.dbtg_outcomes.specs.Inside.Transitions.{HasBefore}
+use Rattle.dbtg_explore.specs.declared.next_state.Seen as given
+use Rattle.dbtg_explore.specs.declared.search.Search as search
+use Rattle.dbtg_explore.specs.Orders.{Meeting, history_of}
+use Rattle.dbtg_explore.specs.Inside.Parts.{IsNumberOf}
+use Rattle.dbtg_explore.specs.Inside.Standing.{is_kept_beside}
+use Rattle.dbtg_explore.specs.Inside.Transitions.{AreSeen}
+
+-- it is a slot
+abbrev pub is_slot : CellName → Bool
+is_slot (Slot t k) = true
+is_slot (Usage a) = false
+is_slot (Extent t) = false
+is_slot (Ring s o) = false
+
+-- the last statement changed no record
+abbrev pub RecordsStay : Making → Type 0
+RecordsStay d =
+    (t k : ℕ) → cell d.schema d.capacity (state_now d).database (Slot t k) ≡ cell d.schema d.capacity (state_now (made_first (length d.history - 1) d)).database (Slot t k)
+
+-- a transition that is known, of the unit, from where the array of a state has what was looked at
+pub record IsFound (m : Meeting) (seen : given.Seen) (kept : Numbers) (n u : ℕ) (t : Transition) : Type 0 where
+  pub known : Contains seen.plain t ⊎ (Contains seen.changing t × (is_kept_beside m kept n u ≡ false))
+  pub unit : t.unit ≡ u
+  pub before : HasBefore kept n t.looks
+
+-- n is the number of the state to which the order leads; what was found stays, and what was kept
+pub record Reaches (m : Meeting) (o : List ℕ) (old new : search.Search) (n : ℕ) : Type 0 where
+  pub number : IsNumberOf m new.numbers (history_of m o) n
+  pub keeps : Grow old.numbers new.numbers
+  pub seen : AreSeen m new.numbers.contents new.seen
+  pub found_is : new.found ≡ old.found
+  pub limit_is : new.limit ≡ old.limit

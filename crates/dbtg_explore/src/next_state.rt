@@ -1,0 +1,248 @@
+//! The state after a turn: it is known by a transition, or the statement is made and its transition is remembered.
+
+ghost use Rattle.dbtg_cells.specs.declared.name.CellName.TheVariants.{Slot};
+ghost use Rattle.dbtg_explore.specs.Inside.Next.{IsFound, Reaches, RecordsStay, is_slot};
+ghost use Rattle.dbtg_explore.specs.Inside.Steps.{IsAt};
+ghost use Rattle.dbtg_explore.specs.Inside.Transitions.{AreLookedAt, AreLooks, AreSeen, IsPassage, place_of};
+ghost use Rattle.dbtg_explore.specs.Inside.Walks.{Stands};
+ghost use Rattle.dbtg_explore.specs.Orders.{IsMeeting, Meeting as MeetingOfPrograms, can_turn, history_of};
+ghost use Rattle.dbtg_interned.specs.Arrays.{IsArray, elements};
+ghost use Rattle.std.specs.List.{list_any};
+ghost use Rattle.std.specs.Prelude.{◌≡◌, ◌<◌, ◌++◌, ◌∷◌, [], ℕ, List, Some, true, false, length, slice_get, slice_index_or, IfOk, IfSome, OnOk};
+
+use crate::meeting::Meeting;
+use crate::search::Search;
+use crate::walk::Walk;
+use dbtg_cells::{CellName, cell_number};
+use dbtg_outcomes::{
+    Look, Numbers, Passage, Transition, Transitions, needed_cells, what_is_looked_at_determines,
+};
+use dbtg_schema::Row;
+use std::alloc::{AllocError, Global};
+
+/// Transitions of statements that were made. What a statement did that changed no record it does wherever it looks at the same. One that
+/// changed a record can change what is told of a unit that keeps it; what it did it does where no other unit keeps a record.
+#[derive(Drop)]
+pub struct Seen {
+    pub plain: Transitions,
+    pub changing: Transitions,
+}
+
+impl Seen {
+    /// No transitions.
+    pub fn none(alloc: Global) -> Self
+        ensures { (m : MeetingOfPrograms) (contents : List (List ℕ)) → AreSeen m contents result }
+    {
+        Self {
+            plain: Transitions::none(alloc),
+            changing: Transitions::none(alloc),
+        }
+    }
+
+    // The transition of the unit from the state of this array, if it is known.
+    fn find(
+        &self,
+        meeting: &Meeting,
+        numbers: &Numbers,
+        state: u32,
+        unit: u8,
+    ) -> Option<&Transition>
+        requires meeting { IsMeeting meeting.now }
+        requires array { IsArray numbers.now.arrays state }
+        requires numbered { 0 < unit }
+        ensures { IfSome result (λ t. IsFound meeting.now self.now numbers.now state unit t.now) }
+    {
+        if let Some(known) = self.plain.find(numbers, state, unit) {
+            return Some(known);
+        }
+        if meeting.is_kept_beside(numbers, state, unit) {
+            return None;
+        }
+        self.changing.find(numbers, state, unit)
+    }
+}
+
+// Is it a slot, which has a record?
+fn is_slot(name: &CellName) -> bool
+    ensures { result ≡ is_slot name.now }
+{
+    matches!(name, CellName::Slot(..))
+}
+
+// Is one of these a slot?
+fn has_slot(names: &[CellName]) -> bool
+    ensures { result ≡ list_any is_slot names.now }
+{
+    names.iter().any(|name| is_slot(name))
+}
+
+// Did the last statement change a record?
+fn has_changed_record(walk: &Walk) -> bool
+    requires { walk.now.database.stays < length walk.now.database.making.history }
+    ensures { result ≡ false → RecordsStay walk.now.database.making }
+{
+    has_slot(walk.database.changed())
+}
+
+impl<'a> Meeting<'a> {
+    // The cells that the statement that is due looks at where the walk stands, if they are not too many.
+    fn cells_at(
+        &self,
+        alloc: Global,
+        walk: &Walk<'a>,
+        unit: u8,
+    ) -> Result<Option<Vec<CellName>>, AllocError>
+        requires meeting { IsMeeting self.now }
+        requires stands { Stands self.now walk.now }
+        ensures { IfOk result (λ found. IfSome found (λ names. AreLookedAt self.now walk.now.database.making.history unit names.items)) }
+    {
+        match self.due(walk, unit) {
+            Some(statement) => {
+                let database = walk.database.database();
+                // Its history says that its units are of the schema.
+                let _history = database.history();
+                let own = &database.units()[unit as usize - 1];
+                let (schema, capacity) = (self.schema, self.capacity);
+                needed_cells(alloc, schema, capacity, database, (own, statement))
+            }
+            None => Ok(None),
+        }
+    }
+
+    // The look of a passage at a cell, if the schema has it.
+    fn look_at_cell(&self, numbers: &Numbers, passage: Passage, name: &CellName) -> Option<Look>
+        requires before { IsArray numbers.now.arrays passage.before }
+        requires after { IsArray numbers.now.arrays passage.after }
+        requires meeting { IsMeeting self.now }
+        ensures place { IfSome result (λ l. l.place ≡ place_of self.now name.now) }
+        ensures before { IfSome result (λ l. slice_get (elements numbers.now.arrays passage.before) l.place ≡ Some l.before) }
+        ensures after { IfSome result (λ l. slice_get (elements numbers.now.arrays passage.after) l.place ≡ Some l.after) }
+    {
+        let number = cell_number(self.schema, self.capacity, name)?;
+        let place = number.checked_add(self.units() as usize)?;
+        numbers.look_at(place, passage.before, passage.after)
+    }
+
+    // The looks of a passage at its unit and at these cells.
+    fn looks_at(
+        &self,
+        alloc: Global,
+        numbers: &Numbers,
+        passage: Passage,
+        names: &[CellName],
+    ) -> Result<Option<Row<Look>>, AllocError>
+        requires meeting { IsMeeting self.now }
+        requires numbered { 0 < passage.unit }
+        requires before { IsArray numbers.now.arrays passage.before }
+        requires after { IsArray numbers.now.arrays passage.after }
+        ensures { IfOk result (λ found. IfSome found (AreLooks self.now numbers.now passage names.now)) }
+    {
+        let mut looks = Row::of(Vec::new(alloc));
+        let place = passage.unit as usize - 1;
+        let Some(own) = numbers.look_at(place, passage.before, passage.after) else {
+            return Ok(None);
+        };
+        looks.push(own)?;
+        for name in names {
+            let Some(look) = self.look_at_cell(numbers, passage, name) else {
+                return Ok(None);
+            };
+            looks.push(look)?;
+        }
+        Ok(Some(looks))
+    }
+}
+
+impl Search {
+    // Enters the transition of a passage, which looks at these cells; a record was changed, or none was.
+    fn remember(
+        &mut self,
+        alloc: Global,
+        meeting: &Meeting,
+        passage: Passage,
+        names: &[CellName],
+        changing: bool,
+    ) -> Result<(), AllocError>
+        requires meeting { IsMeeting meeting.now }
+        requires numbered { 0 < passage.unit }
+        requires passed { (o : List ℕ) × IsPassage meeting.now self.old.numbers o names.now changing passage }
+        requires seen { AreSeen meeting.now self.old.numbers.contents self.old.seen }
+        ensures seen { OnOk result (AreSeen meeting.now self.old.numbers.contents self.new.seen) }
+        ensures rest { OnOk result (self.new ≡ record self.old { seen = self.new.seen }) }
+    {
+        what_is_looked_at_determines();
+        let Some(looks) = meeting.looks_at(alloc, &self.numbers, passage, names)? else {
+            return Ok(());
+        };
+        let transition = Transition {
+            unit: passage.unit,
+            looks,
+            // Not asked for.
+            status: 0,
+        };
+        if changing {
+            self.seen.changing.enter(transition)
+        } else {
+            self.seen.plain.enter(transition)
+        }
+    }
+
+    // The number of the state to which the unit's turn leads where the order at this place leads: its statement is made.
+    fn made_state<'a>(
+        &mut self,
+        alloc: Global,
+        meeting: &Meeting<'a>,
+        place: usize,
+        walk: &mut Walk<'a>,
+        unit: u8,
+    ) -> Result<u32, AllocError>
+        requires meeting { IsMeeting meeting.now }
+        requires at { IsAt meeting.now place unit self.old }
+        requires within { place < length self.old.found.orders }
+        requires stands { Stands meeting.now walk.old }
+        requires turn { can_turn meeting.now (history_of meeting.now (slice_index_or self.old.found.orders place [])) unit ≡ true }
+        ensures stands { OnOk result (Stands meeting.now walk.new) }
+        ensures reaches { IfOk result (Reaches meeting.now (slice_index_or self.old.found.orders place [] ++ unit ∷ []) self.old self.new) }
+    {
+        let order = self.found.order(alloc, place)?;
+        meeting.go_to(alloc, walk, order.as_slice())?;
+        let names = meeting.cells_at(alloc, walk, unit)?;
+        let before = self.found.number(place);
+        let after = meeting.number_after(alloc, walk, unit, &mut self.numbers, before)?;
+        if let Some(names) = names {
+            let changing = has_changed_record(walk);
+            let passage = Passage {
+                unit,
+                before,
+                after,
+            };
+            self.remember(alloc, meeting, passage, names.as_slice(), changing)?;
+        }
+        Ok(after)
+    }
+
+    /// The number of the state to which the unit's turn leads where the order at this place leads. The statement is made only if what it
+    /// looks at was not looked at before.
+    pub(crate) fn next_state<'a>(
+        &mut self,
+        alloc: Global,
+        meeting: &Meeting<'a>,
+        place: usize,
+        walk: &mut Walk<'a>,
+        unit: u8,
+    ) -> Result<u32, AllocError>
+        requires meeting { IsMeeting meeting.now }
+        requires at { IsAt meeting.now place unit self.old }
+        requires within { place < length self.old.found.orders }
+        requires stands { Stands meeting.now walk.old }
+        requires turn { can_turn meeting.now (history_of meeting.now (slice_index_or self.old.found.orders place [])) unit ≡ true }
+        ensures stands { OnOk result (Stands meeting.now walk.new) }
+        ensures reaches { IfOk result (Reaches meeting.now (slice_index_or self.old.found.orders place [] ++ unit ∷ []) self.old self.new) }
+    {
+        let state = self.found.number(place);
+        match self.seen.find(meeting, &self.numbers, state, unit) {
+            Some(known) => self.numbers.put_looks(alloc, state, known.looks.as_slice()),
+            None => self.made_state(alloc, meeting, place, walk, unit),
+        }
+    }
+}
