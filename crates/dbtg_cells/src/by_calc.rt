@@ -129,7 +129,7 @@ fn first_behind(listed: &[u32], numbers: &[Number], values: &[Value], number: u3
 fn entry_has_values(numbers: &[Number], number: u32, values: &[Value]) -> bool
     ensures { result ≡ some_and (has_values values.now) (entry_of number numbers.now) }
 {
-    entry_at(numbers, number).is_some_and(|entry| entry.has_values(values))
+    matches!(entry_at(numbers, number), Some(entry) if entry.has_values(values))
 }
 
 // The least number above another whose entry has the values.
@@ -194,7 +194,7 @@ fn entry_has_picked(
 ) -> bool
     ensures { result ≡ some_and (has_values (picked item_numbers.now items.now)) (entry_of number numbers.now) }
 {
-    entry_at(numbers, number).is_some_and(|entry| entry.has_picked(item_numbers, items))
+    matches!(entry_at(numbers, number), Some(entry) if entry.has_picked(item_numbers, items))
 }
 
 // The least number above another whose entry has the items with these numbers.

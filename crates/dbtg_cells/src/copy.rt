@@ -24,7 +24,12 @@ pub(crate) fn copy_numbers(alloc: Global, numbers: &[Number]) -> Result<Vec<Numb
 {
     let mut copies = Vec::with_capacity(alloc, numbers.len())?;
     for number in numbers {
-        copies.push(number.copy(alloc)?)?;
+        // Most numbers of a large extent are not used: nothing of them has to be copied but a byte.
+        if number.is_live() {
+            copies.push_reserved(number.copy(alloc)?);
+        } else {
+            copies.push_reserved(number.unused());
+        }
     }
     Ok(copies)
 }

@@ -216,7 +216,7 @@ pub(crate) fn find_along(
 pub(crate) fn has_sort_key(own: &Option<Value>, sort: &Value) -> bool
     ensures { result ≡ some_and (value_eq sort.now) own.now }
 {
-    own.as_ref().is_some_and(|own| value_eq(sort, own))
+    matches!(own, Some(own) if value_eq(sort, own))
 }
 
 // Whether a node has this sort key, other than the one that is left out.

@@ -7,7 +7,7 @@ use dbtg_schema::{AreaNo, RecordNo, SetNo};
 /// The name of a cell. A ring is named by its set and its owner's record type and number, with none for SYSTEM; a
 /// slot by record type and number. The generation is part of what the cell holds. Names are ordered by kind, and
 /// then by what they name.
-#[derive(Clone, Copy, Debug, PartialEq, Eq, PartialOrd, Ord)]
+#[derive(Clone, Copy, Debug, PartialEq, Eq, PartialOrd)]
 pub enum CellName {
     Usage(AreaNo),
     Extent(RecordNo),

@@ -66,16 +66,14 @@ fn place_among(nodes: &[u32], labels: &[u64], node: usize) -> usize
 fn node_at(nodes: &[u32], place: usize) -> Option<usize>
     ensures { result ≡ slice_get nodes.now place }
 {
-    nodes.get(place).map(|node| *node as usize)
+    Some(*nodes.get(place)? as usize)
 }
 
 // The label of the node at a place, if there is one.
 fn label_at(nodes: &[u32], labels: &[u64], place: usize) -> Option<u64>
     ensures { result ≡ option_map (slice_index labels.now) (slice_get nodes.now place) }
 {
-    nodes
-        .get(place)
-        .map(|node| label_of(labels, *node as usize))
+    Some(label_of(labels, node_at(nodes, place)?))
 }
 
 // The label of the node before a place, if there is one.

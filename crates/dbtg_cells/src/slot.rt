@@ -72,7 +72,7 @@ impl Slot {
     pub fn is_live(&self, generation: u8) -> bool
         ensures { result ≡ some_and (λ r. r.generation == generation) self.now }
     {
-        self.record().is_some_and(|it| it.generation == generation)
+        matches!(&self.stored, Some(it) if it.generation == generation)
     }
 
     /// The record.
@@ -134,7 +134,7 @@ impl Slot {
     pub fn has_next_version(&self) -> bool
         ensures { result ≡ some_and (λ r. nat_lt (r.version + 1) (2 ^ 64)) self.now }
     {
-        self.record().is_some_and(|it| it.version < u64::MAX)
+        matches!(&self.stored, Some(it) if it.version < u64::MAX)
     }
 
     /// Gives the record the next version. A vacant slot stays vacant.

@@ -1,11 +1,12 @@
 //! The image of a database, read from each cell where it is.
-ghost use Rattle.std.specs.Prelude.{◌≡◌, ◌++◌, [], IfOk, OnOk, Some, length, map, option_and_then, option_copied, option_map, slice_get, unwrap_or};
+ghost use Rattle.std.specs.Prelude.{◌≡◌, ◌<◌, ◌^◌, ◌++◌, [], IfOk, OnOk, Some, length, map, option_and_then, option_copied, option_map, slice_get, unwrap_or};
 ghost use Rattle.std.specs.List.{flat_map, range_with_len};
 ghost use Rattle.dbtg_schema.specs.Structure.{set_numbers};
+ghost use Rattle.dbtg_cells.specs.Numbers.{is_used, numbers_where};
 ghost use Rattle.dbtg_unit.specs.Hands.Hands.{cell_of};
 ghost use Rattle.dbtg_unit.specs.Hands.InHand.{numbers_of, users_of};
 ghost use Rattle.dbtg_step.specs.Machine.SequentialDatabase.{unit_at};
-ghost use Rattle.dbtg_step.specs.Inside.Imaging.{cell_in, found_cell, found_in, generations_in, image_from, list_of, lists_of, next_in, occurrence_at, record_of, records_of, stored_at, version_of, versions_of};
+ghost use Rattle.dbtg_step.specs.Inside.Imaging.{cell_in, found_cell, found_in, generations_in, image_from, list_of, lists_of, next_in, occurrence_at, owned_lists, record_of, records_of, stored_at, version_of, versions_of};
 
 use crate::parts::{CellLocation, Parts, UnitState};
 use dbtg_cells::{
@@ -140,6 +141,16 @@ fn find_extent<'a>(
     }
 }
 
+// The number of the record at this place among those of its type. Only the numbers that records have are looked at, so that an image
+// costs what is stored, and not what could be.
+fn live_at(extent: &Extent, place: u32) -> u32
+    requires there { place < length (numbers_where is_used extent.now.numbers) }
+    requires few { place < 2 ^ 16 }
+    ensures { slice_get (numbers_where is_used extent.now.numbers) place ≡ Some result }
+{
+    extent.nth_live((place + 1) as i32).unwrap_or(0)
+}
+
 fn find_usage<'a>(
     schema: &Schema,
     capacity: u16,
@@ -201,10 +212,13 @@ fn add_each_record(
     rtype: RecordNo,
     records: &mut Vec<(DbKey, Row<Value>)>,
 ) -> Result<(), AllocError>
-    ensures { OnOk result (records.new.items ≡ records.old.items ++ records_of capacity (found_in schema.now capacity source.entry) rtype) }
+    ensures { OnOk result (records.new.items ≡ records.old.items ++ records_of (found_in schema.now capacity source.entry) rtype) }
 {
-    for turn in 0..capacity {
-        let number = turn as u32 + 1;
+    let Some(extent) = find_extent(schema, capacity, source, rtype) else {
+        return Ok(());
+    };
+    for place in 0..extent.count_live() {
+        let number = live_at(extent, place);
         let stored = find_stored(schema, capacity, source, rtype, number);
         add_record(alloc, rtype, number, stored, records)?;
     }
@@ -218,10 +232,13 @@ fn add_each_version(
     rtype: RecordNo,
     versions: &mut Vec<(DbKey, u64)>,
 ) -> Result<(), AllocError>
-    ensures { OnOk result (versions.new.items ≡ versions.old.items ++ versions_of capacity (found_in schema.now capacity source.entry) rtype) }
+    ensures { OnOk result (versions.new.items ≡ versions.old.items ++ versions_of (found_in schema.now capacity source.entry) rtype) }
 {
-    for turn in 0..capacity {
-        let number = turn as u32 + 1;
+    let Some(extent) = find_extent(schema, capacity, source, rtype) else {
+        return Ok(());
+    };
+    for place in 0..extent.count_live() {
+        let number = live_at(extent, place);
         let stored = find_stored(schema, capacity, source, rtype, number);
         add_version(rtype, number, stored, versions)?;
     }
@@ -234,7 +251,7 @@ fn all_records(
     capacity: u16,
     source: CellSource<'_>,
 ) -> Result<Row<(DbKey, Row<Value>)>, AllocError>
-    ensures { IfOk result (λ row. row ≡ flat_map (records_of capacity (found_in schema.now capacity source.entry)) (range_with_len 0 (length schema.now.types))) }
+    ensures { IfOk result (λ row. row ≡ flat_map (records_of (found_in schema.now capacity source.entry)) (range_with_len 0 (length schema.now.types))) }
 {
     let mut records = Vec::new(alloc);
     let types = schema.types().len() as u8;
@@ -251,7 +268,7 @@ fn all_versions(
     capacity: u16,
     source: CellSource<'_>,
 ) -> Result<Row<(DbKey, u64)>, AllocError>
-    ensures { IfOk result (λ row. row ≡ flat_map (versions_of capacity (found_in schema.now capacity source.entry)) (range_with_len 0 (length schema.now.types))) }
+    ensures { IfOk result (λ row. row ≡ flat_map (versions_of (found_in schema.now capacity source.entry)) (range_with_len 0 (length schema.now.types))) }
 {
     let mut versions = Vec::new(alloc);
     let types = schema.types().len() as u8;
@@ -287,10 +304,13 @@ fn add_owned_lists(
     rtype: RecordNo,
     lists: &mut Vec<(Owner, Row<DbKey>)>,
 ) -> Result<(), AllocError>
-    ensures { OnOk result (lists.new.items ≡ lists.old.items ++ flat_map (λ n. list_of (occurrence_at (found_in schema.now capacity source.entry (CellName.Ring set (Some (rtype, n)))))) (range_with_len 1 capacity)) }
+    ensures { OnOk result (lists.new.items ≡ lists.old.items ++ owned_lists (found_in schema.now capacity source.entry) set rtype) }
 {
-    for turn in 0..capacity {
-        let name = CellName::Ring(set, Some((rtype, turn as u32 + 1)));
+    let Some(extent) = find_extent(schema, capacity, source, rtype) else {
+        return Ok(());
+    };
+    for place in 0..extent.count_live() {
+        let name = CellName::Ring(set, Some((rtype, live_at(extent, place))));
         add_list(alloc, find_ring(schema, capacity, source, &name), lists)?;
     }
     Ok(())
@@ -304,7 +324,7 @@ fn add_each_list(
     set: SetNo,
     lists: &mut Vec<(Owner, Row<DbKey>)>,
 ) -> Result<(), AllocError>
-    ensures { OnOk result (lists.new.items ≡ lists.old.items ++ lists_of schema.now capacity (found_in schema.now capacity source.entry) set) }
+    ensures { OnOk result (lists.new.items ≡ lists.old.items ++ lists_of schema.now (found_in schema.now capacity source.entry) set) }
 {
     if schema.is_system(set) {
         let name = CellName::Ring(set, None);
@@ -322,7 +342,7 @@ fn all_lists(
     capacity: u16,
     source: CellSource<'_>,
 ) -> Result<Row<Row<(Owner, Row<DbKey>)>>, AllocError>
-    ensures { IfOk result (λ row. row ≡ map (lists_of schema.now capacity (found_in schema.now capacity source.entry)) (set_numbers schema.now)) }
+    ensures { IfOk result (λ row. row ≡ map (lists_of schema.now (found_in schema.now capacity source.entry)) (set_numbers schema.now)) }
 {
     let mut all = Vec::new(alloc);
     let sets = schema.sets().len() as u8;
@@ -363,9 +383,9 @@ fn next_numbers(
 fn generations(alloc: Global, extent: &Extent) -> Result<Row<u8>, AllocError>
     ensures { IfOk result (λ row. row ≡ generations_in extent.now.numbers) }
 {
-    let mut all = Vec::new(alloc);
+    let mut all = Vec::with_capacity(alloc, extent.capacity() as usize)?;
     for turn in 0..extent.capacity() {
-        all.push(extent.generation(turn + 1))?;
+        all.push_reserved(extent.generation(turn + 1));
     }
     Ok(Row::of(all))
 }
@@ -429,7 +449,7 @@ pub fn read_image(
     capacity: u16,
     source: CellSource<'_>,
 ) -> Result<Image, AllocError>
-    ensures { IfOk result (λ image. image ≡ image_from schema.now capacity (found_in schema.now capacity source.entry)) }
+    ensures { IfOk result (λ image. image ≡ image_from schema.now (found_in schema.now capacity source.entry)) }
 {
     Ok(Image {
         records: all_records(alloc, schema, capacity, source)?,

@@ -1,53 +1,20 @@
 //! The core before its first step: all cells at home as in the opening database, each unit before its script.
-ghost use Rattle.std.specs.Prelude.{◌≡◌, ℕ, ◌≤◌, ◌++◌, ◌∷◌, [], None, map, length, replicate, IfOk, OnOk};
-ghost use Rattle.std.specs.List.{flat_map, range_with_len};
+ghost use Rattle.std.specs.Prelude.{◌≡◌, ◌≤◌, ◌++◌, ◌∷◌, [], None, Some, true, map, length, replicate, IfOk, OnOk};
+ghost use Rattle.std.specs.List.{flat_map, list_all, range_with_len};
 ghost use Rattle.dbtg_schema.specs.Structure.{set_numbers};
-ghost use Rattle.dbtg_cells.specs.Cells.{shown};
-ghost use Rattle.dbtg_cells.specs.Shown.{RingValue};
+ghost use Rattle.dbtg_cells.specs.Shown.{RingValue, SlotValue, UsageValue};
 ghost use Rattle.dbtg_cells.specs.CellNumbers.{cells_in_order, rings_of, slots_of};
 ghost use Rattle.dbtg_unit.specs.Database.State.Base.{opening};
-ghost use Rattle.dbtg_unit.specs.Database.State.Cells.{cell};
 ghost use Rattle.dbtg_unit.specs.Database.State.Units.{opening_unit};
 ghost use Rattle.dbtg_unit.specs.Hands.Local.{AllAgree, names_of};
 ghost use Rattle.dbtg_step.specs.Core.Openings.{homes_of, homes_shown};
-ghost use Rattle.dbtg_step.specs.Inside.Openings.{locations_of, opening_runner, runners_from};
+ghost use Rattle.dbtg_step.specs.Inside.Openings.{Adds, is_home, locations_of, opening_runner, runners_from, unused_extent};
 
 use crate::parts::{CellLocation, UnitState};
-use dbtg_cells::{Cell, CellName, Extent, Layout, Owner, Ring, Slot, Usage};
+use dbtg_cells::{Cell, CellName, Extent, Layout, Owner, Ring, Slot, Usage, cell_count};
 use dbtg_schema::{AreaNo, RecordNo, Row, Schema, SetNo};
 use dbtg_unit::{Currency, Held, Kept, LAST_UNIT, Owners, Statement, Unit};
 use std::alloc::{AllocError, Global};
-
-fn opening_ring(alloc: Global, schema: &Schema, set: SetNo, owner: &Option<(RecordNo, u32)>) -> Ring
-    ensures { (capacity : ℕ) → RingValue result.occurrence ≡ cell schema.now capacity (opening schema.now) (CellName.Ring set owner.now) }
-{
-    let mut ring = Ring::absent(alloc);
-    if owner.is_some() {
-        return ring;
-    }
-    if !schema.is_system(set) {
-        return ring;
-    }
-    ring.open(Owner::System);
-    ring
-}
-
-// The cell with this name in the opening database.
-fn opening_cell(
-    alloc: Global,
-    schema: &Schema,
-    capacity: u16,
-    name: &CellName,
-) -> Result<Cell, AllocError>
-    ensures { IfOk result (λ x. shown x ≡ cell schema.now capacity (opening schema.now) name.now) }
-{
-    match name {
-        CellName::Usage(_area) => Ok(Cell::Usage(Usage::new(alloc))),
-        CellName::Extent(_rtype) => Ok(Cell::Extent(Extent::new(alloc, capacity)?)),
-        CellName::Ring(set, owner) => { Ok(Cell::Ring(opening_ring(alloc, schema, *set, owner))) }
-        CellName::Slot(_rtype, _number) => Ok(Cell::Slot(Slot::vacant())),
-    }
-}
 
 // The items with one more.
 fn add<T: Copy>(items: &mut Vec<T>, item: &T) -> Result<(), AllocError>
@@ -141,7 +108,7 @@ pub fn cell_names(
 ) -> Result<Vec<CellName>, AllocError>
     ensures { IfOk result (λ names. names.items ≡ cells_in_order schema.now capacity) }
 {
-    let mut names = Vec::new(alloc);
+    let mut names = Vec::with_capacity(alloc, cell_count(schema, capacity))?;
     add_usages(schema, &mut names)?;
     add_extents(schema, &mut names)?;
     add_rings(schema, capacity, &mut names)?;
@@ -149,52 +116,113 @@ pub fn cell_names(
     Ok(names)
 }
 
-// The cells of these names, as the opening database has them.
-fn cells_of(
+fn open_usages(
+    alloc: Global,
+    schema: &Schema,
+    table: &mut Vec<CellLocation>,
+) -> Result<(), AllocError>
+    ensures { OnOk result (Adds table.old.items (length schema.now.areas) (UsageValue []) table.new.items) }
+{
+    for _area in 0..schema.areas().len() {
+        table.push(CellLocation::Home(Cell::Usage(Usage::new(alloc))))?;
+    }
+    Ok(())
+}
+
+fn open_extents(
     alloc: Global,
     schema: &Schema,
     capacity: u16,
-    names: &[CellName],
-) -> Result<Vec<Cell>, AllocError>
-    ensures { IfOk result (λ cells. homes_shown cells.items ≡ homes_of schema.now capacity names.now) }
+    table: &mut Vec<CellLocation>,
+) -> Result<(), AllocError>
+    ensures { OnOk result (Adds table.old.items (length schema.now.types) (unused_extent capacity) table.new.items) }
 {
-    let mut cells = Vec::with_capacity(alloc, names.len())?;
-    for name in names {
-        cells.push(opening_cell(alloc, schema, capacity, name)?)?;
+    for _rtype in 0..schema.types().len() {
+        let extent = Extent::new(alloc, capacity)?;
+        table.push(CellLocation::Home(Cell::Extent(extent)))?;
     }
-    Ok(cells)
+    Ok(())
 }
 
-/// All cells of the schema at this capacity in the order of their numbers, as the opening database has them.
-pub fn opening_cells(alloc: Global, schema: &Schema, capacity: u16) -> Result<Vec<Cell>, AllocError>
-    ensures { IfOk result (λ cells. homes_shown cells.items ≡ homes_of schema.now capacity (cells_in_order schema.now capacity)) }
+// So many rings without an occurrence.
+fn add_absent_rings(
+    alloc: Global,
+    count: u16,
+    table: &mut Vec<CellLocation>,
+) -> Result<(), AllocError>
+    ensures { OnOk result (Adds table.old.items count (RingValue None) table.new.items) }
 {
-    let names = cell_names(alloc, schema, capacity)?;
-    cells_of(alloc, schema, capacity, names.as_slice())
-}
-
-/// Hands with all cells of the schema at this capacity, each at its number and as the opening database has it.
-pub fn hold_opening_cells(alloc: Global, schema: &Schema, capacity: u16) -> Result<Held, AllocError>
-    ensures areas { IfOk result (λ held. held.areas ≡ []) }
-    ensures names { IfOk result (λ held. names_of held.cells ≡ cells_in_order schema.now capacity) }
-    ensures cells { IfOk result (λ held. AllAgree schema.now capacity (opening schema.now) held.cells) }
-{
-    let names = cell_names(alloc, schema, capacity)?;
-    let cells = cells_of(alloc, schema, capacity, names.as_slice())?;
-    let layout = Layout::of(schema, capacity);
-    let guesses = Owners::none(schema.sets().len());
-    Ok(Held::numbered(alloc, layout, names, cells, guesses))
-}
-
-// The table with these cells at home.
-fn table_of(alloc: Global, cells: Vec<Cell>) -> Result<Vec<CellLocation>, AllocError>
-    ensures { IfOk result (λ table. locations_of table.items ≡ homes_shown cells.items) }
-{
-    let mut table = Vec::with_capacity(alloc, cells.len())?;
-    for cell in cells {
-        table.push(CellLocation::Home(cell))?;
+    table.reserve(count as usize)?;
+    for _turn in 0..count {
+        table.push_reserved(CellLocation::Home(Cell::Ring(Ring::absent(alloc))));
     }
-    Ok(table)
+    Ok(())
+}
+
+// The ring of SYSTEM, whose occurrence is always there.
+fn system_ring(alloc: Global) -> Ring
+    ensures { result.occurrence ≡ Some (record { owner = Owner.System; members = [] }) }
+{
+    let mut ring = Ring::absent(alloc);
+    ring.open(Owner::System);
+    ring
+}
+
+fn open_rings_of(
+    alloc: Global,
+    schema: &Schema,
+    capacity: u16,
+    set: SetNo,
+    table: &mut Vec<CellLocation>,
+) -> Result<(), AllocError>
+    ensures { OnOk result (locations_of table.new.items ≡ locations_of table.old.items ++ homes_of schema.now capacity (rings_of schema.now capacity set)) }
+{
+    if schema.is_system(set) {
+        table.push(CellLocation::Home(Cell::Ring(system_ring(alloc))))?;
+        return Ok(());
+    }
+    match schema.owner_type(set) {
+        Some(_) => add_absent_rings(alloc, capacity, table),
+        None => Ok(()),
+    }
+}
+
+fn open_rings(
+    alloc: Global,
+    schema: &Schema,
+    capacity: u16,
+    table: &mut Vec<CellLocation>,
+) -> Result<(), AllocError>
+    ensures { OnOk result (locations_of table.new.items ≡ locations_of table.old.items ++ flat_map (λ s. homes_of schema.now capacity (rings_of schema.now capacity s)) (set_numbers schema.now)) }
+{
+    for set in 0..schema.sets().len() as u8 {
+        open_rings_of(alloc, schema, capacity, SetNo::new(set), table)?;
+    }
+    Ok(())
+}
+
+// So many slots without a record.
+fn add_vacant_slots(count: u16, table: &mut Vec<CellLocation>) -> Result<(), AllocError>
+    ensures { OnOk result (Adds table.old.items count (SlotValue None) table.new.items) }
+{
+    table.reserve(count as usize)?;
+    for _turn in 0..count {
+        table.push_reserved(CellLocation::Home(Cell::Slot(Slot::vacant())));
+    }
+    Ok(())
+}
+
+fn open_slots(
+    schema: &Schema,
+    capacity: u16,
+    table: &mut Vec<CellLocation>,
+) -> Result<(), AllocError>
+    ensures { OnOk result (locations_of table.new.items ≡ locations_of table.old.items ++ flat_map (λ t. homes_of schema.now capacity (slots_of capacity t)) (range_with_len 0 (length schema.now.types))) }
+{
+    for _rtype in 0..schema.types().len() {
+        add_vacant_slots(capacity, table)?;
+    }
+    Ok(())
 }
 
 /// All cells of the schema at this capacity, at home as in the opening database.
@@ -205,7 +233,46 @@ pub fn opening_table(
 ) -> Result<Vec<CellLocation>, AllocError>
     ensures { IfOk result (λ table. locations_of table.items ≡ homes_of schema.now capacity (cells_in_order schema.now capacity)) }
 {
-    table_of(alloc, opening_cells(alloc, schema, capacity)?)
+    let mut table = Vec::with_capacity(alloc, cell_count(schema, capacity))?;
+    open_usages(alloc, schema, &mut table)?;
+    open_extents(alloc, schema, capacity, &mut table)?;
+    open_rings(alloc, schema, capacity, &mut table)?;
+    open_slots(schema, capacity, &mut table)?;
+    Ok(table)
+}
+
+// The cells of a table that has all of them at home.
+fn cells_of(alloc: Global, table: Vec<CellLocation>) -> Result<Vec<Cell>, AllocError>
+    requires { list_all is_home table.items ≡ true }
+    ensures { IfOk result (λ cells. homes_shown cells.items ≡ locations_of table.items) }
+{
+    let mut cells = Vec::with_capacity(alloc, table.len())?;
+    for place in table {
+        if let CellLocation::Home(cell) = place {
+            cells.push_reserved(cell);
+        }
+    }
+    Ok(cells)
+}
+
+/// All cells of the schema at this capacity in the order of their numbers, as the opening database has them.
+pub fn opening_cells(alloc: Global, schema: &Schema, capacity: u16) -> Result<Vec<Cell>, AllocError>
+    ensures { IfOk result (λ cells. homes_shown cells.items ≡ homes_of schema.now capacity (cells_in_order schema.now capacity)) }
+{
+    cells_of(alloc, opening_table(alloc, schema, capacity)?)
+}
+
+/// Hands with all cells of the schema at this capacity, each at its number and as the opening database has it.
+pub fn hold_opening_cells(alloc: Global, schema: &Schema, capacity: u16) -> Result<Held, AllocError>
+    ensures areas { IfOk result (λ held. held.areas ≡ []) }
+    ensures names { IfOk result (λ held. names_of held.cells ≡ cells_in_order schema.now capacity) }
+    ensures cells { IfOk result (λ held. AllAgree schema.now capacity (opening schema.now) held.cells) }
+{
+    let names = cell_names(alloc, schema, capacity)?;
+    let cells = opening_cells(alloc, schema, capacity)?;
+    let layout = Layout::of(schema, capacity);
+    let guesses = Owners::none(schema.sets().len());
+    Ok(Held::numbered(alloc, layout, names, cells, guesses))
 }
 
 fn nones<T: Copy>(alloc: Global, count: usize) -> Result<Row<Option<T>>, AllocError>

@@ -337,8 +337,8 @@ module _ (schema : Lists) (capacity : ℕ) (hands : Hands) (units : List Unit) (
   legal = replay_keeps_legal schema capacity (opening_state schema (length units)) history w.sound (opening_is_legal schema capacity (length units)) w.history_of.fitting
 
   -- the image that is read from the held cells
-  pub whole_image : image_from schema capacity (λ c. cell_of c hands.cells) ≡ image_of schema capacity now.database
-  whole_image = read_is_image schema capacity now.database legal.legal (λ c. cell_of c hands.cells) (λ c h. found_in_hand schema capacity now.database c hands.cells w.cells (cell_held schema capacity hands w.all c h))
+  pub whole_image : image_from schema (λ c. cell_of c hands.cells) ≡ image_of schema capacity now.database
+  whole_image = read_is_image schema capacity now.database w.sound legal.legal (λ c. cell_of c hands.cells) (λ c h. found_in_hand schema capacity now.database c hands.cells w.cells (cell_held schema capacity hands w.all c h))
 
   -- the held cell of a name: the cell of the database, if it is one of the schema
   pub whole_cell : (c : CellName) (r : Option (Bor Cell)) → option_copied r ≡ cell_of c hands.cells → IfSome r (λ x. shown x.now ≡ cell schema capacity now.database c) × (is_some r ≡ is_cell schema capacity c)

@@ -141,5 +141,5 @@ module _ (schema : Lists) (capacity : ℕ) (parts : Parts) (well : IsWell schema
       ∙ ap (replay_entries schema capacity (opening_state schema (length parts.runners.items))) (entries_again schema capacity parts.history.items))
 
   -- the image that is read is of the database of the history
-  pub read_is : image_from schema capacity (found_cell schema capacity parts) ≡ image_of schema capacity (replay_entries schema capacity (opening_state schema (length parts.runners.items)) parts.history.items).database
-  read_is = read_is_image schema capacity (database_of schema capacity parts) well.lawful.legal.legal (found_cell schema capacity parts) shows_each ∙ ap (image_of schema capacity) database_is
+  pub read_is : image_from schema (found_cell schema capacity parts) ≡ image_of schema capacity (replay_entries schema capacity (opening_state schema (length parts.runners.items)) parts.history.items).database
+  read_is = read_is_image schema capacity (database_of schema capacity parts) well.sound well.lawful.legal.legal (found_cell schema capacity parts) shows_each ∙ ap (image_of schema capacity) database_is

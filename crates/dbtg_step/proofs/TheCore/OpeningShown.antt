@@ -1,12 +1,12 @@
 -- The core before its first step is the machine before its scripts.
-use Rattle.std.proofs.Common.{ℕ, zero, suc, ◌≡◌, ◌+◌, Bool, true, false, ◌&&◌, List, [], ◌∷◌, ◌++◌, Option, Some, None, map, length, replicate, slice_get, refl, sym, ap, ◌∙◌, subst, arith, append_assoc}
-use Rattle.std.specs.Prelude.{is_some, option_map, if◌then◌else◌}
-use Rattle.std.specs.List.{range_with_len, zip}
-use Rattle.std.proofs.lemmas.List.{length-map, length-replicate}
+use Rattle.std.proofs.Common.{ℕ, zero, suc, ◌≡◌, ◌+◌, Bool, true, false, cond, ◌&&◌, List, [], ◌∷◌, ◌++◌, Option, Some, None, map, length, replicate, slice_get, refl, sym, ap, ◌∙◌, subst, arith, append_assoc}
+use Rattle.std.specs.Prelude.{option_map, unwrap_or, if◌then◌else◌}
+use Rattle.std.specs.List.{flat_map, list_all, range_with_len, zip}
+use Rattle.std.proofs.lemmas.List.{length-map, length-replicate, map-append, replicate_more}
 use Rattle.std.proofs.lemmas.Option.{slice_get-map}
 use Rattle.dbtg_schema.specs.Lists.{Lists}
 use Rattle.dbtg_schema.specs.Sound.{IsSound}
-use Rattle.dbtg_schema.specs.Structure.{is_system}
+use Rattle.dbtg_schema.specs.Structure.{is_system, owner_type, set_numbers}
 use Rattle.dbtg_cells.specs.declared.cell.Cell.{Cell}
 use Rattle.dbtg_cells.specs.declared.extent.Number.{Number}
 use Rattle.dbtg_cells.specs.declared.key.Owner.{Owner}
@@ -14,17 +14,18 @@ use Rattle.dbtg_cells.specs.declared.key.Owner.TheVariants.{System, Rec}
 use Rattle.dbtg_cells.specs.declared.name.CellName.{CellName}
 use Rattle.dbtg_cells.specs.declared.name.CellName.TheVariants.{Usage, Extent, Ring, Slot}
 use Rattle.dbtg_cells.specs.Cells.{shown}
-use Rattle.dbtg_cells.specs.Shown.{UsageValue, ExtentValue, RingValue, SlotValue}
+use Rattle.dbtg_cells.specs.Shown.{CellValue, UsageValue, ExtentValue, RingValue, SlotValue}
 use Rattle.dbtg_cells.specs.Names.{name_below}
 use Rattle.dbtg_cells.proofs.Public.{stands_at}
-use Rattle.dbtg_cells.specs.CellNumbers.{cell_count, cell_number, cells_in_order}
+use Rattle.dbtg_cells.specs.CellNumbers.{cell_count, cell_number, cells_in_order, rings_of, slots_of}
 use Rattle.dbtg_unit.specs.declared.statement.Statement.{Statement}
 use Rattle.dbtg_unit.specs.Database.State.Base.{opening}
 use Rattle.dbtg_unit.specs.Database.State.Cells.{cell, number_of, ring_of}
 use Rattle.dbtg_unit.specs.Hands.Local.{AllAgree, names_of}
 use Rattle.dbtg_step.specs.declared.parts.Parts.{Parts}
 use Rattle.dbtg_step.specs.declared.parts.CellLocation.{CellLocation}
-use Rattle.dbtg_step.specs.Machine.Machine.{Home}
+use Rattle.dbtg_step.specs.declared.parts.CellLocation.TheVariants.{Home as AtHome, HeldBy as WithUnit}
+use Rattle.dbtg_step.specs.Machine.Machine.{CellLocation as Location, Home}
 use Rattle.dbtg_step.specs.Machine.Network.{network}
 use Rattle.dbtg_step.specs.Machine.Headline.{machine_of, opening_of, units_from}
 use Rattle.dbtg_step.specs.Laws.{scripts_fit}
@@ -34,13 +35,14 @@ use Rattle.dbtg_step.specs.Inside.Parts.{core_of, state_of}
 use Rattle.dbtg_step.specs.Core.Parts.{found_location, location_at, location_in, location_of, note_of, state_from, unit_state_of}
 use Rattle.dbtg_step.specs.Inside.Events.{HaveRings, IsWell, RunnerFits, RunnersFit}
 use Rattle.dbtg_step.specs.Core.Openings.{homes_of, homes_shown}
-use Rattle.dbtg_step.specs.Inside.Openings.{locations_of, opening_runner, runners_from}
+use Rattle.dbtg_step.specs.Inside.Openings.{Adds, is_home, locations_of, opening_runner, runners_from, unused_extent}
 use Rattle.dbtg_step.proofs.Runs.Headlines.{machine_is_opening}
 use Rattle.dbtg_step.proofs.Runs.EveryRun.{start_in_turn}
 use Rattle.dbtg_step.proofs.Runs.GuessesFit.{AllGuesses}
 use Rattle.dbtg_step.proofs.Network.NameOrder.{names_are_ordered}
 use Rattle.dbtg_step.proofs.Network.NeededCellsExist.{opening_has_rings}
 use Rattle.dbtg_step.proofs.Network.NetworkFacts.{needs_in_order, network_is_sequential}
+use Rattle.dbtg_step.proofs.TheCore.ImagesRead.{map_flat}
 use Rattle.dbtg_step.proofs.Runs.Opening.{opening_is_lawful}
 use Rattle.dbtg_unit.proofs.Public.{opening_is_legal}
 
@@ -50,12 +52,17 @@ none_numbers : (schema : Lists) (t a n : ℕ) → map (number_of schema (opening
 none_numbers schema t a zero = refl
 none_numbers schema t a (suc n) = ap (λ (xs : List Number). record { last = 0; calc = None } ∷ xs) (none_numbers schema t (a + 1) n)
 
+-- one more cell that shows the same
+pub one_more_same : (v : CellValue) (n : ℕ) (x : Cell) → shown x ≡ v → (before old new : List CellLocation) → Adds before n v old → new ≡ old ++ AtHome x ∷ [] → Adds before (n + 1) v new
+one_more_same v n x is before old new e g =
+    ap locations_of g ∙ map-append location_of old (AtHome x ∷ []) ∙ (λ i. e i ++ Home (is i) ∷ []) ∙ append_assoc (locations_of before) (replicate n (Home v)) (Home v ∷ []) ∙ ap (λ ys. locations_of before ++ ys) (replicate_more n (Home v))
+
 module _ (schema : Lists) (capacity : ℕ) where
-  pub usage_opens : (a : ℕ) → UsageValue [] ≡ cell schema capacity (opening schema) (Usage a)
+  usage_opens : (a : ℕ) → UsageValue [] ≡ cell schema capacity (opening schema) (Usage a)
   unfolding cell
   usage_opens a = refl
 
-  pub extent_opens : (t : ℕ) → ExtentValue (replicate capacity (record { last = 0; calc = None })) ≡ cell schema capacity (opening schema) (Extent t)
+  extent_opens : (t : ℕ) → ExtentValue (replicate capacity (record { last = 0; calc = None })) ≡ cell schema capacity (opening schema) (Extent t)
   unfolding cell
   extent_opens t = ap ExtentValue (sym (none_numbers schema t 1 capacity))
 
@@ -63,33 +70,75 @@ module _ (schema : Lists) (capacity : ℕ) where
   system_list s true = refl
   system_list s false = refl
 
-  pub system_opens : (s : ℕ) → RingValue (if is_system schema s then Some (record { owner = System; members = [] }) else None) ≡ cell schema capacity (opening schema) (Ring s None)
+  system_opens : (s : ℕ) → RingValue (if is_system schema s then Some (record { owner = System; members = [] }) else None) ≡ cell schema capacity (opening schema) (Ring s None)
   unfolding cell
   system_opens s = ap RingValue (sym (system_list s (is_system schema s)))
 
-  pub system_is_open : (s : ℕ) → is_system schema s ≡ true → RingValue (Some (record { owner = System; members = [] })) ≡ cell schema capacity (opening schema) (Ring s None)
+  system_is_open : (s : ℕ) → is_system schema s ≡ true → RingValue (Some (record { owner = System; members = [] })) ≡ cell schema capacity (opening schema) (Ring s None)
   system_is_open s e = sym (ap (λ b. RingValue (if b then Some (record { owner = System; members = [] }) else None)) e) ∙ system_opens s
-
-  pub owned_is_absent : (s : ℕ) → is_system schema s ≡ false → RingValue None ≡ cell schema capacity (opening schema) (Ring s None)
-  owned_is_absent s e = sym (ap (λ b. RingValue (if b then Some (record { owner = System; members = [] }) else None)) e) ∙ system_opens s
 
   owned_list : (s : ℕ) (o : Owner) (b : Bool) → None ≡ option_map (ring_of schema (opening schema) s o) (if b && false then Some [] else None)
   owned_list s o true = refl
   owned_list s o false = refl
 
-  pub owned_opens : (s : ℕ) (p : ℕ × ℕ) → RingValue None ≡ cell schema capacity (opening schema) (Ring s (Some p))
+  owned_opens : (s : ℕ) (p : ℕ × ℕ) → RingValue None ≡ cell schema capacity (opening schema) (Ring s (Some p))
   unfolding cell
   owned_opens s p = ap RingValue (owned_list s (Rec _) (is_system schema s))
 
-  pub any_owned_opens : (s : ℕ) (o : Option (ℕ × ℕ)) → is_some o ≡ true → RingValue None ≡ cell schema capacity (opening schema) (Ring s o)
-  any_owned_opens s None e = absurd (cc (e))
-  any_owned_opens s (Some p) e = owned_opens s p
-
-  pub slot_opens : (t n : ℕ) → SlotValue None ≡ cell schema capacity (opening schema) (Slot t n)
+  slot_opens : (t n : ℕ) → SlotValue None ≡ cell schema capacity (opening schema) (Slot t n)
   unfolding cell
   slot_opens t n = refl
 
   -- THE CELLS
+
+  all_same : (f : ℕ → CellName) (v : CellValue) → ((n : ℕ) → v ≡ cell schema capacity (opening schema) (f n)) → (a n : ℕ) → replicate n (Home v) ≡ homes_of schema capacity (map f (range_with_len a n))
+  all_same f v is a zero = refl
+  all_same f v is a (suc n) = λ i. Home (is a i) ∷ all_same f v is (a + 1) n i
+
+  usages_open : (n : ℕ) → replicate n (Home (UsageValue [])) ≡ homes_of schema capacity (map Usage (range_with_len 0 n))
+  usages_open n = all_same Usage (UsageValue []) usage_opens 0 n
+
+  extents_open : (n : ℕ) → replicate n (Home (unused_extent capacity)) ≡ homes_of schema capacity (map Extent (range_with_len 0 n))
+  extents_open n = all_same Extent (unused_extent capacity) extent_opens 0 n
+
+  pub slots_open : (t : ℕ) → replicate capacity (Home (SlotValue None)) ≡ homes_of schema capacity (slots_of capacity t)
+  slots_open t = all_same (Slot t) (SlotValue None) (slot_opens t) 1 capacity
+
+  pub system_ring_opens : (s : ℕ) → is_system schema s ≡ true → Home (RingValue (Some (record { owner = System; members = [] }))) ∷ [] ≡ homes_of schema capacity (rings_of schema capacity s)
+  system_ring_opens s e =
+      ap (λ v. Home v ∷ []) (system_is_open s e)
+      ∙ sym (ap (λ b. homes_of schema capacity (cond b (Ring s None ∷ []) (unwrap_or (option_map (λ t. map (λ n. Ring s (Some (t, n))) (range_with_len 1 capacity)) (owner_type schema s)) []))) e)
+
+  pub owned_rings_open : (s t : ℕ) → is_system schema s ≡ false → owner_type schema s ≡ Some t → replicate capacity (Home (RingValue None)) ≡ homes_of schema capacity (rings_of schema capacity s)
+  owned_rings_open s t e o =
+      all_same (λ n. Ring s (Some (t, n))) (RingValue None) (λ n. owned_opens s (t, n)) 1 capacity
+      ∙ sym (λ i. homes_of schema capacity (cond (e i) (Ring s None ∷ []) (unwrap_or (option_map (λ t. map (λ n. Ring s (Some (t, n))) (range_with_len 1 capacity)) (o i)) [])))
+
+  -- the four kinds of cells one after another
+  pub all_homes : (none usages extents rings slots : List CellLocation) → none ≡ [] → Adds none (length schema.areas) (UsageValue []) usages → Adds usages (length schema.types) (unused_extent capacity) extents
+      → locations_of rings ≡ locations_of extents ++ flat_map (λ s. homes_of schema capacity (rings_of schema capacity s)) (set_numbers schema)
+      → locations_of slots ≡ locations_of rings ++ flat_map (λ t. homes_of schema capacity (slots_of capacity t)) (range_with_len 0 (length schema.types))
+      → locations_of slots ≡ homes_of schema capacity (cells_in_order schema capacity)
+  all_homes none usages extents rings slots is a b c d =
+      let h : CellName → Location CellValue = λ n. Home (cell schema capacity (opening schema) n) in
+      let u : List CellName = map Usage (range_with_len 0 (length schema.areas)) in
+      let e : List CellName = map Extent (range_with_len 0 (length schema.types)) in
+      let r : List CellName = flat_map (rings_of schema capacity) (set_numbers schema) in
+      let s : List CellName = flat_map (slots_of capacity) (range_with_len 0 (length schema.types)) in
+      let first : locations_of usages ≡ map h u = a ∙ (λ i. locations_of (is i) ++ usages_open (length schema.areas) i) in
+      let second : locations_of extents ≡ map h u ++ map h e = b ∙ (λ i. first i ++ extents_open (length schema.types) i) in
+      let third : locations_of rings ≡ (map h u ++ map h e) ++ map h r = c ∙ (λ i. second i ++ sym (map_flat h (rings_of schema capacity) (set_numbers schema)) i) in
+      d ∙ (λ i. third i ++ sym (map_flat h (slots_of capacity) (range_with_len 0 (length schema.types))) i)
+      ∙ append_assoc (map h u ++ map h e) (map h r) (map h s) ∙ append_assoc (map h u) (map h e) (map h r ++ map h s)
+      ∙ sym (map-append h u (e ++ (r ++ s)) ∙ ap (λ ys. map h u ++ ys) (map-append h e (r ++ s) ∙ ap (λ ys. map h e ++ ys) (map-append h r s)))
+
+  -- the cells of the opening database are at home
+  pub all_home : (names : List CellName) (table : List CellLocation) → locations_of table ≡ homes_of schema capacity names → list_all is_home table ≡ true
+  all_home [] [] e = refl
+  all_home [] (p ∷ table) e = absurd (cc (e))
+  all_home (n ∷ names) [] e = absurd (cc (e))
+  all_home (n ∷ names) (AtHome x ∷ table) e = all_home names table (cc (e))
+  all_home (n ∷ names) (WithUnit u ∷ table) e = absurd (cc (e))
 
   -- cells beside their names, as the opening database has them
   pub agree_beside : (names : List CellName) (cells : List Cell) → homes_shown cells ≡ homes_of schema capacity names → AllAgree schema capacity (opening schema) (zip names cells)

@@ -1,5 +1,5 @@
 -- Lists that are made number by number.
-use Rattle.std.proofs.Common.{◌≡◌, sym, ◌∙◌, ap, ℕ, zero, suc, ◌+◌, List, [], ◌∷◌, ◌++◌, map, arith, append_assoc, append-nil}
+use Rattle.std.proofs.Common.{◌≡◌, sym, ◌∙◌, ap, ℕ, zero, suc, ◌+◌, List, [], ◌∷◌, ◌++◌, Option, Some, map, slice_get, take, arith, append_assoc, append-nil}
 use Rattle.std.specs.List.{flat_map, range_with_len}
 use Rattle.std.proofs.lemmas.List.{map-append}
 use Rattle.std.proofs.lemmas.Grind.{flat_map-append}
@@ -20,6 +20,18 @@ flat_pushed f a n j at before old new e g =
     (ap (flat_map f) (range_push a n j at)
     ∙ flat_map-append f (range_with_len a n) (j ∷ [])
     ∙ ap (λ xs. flat_map f (range_with_len a n) ++ xs) (append-nil (f j))))
+
+-- what is made of one more element
+flat_more : {X Y : Type 0} (f : X → List Y) (xs : List X) (i : ℕ) (x : X) → slice_get xs i ≡ Some x → flat_map f (take (suc i) xs) ≡ flat_map f (take i xs) ++ f x
+flat_more f [] i x is = absurd (cc (is))
+flat_more f (y ∷ ys) zero x is = let here : y ≡ x = cc (is) in append-nil (f y) ∙ ap f here
+flat_more f (y ∷ ys) (suc i) x is = ap (λ zs. f y ++ zs) (flat_more f ys i x is) ∙ sym (append_assoc (f y) (flat_map f (take i ys)) (f x))
+
+pub flat_taken : {X Y : Type 0} (f : X → List Y) (xs : List X) (i : ℕ) (x : X) → slice_get xs i ≡ Some x → (before old new : List Y) → old ≡ before ++ flat_map f (take i xs) → new ≡ old ++ f x
+    → new ≡ before ++ flat_map f (take (i + 1) xs)
+flat_taken f xs i x is before old new e g =
+    let next : suc i ≡ i + 1 = omega arith in
+    g ∙ ap (λ ys. ys ++ f x) e ∙ append_assoc before (flat_map f (take i xs)) (f x) ∙ ap (λ ys. before ++ ys) (sym (flat_more f xs i x is) ∙ ap (λ m. flat_map f (take m xs)) next)
 
 -- one more element
 pub map_pushed : {X : Type 0} (f : ℕ → X) (a n j : ℕ) → a + n ≡ j → (x : X) (old new : List X) → old ≡ map f (range_with_len a n) → new ≡ old ++ x ∷ [] → x ≡ f j → new ≡ map f (range_with_len a (n + 1))

@@ -1,10 +1,10 @@
 -- The image of a database as it is read from its cells.
 -- found has each cell by its name; t is a record type, n a number, s a set, a an area.
-use Rattle.std.specs.Prelude.{ℕ, List, [], ◌∷◌, Option, Some, None, map, length, option_and_then, slice_get, unwrap_or}
+use Rattle.std.specs.Prelude.{ℕ, List, [], ◌∷◌, Option, Some, None, cond, map, length, option_and_then, option_map, slice_get, unwrap_or}
 use Rattle.std.specs.List.{flat_map, range_with_len}
 use Rattle.dbtg_schema.specs.Lists.{Lists}
 use Rattle.dbtg_schema.specs.Lookups.{first}
-use Rattle.dbtg_schema.specs.Structure.{set_numbers}
+use Rattle.dbtg_schema.specs.Structure.{is_system, owner_type, set_numbers}
 use Rattle.dbtg_cells.specs.declared.cell.Cell.{Cell}
 use Rattle.dbtg_cells.specs.declared.cell.Cell.TheVariants.{Ring as RingCell, Slot as SlotCell}
 use Rattle.dbtg_cells.specs.declared.extent.Number.{Number}
@@ -12,12 +12,12 @@ use Rattle.dbtg_cells.specs.declared.key.DbKey.{DbKey}
 use Rattle.dbtg_cells.specs.declared.key.Owner.{Owner}
 use Rattle.dbtg_cells.specs.declared.key.Value.{Value}
 use Rattle.dbtg_cells.specs.declared.name.CellName.{CellName}
-use Rattle.dbtg_cells.specs.declared.name.CellName.TheVariants.{Usage, Extent, Slot}
+use Rattle.dbtg_cells.specs.declared.name.CellName.TheVariants.{Usage, Extent, Ring, Slot}
 use Rattle.dbtg_cells.specs.declared.ring.Occurrence.{Occurrence}
 use Rattle.dbtg_cells.specs.declared.slot.Stored.{Stored}
-use Rattle.dbtg_cells.specs.CellNumbers.{cell_number, rings_of}
+use Rattle.dbtg_cells.specs.CellNumbers.{cell_number}
 use Rattle.dbtg_cells.specs.Members.{keys_in}
-use Rattle.dbtg_cells.specs.Numbers.{is_free, last_of, numbers_where}
+use Rattle.dbtg_cells.specs.Numbers.{is_free, is_used, last_of, numbers_where}
 use Rattle.dbtg_unit.specs.Hands.Hands.{cell_of}
 use Rattle.dbtg_unit.specs.Database.State.Image.{Image}
 use Rattle.dbtg_unit.specs.Hands.InHand.{numbers_of, users_of}
@@ -82,24 +82,32 @@ generations_in numbers = map (λ n. last_of n numbers) (range_with_len 1 (length
 
 -- THE IMAGE
 
+-- the numbers of type t that records have, by its extent
+abbrev pub live_of : (CellName → Option Cell) → ℕ → List ℕ
+live_of found t = numbers_where is_used (numbers_of (found (Extent t)))
+
 -- the records of type t, by their numbers
-abbrev pub records_of : ℕ → (CellName → Option Cell) → ℕ → List (DbKey × List Value)
-records_of capacity found t = flat_map (λ n. record_of t n (stored_at (found (Slot t n)))) (range_with_len 1 capacity)
+abbrev pub records_of : (CellName → Option Cell) → ℕ → List (DbKey × List Value)
+records_of found t = flat_map (λ n. record_of t n (stored_at (found (Slot t n)))) (live_of found t)
 
 -- their versions
-abbrev pub versions_of : ℕ → (CellName → Option Cell) → ℕ → List (DbKey × ℕ)
-versions_of capacity found t = flat_map (λ n. version_of t n (stored_at (found (Slot t n)))) (range_with_len 1 capacity)
+abbrev pub versions_of : (CellName → Option Cell) → ℕ → List (DbKey × ℕ)
+versions_of found t = flat_map (λ n. version_of t n (stored_at (found (Slot t n)))) (live_of found t)
 
--- the lists of set s, by the rings
-abbrev pub lists_of : Lists → ℕ → (CellName → Option Cell) → ℕ → List (Owner × List DbKey)
-lists_of schema capacity found s = flat_map (λ c. list_of (occurrence_at (found c))) (rings_of schema capacity s)
+-- the lists of set s whose owners are records of type t, by the rings
+abbrev pub owned_lists : (CellName → Option Cell) → ℕ → ℕ → List (Owner × List DbKey)
+owned_lists found s t = flat_map (λ n. list_of (occurrence_at (found (Ring s (Some (t, n)))))) (live_of found t)
+
+-- the lists of set s
+abbrev pub lists_of : Lists → (CellName → Option Cell) → ℕ → List (Owner × List DbKey)
+lists_of schema found s = cond (is_system schema s) (list_of (occurrence_at (found (Ring s None)))) (unwrap_or (option_map (owned_lists found s) (owner_type schema s)) [])
 
 -- the image that the cells show
-abbrev pub image_from : Lists → ℕ → (CellName → Option Cell) → Image
-image_from schema capacity found = record {
-  records = flat_map (records_of capacity found) (range_with_len 0 (length schema.types));
-  versions = flat_map (versions_of capacity found) (range_with_len 0 (length schema.types));
-  lists = map (lists_of schema capacity found) (set_numbers schema);
+abbrev pub image_from : Lists → (CellName → Option Cell) → Image
+image_from schema found = record {
+  records = flat_map (records_of found) (range_with_len 0 (length schema.types));
+  versions = flat_map (versions_of found) (range_with_len 0 (length schema.types));
+  lists = map (lists_of schema found) (set_numbers schema);
   next = map (λ t. next_in (numbers_of (found (Extent t)))) (range_with_len 0 (length schema.types));
   last = map (λ t. generations_in (numbers_of (found (Extent t)))) (range_with_len 0 (length schema.types));
   usage = map (λ a. users_of (found (Usage a))) (range_with_len 0 (length schema.areas));

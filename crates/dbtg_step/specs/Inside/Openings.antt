@@ -1,17 +1,31 @@
 -- What a core keeps when it is opened.
-use Rattle.std.specs.Prelude.{ℕ, suc, List, [], ◌∷◌, None, map, length, replicate}
+use Rattle.std.specs.Prelude.{◌≡◌, ℕ, suc, Bool, true, false, List, [], ◌∷◌, ◌++◌, None, map, length, replicate}
 use Rattle.dbtg_schema.specs.Lists.{Lists}
-use Rattle.dbtg_cells.specs.Shown.{CellValue}
+use Rattle.dbtg_cells.specs.Shown.{CellValue, ExtentValue}
 use Rattle.dbtg_unit.specs.declared.statement.Statement.{Statement}
 use Rattle.dbtg_unit.specs.Database.State.Units.{opening_unit}
 use Rattle.dbtg_step.specs.declared.parts.CellLocation.{CellLocation as CoreLocation}
+use Rattle.dbtg_step.specs.declared.parts.CellLocation.TheVariants.{Home as AtHome, HeldBy as WithUnit}
 use Rattle.dbtg_step.specs.declared.parts.UnitState.{UnitState}
-use Rattle.dbtg_step.specs.Machine.Machine.{CellLocation}
+use Rattle.dbtg_step.specs.Machine.Machine.{CellLocation, Home}
 use Rattle.dbtg_step.specs.Core.Parts.{location_of}
 
 -- where the cells of a table are
 abbrev pub locations_of : List CoreLocation → List (CellLocation CellValue)
 locations_of = map location_of
+
+-- so many cells at home more, each of which shows the same
+abbrev pub Adds : List CoreLocation → ℕ → CellValue → List CoreLocation → Type 0
+Adds old n v new = locations_of new ≡ locations_of old ++ replicate n (Home v)
+
+-- the cell is at home
+abbrev pub is_home : CoreLocation → Bool
+is_home (AtHome x) = true
+is_home (WithUnit u) = false
+
+-- an extent none of whose numbers is used
+abbrev pub unused_extent : ℕ → CellValue
+unused_extent capacity = ExtentValue (replicate capacity (record { last = 0; calc = None }))
 
 -- a unit that stands before its script
 abbrev pub opening_runner : Lists → ℕ → List Statement → UnitState

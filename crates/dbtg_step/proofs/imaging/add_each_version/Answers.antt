@@ -1,12 +1,13 @@
-use Rattle.std.proofs.Common.{◌+◌, ◌++◌, ◌∙◌, ap, arith}
+use Rattle.std.proofs.Common.{◌++◌, ◌∙◌, ap}
+use Rattle.dbtg_cells.specs.Numbers.{is_used, numbers_where}
 use Rattle.dbtg_cells.specs.declared.name.CellName.TheVariants.{Slot}
-use Rattle.dbtg_step.specs.Inside.Imaging.{found_in, stored_at, version_of}
-use Rattle.dbtg_step.proofs.TheCore.RangePushes.{flat_pushed}
+use Rattle.dbtg_step.specs.Inside.Imaging.{found_in, version_of, stored_at}
+use Rattle.dbtg_step.proofs.TheCore.RangePushes.{flat_taken}
 use Rattle.dbtg_step.proofs.imaging.add_each_version.Goals as goal
 
-pub loop-turn-preserved : goal.loop-turn-preserved
-loop-turn-preserved c =
+pub loop-place-preserved : goal.loop-place-preserved
+loop-place-preserved c =
     let found = found_in c.args.schema.now c.args.capacity c.args.source in
-    flat_pushed (λ n. version_of c.args.rtype n (stored_at (found (Slot c.args.rtype n)))) 1 c.loop-turn.turn (c.loop-turn.turn + 1) (omega arith)
-    c.args.versions.now.items c.loop-turn.versions.items c.add_version.new.versions.items c.loop-turn.invariant
-    (c.in_ok-add_version.ensures ∙ ap (λ s. c.loop-turn.versions.items ++ version_of c.args.rtype (c.loop-turn.turn + 1) s) c.find_stored-stored.ensures)
+    flat_taken (λ n. version_of c.args.rtype n (stored_at (found (Slot c.args.rtype n)))) (numbers_where is_used c.in-Some.extent.now.numbers) c.loop-place.place c.live_at-number.result c.live_at-number.ensures
+    c.args.versions.now.items c.loop-place.versions.items c.add_version.new.versions.items c.loop-place.invariant
+    (c.in_ok-add_version.ensures ∙ ap (λ s. c.loop-place.versions.items ++ version_of c.args.rtype c.live_at-number.result s) c.find_stored-stored.ensures)

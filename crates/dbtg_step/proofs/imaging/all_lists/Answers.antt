@@ -5,6 +5,6 @@ use Rattle.dbtg_step.proofs.imaging.all_lists.Goals as goal
 
 pub loop-set-preserved : goal.loop-set-preserved
 loop-set-preserved c =
-    let lists = lists_of c.args.schema.now c.args.capacity (found_in c.args.schema.now c.args.capacity c.args.source) in
+    let lists = lists_of c.args.schema.now (found_in c.args.schema.now c.args.capacity c.args.source) in
     map_pushed lists 0 c.loop-set.set c.loop-set.set (omega arith) c.of.result c.loop-set.all.items c.push.new.self.items c.loop-set.invariant c.in_ok-push.ensures.items
     (c.of.ensures ∙ c.in_ok-add_each_list.ensures ∙ ap (λ xs. xs ++ lists c.new.result) c.new-lists.ensures.items ∙ ap lists c.new.ensures)

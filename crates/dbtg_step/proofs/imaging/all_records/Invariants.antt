@@ -4,4 +4,4 @@ use Rattle.dbtg_step.specs.Inside.Imaging.{found_in, records_of}
 use Rattle.dbtg_step.proofs.imaging.all_records.Given as goal
 
 abbrev pub invariant-loop-rtype : goal.invariant-loop-rtype
-invariant-loop-rtype l = l.records.items ≡ flat_map (records_of l.capacity (found_in l.schema l.capacity l.source)) (range_with_len 0 l.rtype)
+invariant-loop-rtype l = l.records.items ≡ flat_map (records_of (found_in l.schema l.capacity l.source)) (range_with_len 0 l.rtype)

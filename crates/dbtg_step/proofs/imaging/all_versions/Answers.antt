@@ -6,6 +6,6 @@ use Rattle.dbtg_step.proofs.imaging.all_versions.Goals as goal
 pub loop-rtype-preserved : goal.loop-rtype-preserved
 loop-rtype-preserved c =
     let found = found_in c.args.schema.now c.args.capacity c.args.source in
-    flat_pushed (versions_of c.args.capacity found) 0 c.loop-rtype.rtype c.loop-rtype.rtype (omega arith)
+    flat_pushed (versions_of found) 0 c.loop-rtype.rtype c.loop-rtype.rtype (omega arith)
     [] c.loop-rtype.versions.items c.add_each_version.new.versions.items c.loop-rtype.invariant
-    (c.in_ok-add_each_version.ensures ∙ ap (λ t. c.loop-rtype.versions.items ++ versions_of c.args.capacity found t) c.new-rtype.ensures)
+    (c.in_ok-add_each_version.ensures ∙ ap (λ t. c.loop-rtype.versions.items ++ versions_of found t) c.new-rtype.ensures)

@@ -4,4 +4,4 @@ use Rattle.dbtg_step.specs.Inside.Imaging.{found_in, versions_of}
 use Rattle.dbtg_step.proofs.imaging.all_versions.Given as goal
 
 abbrev pub invariant-loop-rtype : goal.invariant-loop-rtype
-invariant-loop-rtype l = l.versions.items ≡ flat_map (versions_of l.capacity (found_in l.schema l.capacity l.source)) (range_with_len 0 l.rtype)
+invariant-loop-rtype l = l.versions.items ≡ flat_map (versions_of (found_in l.schema l.capacity l.source)) (range_with_len 0 l.rtype)

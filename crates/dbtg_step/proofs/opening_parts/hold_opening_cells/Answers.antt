@@ -16,7 +16,7 @@ pub numbered-requires-clause-named : goal.numbered-requires-clause-named
 numbered-requires-clause-named c =
     let schema = c.args.schema.now in
     let capacity = c.args.capacity in
-    let shows : homes_shown c.in_ok-cells.cells.items ≡ homes_of schema capacity c.in_ok-names.names.items = c.in_ok-cells.ensures ∙ ap (homes_of schema capacity) c.as_slice.ensures.value in
+    let shows : homes_shown c.in_ok-cells.cells.items ≡ homes_of schema capacity c.in_ok-names.names.items = c.in_ok-cells.ensures ∙ ap (homes_of schema capacity) (sym c.in_ok-names.ensures) in
     as_many schema capacity c.in_ok-names.names.items c.in_ok-cells.cells.items shows
 
 pub returns-clause-names : goal.returns-clause-names
@@ -25,7 +25,7 @@ returns-clause-names c =
     let capacity = c.args.capacity in
     let names = c.in_ok-names.names.items in
     let cells = c.in_ok-cells.cells.items in
-    let shows : homes_shown cells ≡ homes_of schema capacity names = c.in_ok-cells.ensures ∙ ap (homes_of schema capacity) c.as_slice.ensures.value in
+    let shows : homes_shown cells ≡ homes_of schema capacity names = c.in_ok-cells.ensures ∙ ap (homes_of schema capacity) (sym c.in_ok-names.ensures) in
     ap (λ (h : Hands). names_of h.cells) c.numbered.ensures ∙ names_beside schema capacity names cells (as_many schema capacity names cells shows) ∙ c.in_ok-names.ensures
 
 pub returns-clause-cells : goal.returns-clause-cells
@@ -34,5 +34,5 @@ returns-clause-cells c =
     let capacity = c.args.capacity in
     let names = c.in_ok-names.names.items in
     let cells = c.in_ok-cells.cells.items in
-    let shows : homes_shown cells ≡ homes_of schema capacity names = c.in_ok-cells.ensures ∙ ap (homes_of schema capacity) c.as_slice.ensures.value in
+    let shows : homes_shown cells ≡ homes_of schema capacity names = c.in_ok-cells.ensures ∙ ap (homes_of schema capacity) (sym c.in_ok-names.ensures) in
     subst (λ (h : Hands). AllAgree schema capacity (opening schema) h.cells) (sym c.numbered.ensures) (agree_beside schema capacity names cells shows)
