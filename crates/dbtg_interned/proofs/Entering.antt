@@ -1,10 +1,10 @@
 -- Keys without repetition, seen by the lists of numbers that they have.
 -- ks are keys, k is a key, items gives the numbers of a key.
-use Rattle.std.proofs.Common.{◌≡◌, refl, sym, ◌∙◌, ap, subst, ℕ, zero, suc, Bool, true, false, List, [], ◌∷◌, ◌++◌, length, map, replicate, Result, Ok, Err, IfOk, Some, slice_get, position, inl, inr, ◌⊎◌, if◌then◌else◌, true≢false}
+use Rattle.std.proofs.Common.{◌≡◌, refl, sym, ◌∙◌, ap, subst, ℕ, zero, suc, ◌≤◌, arith, get_or, Bool, true, false, List, [], ◌∷◌, ◌++◌, length, map, replicate, Result, Ok, Err, IfOk, Some, slice_get, position, inl, inr, ◌⊎◌, if◌then◌else◌, true≢false}
 use Rattle.std.specs.Option.{option_map}
 use Rattle.std.specs.List.{list_any, IsDistinct, AllByRecursion}
 use Rattle.std.specs.Str.{bytes_eq}
-use Rattle.std.proofs.lemmas.Bool.{cases_Bool}
+use Rattle.std.proofs.lemmas.Bool.{cases_Bool, cases_lt}
 use Rattle.std.proofs.lemmas.List.{map_push}
 use Rattle.std.proofs.lemmas.List.Quantifiers.{position-Some}
 use Rattle.std.proofs.lemmas.Map.Keys.{IsDistinct-head, IsDistinct-tail}
@@ -12,6 +12,7 @@ use Rattle.std.proofs.lemmas.Option.{same_Some, slice_get-get_or, slice_get-map}
 use Rattle.std.proofs.lemmas.Slice.Eq.{bytes_eq-Decides}
 use Rattle.dbtg_interned.specs.Kept.{AddsOnly, IsContents, IsOnce, Keeps}
 use Rattle.dbtg_interned.specs.Arrays.{AreNodes}
+use Rattle.dbtg_interned.specs.Inside.Changed.{IsNode}
 use Rattle.dbtg_interned.proofs.Keeping.{keeps_refl, stays_list}
 
 -- the last of the lists is the new one, and each other is an old one
@@ -75,14 +76,31 @@ module _ {K : Type 0} (items : K → List ℕ) where
           | inr e ↦ got_push (map items ks) (items k) i x (subst (λ l. slice_get l i ≡ Some x) (ap (map items) (fresh e) ∙ map_push items ks k) h)
         ]
 
+    -- the new one stands behind the others
+    adds_behind : (i : ℕ) (l : List ℕ) → slice_get (map items new) i ≡ Some l → (slice_get (map items ks) i ≡ Some l) ⊎ ((l ≡ items k) × (length (map items ks) ≤ i))
+    adds_behind i l h =
+        elim (cases_lt i (length (map items ks))) [
+          | inl low ↦
+              let there = slice_get-get_or (map items ks) i [] low in
+              inl (there ∙ sym (stays_list (map items ks) (map items new) i (get_or (map items ks) i []) keeps_keys there) ∙ h)
+          | inr past ↦ elim (adds_key i l h) [
+            | inl e ↦ inl e
+            | inr e ↦ inr (e, past)
+          ]
+        ]
+
     -- nodes with this one are nodes
-    pub more_are_nodes : AreNodes (map items ks) → length (items k) ≡ 16 → IsDistinct alike new → AreNodes (map items new)
-    more_are_nodes are wide d =
+    pub more_are_nodes : AreNodes (map items ks) → IsNode (map items ks) (items k) → IsDistinct alike new → AreNodes (map items new)
+    more_are_nodes are node d =
         record {
           zeros_first = stays_list (map items ks) (map items new) 0 (replicate 16 0) keeps_keys are.zeros_first;
           width = λ i l h. elim (adds_key i l h) [
             | inl e ↦ are.width i l e
-            | inr e ↦ ap length e ∙ wide
+            | inr e ↦ ap length e ∙ node.width
+          ];
+          below = λ i l h at high. elim (adds_behind i l h) [
+            | inl e ↦ are.below i l e at high
+            | inr e ↦ omega (arith, ap (λ (m : List ℕ). get_or m at 0) e.0, e.1, node.below at high)
           ];
           once = once new d;
         }

@@ -1,10 +1,8 @@
 mod Keeping
 mod Entering
-mod Pieces
 mod Trees
 mod Changed
+mod Places
+mod Several
 mod Rows
 pub mod Public
-mod Several
-mod Counted
-mod Below

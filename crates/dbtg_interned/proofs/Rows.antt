@@ -1,38 +1,57 @@
--- The worked rows: arrays of two levels, what is no array, which lists stand once, by which number a node is hashed.
--- What is expected was worked out by hand, the numbers of the last row by another program.
-use Rattle.std.specs.Prelude.{◌≡◌, refl, ℕ, List, [], ◌∷◌, length, replicate, slice_set}
+-- The worked rows: trees of nodes, the places of arrays in them, what is no array, which lists stand once, by which number a node is hashed.
+-- What is expected was worked out by hand, the numbers of the last rows by another program.
+use Rattle.std.specs.Prelude.{◌≡◌, refl, ℕ, List, [], ◌∷◌, replicate, slice_set}
 use Rattle.std.proofs.Common.{arith}
-use Rattle.dbtg_interned.specs.Arrays.{IsNode, elements_below}
+use Rattle.dbtg_interned.specs.Arrays.{AreArrays, IsKnown, KeptArrays, elements, numbers_of, size, tree_element}
+use Rattle.dbtg_interned.specs.Inside.Changed.{IsNode}
 use Rattle.dbtg_interned.specs.Kept.{IsOnce, Keeps}
 use Rattle.dbtg_interned.specs.Inside.Mixed.{mixed}
 
--- node 1 has 5 at place 3, node 2 has node 1 as its child 2, node 3 has a child that is no node
+-- node 1 has the elements 0, 0, 0 and 5; node 2 has 7 at place 0, and node 1 as the third of its 12 nodes; node 3 has as its first node one that is not there
 abbrev nodes : List (List ℕ)
 nodes =
     replicate 16 0
     ∷ slice_set (replicate 16 0) 3 5
-    ∷ slice_set (replicate 16 0) 2 1
-    ∷ slice_set (replicate 16 0) 15 4 ∷ []
+    ∷ slice_set (slice_set (replicate 16 0) 0 7) 6 1
+    ∷ slice_set (replicate 16 0) 4 4 ∷ []
 
--- one level: the children are the elements
-one_level : elements_below nodes 1 1 ≡ 0 ∷ 0 ∷ 0 ∷ 5 ∷ 0 ∷ 0 ∷ 0 ∷ 0 ∷ 0 ∷ 0 ∷ 0 ∷ 0 ∷ 0 ∷ 0 ∷ 0 ∷ 0 ∷ []
-one_level = refl
+-- the first places are the node's own
+own_place : tree_element nodes (numbers_of nodes 2) 0 ≡ 7
+own_place = refl
 
--- two levels: the element stands at 2 * 16 + 3
-two_levels : elements_below nodes 2 2 ≡ slice_set (replicate 256 0) 35 5
-two_levels = refl
+-- the third node has the places 6, 18, 30, 42, ..: its place 3 is 4 + 2 + 3 * 12
+dealt_place : tree_element nodes (numbers_of nodes 2) 42 ≡ 5
+dealt_place = refl
 
--- the same node one level up: its child 1 is an element, which stands at 2
-as_elements : elements_below nodes 1 2 ≡ slice_set (replicate 16 0) 2 1
-as_elements = refl
+-- the place before it is dealt to the second node, which is node 0
+place_before : tree_element nodes (numbers_of nodes 2) 41 ≡ 0
+place_before = refl
 
--- node 0 has zeros at each level
-three_levels : length (elements_below nodes 3 0) ≡ 4096
-three_levels = refl
+-- five places of arrays: the second stands at place 42 of the trees, the fourth at place 0, and three stand nowhere
+abbrev five : KeptArrays
+five = record { nodes = nodes; places = 0 ∷ 43 ∷ 0 ∷ 1 ∷ 0 ∷ []; used = 43 }
+
+five_elements : elements five 2 ≡ 0 ∷ 5 ∷ 0 ∷ 7 ∷ 0 ∷ []
+five_elements = refl
+
+-- the node below it is an array too
+other_elements : elements five 1 ≡ 0 ∷ 0 ∷ 0 ∷ 0 ∷ 0 ∷ []
+other_elements = refl
+
+-- no array has more elements than it has places
+five_places : size five ≡ 5
+five_places = refl
 
 -- no node has the number 4
-no_array : IsNode nodes 2 3 → ⊥
-no_array h = absurd (omega (arith, (h.1 15 0 (omega arith)).0))
+no_array : IsKnown nodes 2 3 → ⊥
+no_array h = absurd (omega (arith, (h.1 4 (omega arith)).0))
+
+no_node : IsNode nodes (numbers_of nodes 3) → ⊥
+no_node h = absurd (omega (arith, h.below 4 (omega arith)))
+
+-- a place of the trees that is used by two
+used_by_two : AreArrays (record { nodes = nodes; places = 1 ∷ 1 ∷ []; used = 1 }) → ⊥
+used_by_two are = absurd (omega (arith, are.own 0 1 (omega arith) refl))
 
 -- a list that stands twice
 twice : IsOnce ((7 ∷ []) ∷ [] ∷ (7 ∷ []) ∷ []) → ⊥
@@ -42,7 +61,7 @@ twice once = absurd (omega (arith, once 0 2 (7 ∷ []) refl refl))
 turned_round : Keeps ([] ∷ (7 ∷ []) ∷ []) ((7 ∷ []) ∷ [] ∷ []) → ⊥
 turned_round k = let e : (7 ∷ []) ∷ [] ∷ [] ≡ [] ∷ (7 ∷ []) ∷ k.rest = k.new_is in cc
 
--- the first two children, and the first four
+-- the first two numbers, and the first four
 mixed_two : mixed (1 ∷ 2 ∷ 3 ∷ 4 ∷ []) 1 ≡ 11298530787072834581
 unfolding mixed
 mixed_two = refl

@@ -1,55 +1,85 @@
--- Arrays of 16 ^ levels numbers, as trees of nodes with 16 children. An array is named by the number of its root.
-use Rattle.std.specs.Prelude.{ℕ, zero, suc, ◌≡◌, ◌<◌, ◌≤◌, ◌^◌, List, [], ◌∷◌, Some, length, replicate, slice_get, slice_index_or, slice_set}
-use Rattle.std.specs.List.{All, flat_map}
+-- Arrays of numbers, as trees of nodes. A node has 16 numbers: 4 elements, and behind them the numbers of 12 nodes. An array is named by the
+-- number of its root.
+-- n is the number of a node, numbers are those that a node has, place is a place in a tree.
+use Rattle.std.specs.Prelude.{ℕ, zero, suc, ◌≡◌, ◌<◌, ◌≤◌, ◌+◌, ◌-◌, ◌/◌, ◌%◌, ◌^◌, ◌⊎◌, List, [], ◌∷◌, Some, if◌then◌else◌, length, map, nat_lt, replicate, slice_get, slice_index_or, slice_set}
 use Rattle.dbtg_interned.specs.Kept.{IsOnce, Keeps}
 
--- the nodes by their numbers, each as the list of its children, and how many levels of nodes each array has
+-- The nodes by their numbers. For each place of an array, where its elements stand in the trees: those of a place that has k here stand at
+-- the place k - 1; where it has 0 no array has anything but 0. And how many places of the trees are in use: the first ones
 pub record KeptArrays : Type 0 where
   pub nodes : List (List ℕ)
-  pub levels : ℕ
+  pub places : List ℕ
+  pub used : ℕ
 
--- the children of a node
-abbrev pub children : List (List ℕ) → ℕ → List ℕ
-children nodes node = slice_index_or nodes node []
+-- the numbers of a node
+abbrev pub numbers_of : List (List ℕ) → ℕ → List ℕ
+numbers_of nodes n = slice_index_or nodes n []
 
--- the elements below a node, this many levels down: at no level the number is the element itself
-abbrev pub elements_below : List (List ℕ) → ℕ → ℕ → List ℕ
-elements_below nodes zero n = n ∷ []
-elements_below nodes (suc k) n = flat_map (elements_below nodes k) (children nodes n)
+-- The element at a place below these numbers, if no more than this many nodes are above it: the first 4 places are the node's own, and the
+-- others are those of the 12 nodes, dealt out in turn
+abbrev pub element_within : List (List ℕ) → ℕ → List ℕ → ℕ → ℕ
+element_within nodes zero numbers place = 0
+element_within nodes (suc levels) numbers place =
+    if nat_lt place 4
+    then slice_index_or numbers place 0
+    else element_within nodes levels (numbers_of nodes (slice_index_or numbers (4 + (place - 4) % 12) 0)) ((place - 4) / 12)
 
--- the number is that of a node, and so are those below it, as far as this many levels down
-abbrev pub IsNode : List (List ℕ) → ℕ → ℕ → Type 0
-IsNode nodes zero n = Unit {0}
-IsNode nodes (suc k) n = (n < length nodes) × All (IsNode nodes k) (children nodes n)
+-- the same for any place: fewer nodes are above it than are places before it
+abbrev pub tree_element : List (List ℕ) → List ℕ → ℕ → ℕ
+tree_element nodes numbers place = element_within nodes (suc place) numbers place
 
--- nodes stand once each, and have 16 children; node 0 has zeros
+-- nodes stand once each; node 0 has zeros, and so is below itself, and those below another have smaller numbers than it
 pub record AreNodes (nodes : List (List ℕ)) : Type 0 where
   pub zeros_first : slice_get nodes 0 ≡ Some (replicate 16 0)
   pub width : (i : ℕ) (node : List ℕ) → slice_get nodes i ≡ Some node → length node ≡ 16
+  pub below : (i : ℕ) (node : List ℕ) → slice_get nodes i ≡ Some node → (at : ℕ) → 4 ≤ at → slice_index_or node at 0 ≤ i - 1
   pub once : IsOnce nodes
+
+-- an element of the array with these numbers at its root, by the number that the arrays have for its place
+abbrev pub element_by : List (List ℕ) → List ℕ → ℕ → ℕ
+element_by nodes numbers zero = 0
+element_by nodes numbers (suc place) = tree_element nodes numbers place
+
+-- the elements of the array with these numbers at its root
+abbrev pub elements_under : KeptArrays → List ℕ → List ℕ
+elements_under arrays numbers = map (element_by arrays.nodes numbers) arrays.places
 
 -- the elements of an array
 abbrev pub elements : KeptArrays → ℕ → List ℕ
-elements arrays array = elements_below arrays.nodes arrays.levels array
+elements arrays array = elements_under arrays (numbers_of arrays.nodes array)
+
+-- the number is that of a node, and so are those of the nodes below it, as far as this many levels down
+abbrev pub IsKnown : List (List ℕ) → ℕ → ℕ → Type 0
+IsKnown nodes zero n = Unit {0}
+IsKnown nodes (suc levels) n = (n < length nodes) × ((at : ℕ) → 4 ≤ at → IsKnown nodes levels (slice_index_or (numbers_of nodes n) at 0))
+
+-- nothing stands at the places of the tree that are not in use
+abbrev pub IsFreeBehind : KeptArrays → List ℕ → Type 0
+IsFreeBehind arrays numbers = (place : ℕ) → arrays.used ≤ place → tree_element arrays.nodes numbers place ≡ 0
 
 -- the number is that of an array
-abbrev pub IsArray : KeptArrays → ℕ → Type 0
-IsArray arrays array = IsNode arrays.nodes arrays.levels array
+pub record IsArray (arrays : KeptArrays) (array : ℕ) : Type 0 where
+  pub known : (levels : ℕ) → IsKnown arrays.nodes levels array
+  pub free : IsFreeBehind arrays (numbers_of arrays.nodes array)
 
 -- how many elements an array has
 abbrev pub size : KeptArrays → ℕ
-size arrays = 16 ^ arrays.levels
+size arrays = length arrays.places
 
--- what holds of all arrays: nodes stand once each, and there are one to six levels of them
+-- what holds of all arrays: nodes stand once each, and each place of a tree that is in use belongs to one place of the arrays
 pub record AreArrays (arrays : KeptArrays) : Type 0 where
   pub nodes : AreNodes arrays.nodes
-  pub some_levels : 1 ≤ arrays.levels
-  pub few_levels : arrays.levels ≤ 6
+  pub few : size arrays ≤ 2 ^ 24
+  pub within : (i : ℕ) → slice_index_or arrays.places i 0 ≤ arrays.used
+  pub own : (i j : ℕ) → 0 < slice_index_or arrays.places i 0 → slice_index_or arrays.places i 0 ≡ slice_index_or arrays.places j 0 → i ≡ j
+  pub each : (k : ℕ) → 0 < k → k ≤ arrays.used → (i : ℕ) × (slice_index_or arrays.places i 0 ≡ k)
 
--- the old nodes stay, at as many levels
+-- the old nodes and places stay, and a place that had none may have one that was free
 pub record Grows (old new : KeptArrays) : Type 0 where
   pub nodes : Keeps old.nodes new.nodes
-  pub levels : new.levels ≡ old.levels
+  pub size_is : size new ≡ size old
+  pub used : old.used ≤ new.used
+  pub places : (i : ℕ) → (slice_index_or new.places i 0 ≡ slice_index_or old.places i 0) ⊎ ((slice_index_or old.places i 0 ≡ 0) × (old.used < slice_index_or new.places i 0))
 
 -- the elements after the changes, one after the other: each is a place and the element that it gets
 abbrev pub with_each : List (ℕ × ℕ) → List ℕ → List ℕ

@@ -5,6 +5,7 @@ ghost use Rattle.std.specs.Hash.{on_Alike, same_Alike};
 ghost use Rattle.std.specs.Cmp.Lexicographic.{bytes_decides};
 ghost use Rattle.dbtg_interned.specs.Kept.{Keeps};
 ghost use Rattle.dbtg_interned.specs.Arrays.{AreNodes};
+ghost use Rattle.dbtg_interned.specs.Inside.Changed.{IsNode};
 ghost use Rattle.dbtg_interned.specs.Inside.Mixed.{mixed};
 
 use crate::contents::number;
@@ -13,35 +14,39 @@ use std::alloc::{AllocError, Global};
 use std::hash::{Hash, Hasher};
 use std::marker::Model;
 
-/// How many children a node has.
-pub(crate) const WIDTH: usize = 16;
+/// How many numbers a node has.
+pub(crate) const WIDTH: usize = ELEMENTS + BRANCHES;
+/// How many of them are elements.
+pub(crate) const ELEMENTS: usize = 4;
+/// How many of them are the numbers of other nodes.
+pub(crate) const BRANCHES: usize = 12;
 
 // An odd number whose bits look random.
 const MULTIPLIER: u64 = 0x9e37_79b9_7f4a_7c15;
 
-// A node, by its children. It is hashed as one number, which is quicker than child by child.
+// A node, by its numbers. It is hashed as one number, which is quicker than one by one.
 #[derive(Clone, Copy, PartialEq, Eq)]
 struct Node {
-    children: [u32; WIDTH],
+    numbers: [u32; WIDTH],
 }
 
 impl Hash for Node {
-    ghost hash_input = { λ n. fed.u64 (mixed n.children 8) };
+    ghost hash_input = { λ n. fed.u64 (mixed n.numbers 8) };
 
-    ghost respects_eq = { (on_Alike (λ n. n.children) (same_Alike (λ l. fed.u64 (mixed l 8)) bytes_decides)).fed };
+    ghost respects_eq = { (on_Alike (λ n. n.numbers) (same_Alike (λ l. fed.u64 (mixed l 8)) bytes_decides)).fed };
 
     fn hash<H: Hasher>(&self, state: &mut H) {
-        state.write_u64(mix(&self.children));
+        state.write_u64(mix(&self.numbers));
     }
 }
 
-// One number from all children, two at a time.
-fn mix(children: &[u32; WIDTH]) -> u64
-    ensures { result ≡ mixed children.now 8 }
+// One number from all of a node, two at a time.
+fn mix(numbers: &[u32; WIDTH]) -> u64
+    ensures { result ≡ mixed numbers.now 8 }
 {
     let mut mix: u64 = 0;
     for i in 0..WIDTH / 2 {
-        let two = children[2 * i] as u64 | (children[2 * i + 1] as u64) << 32;
+        let two = numbers[2 * i] as u64 | (numbers[2 * i + 1] as u64) << 32;
         mix = (mix ^ two).wrapping_mul(MULTIPLIER);
     }
     mix
@@ -59,9 +64,9 @@ impl Model for Nodes {
 
     ghost Value = { List (List ℕ) };
 
-    ghost view = { λ n. map (λ m. m.children) n.nodes.keys };
+    ghost view = { λ n. map (λ m. m.numbers) n.nodes.keys };
 
-    ghost invariant = { λ n. AreNodes (map (λ m. m.children) n.nodes.keys) };
+    ghost invariant = { λ n. AreNodes (map (λ m. m.numbers) n.nodes.keys) };
 }
 
 impl Nodes {
@@ -72,29 +77,29 @@ impl Nodes {
     {
         let mut nodes = IndexSet::new(alloc);
         nodes.insert(Node {
-            children: [0; WIDTH],
+            numbers: [0; WIDTH],
         })?;
         Ok(Self { nodes })
     }
 
-    /// The children of a node.
-    pub(crate) fn children(&self, node: u32) -> [u32; WIDTH]
+    /// The numbers of a node.
+    pub(crate) fn numbers(&self, node: u32) -> [u32; WIDTH]
         requires { node < length self.now }
         ensures sound { AreNodes self.now }
-        ensures children { slice_get self.now node ≡ Some result }
+        ensures numbers { slice_get self.now node ≡ Some result }
     {
-        self.nodes[node as usize].children
+        self.nodes[node as usize].numbers
     }
 
-    /// The number of the node with these children, which is added if it is new.
-    pub(crate) fn enter(&mut self, children: [u32; WIDTH]) -> Result<u32, AllocError>
-        requires { length children ≡ 16 }
+    /// The number of the node with these numbers, which is added if it is new.
+    pub(crate) fn enter(&mut self, numbers: [u32; WIDTH]) -> Result<u32, AllocError>
+        requires { IsNode self.old numbers }
         ensures sound { AreNodes self.new }
         ensures keeps { Keeps self.old self.new }
         ensures few { length self.new ≤ length self.old + 1 }
-        ensures number { IfOk result (λ n. slice_get self.new n ≡ Some children) }
+        ensures number { IfOk result (λ n. slice_get self.new n ≡ Some numbers) }
     {
-        let (at, _) = self.nodes.insert_full(Node { children })?;
+        let (at, _) = self.nodes.insert_full(Node { numbers })?;
         number(at)
     }
 }

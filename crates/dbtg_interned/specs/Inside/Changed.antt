@@ -1,18 +1,18 @@
--- Several changes of the elements of an array, node by node.
--- es are the elements of an array, place is a place in it.
-use Rattle.std.specs.Prelude.{ℕ, ◌≡◌, ◌^◌, List, take, drop, nat_lt}
-use Rattle.std.specs.List.{count_by}
-use Rattle.dbtg_interned.specs.Arrays.{elements_below, with_each}
+-- Changes of the elements of an array, by the numbers of its root.
+use Rattle.std.specs.Prelude.{ℕ, ◌≡◌, ◌≢◌, ◌<◌, ◌≤◌, List, length, slice_index_or}
+use Rattle.dbtg_interned.specs.Arrays.{IsFreeBehind, KeptArrays, tree_element}
 
--- the elements from a place on, up to this count
-abbrev pub part : ℕ → ℕ → List ℕ → List ℕ
-part first count es = take count (drop first es)
+-- the numbers are those that a node may have
+pub record IsNode (nodes : List (List ℕ)) (numbers : List ℕ) : Type 0 where
+  pub width : length numbers ≡ 16
+  pub below : (at : ℕ) → 4 ≤ at → slice_index_or numbers at 0 < length nodes
 
--- wherever the elements below one node are the part of some elements from this place on, those below the other are that part after the changes
-abbrev pub HasChanges : List (List ℕ) → List (List ℕ) → ℕ → ℕ → List (ℕ × ℕ) → ℕ → ℕ → Type 0
-HasChanges old new level first changes before after =
-    (es : List ℕ) → elements_below old level before ≡ part first (16 ^ level) es → elements_below new level after ≡ part first (16 ^ level) (with_each changes es)
+-- the numbers are those that the root of an array may have
+pub record IsRoot (arrays : KeptArrays) (numbers : List ℕ) : Type 0 where
+  pub node : IsNode arrays.nodes numbers
+  pub free : IsFreeBehind arrays numbers
 
--- how many of the changes are below a place
-abbrev pub changes_before : ℕ → List (ℕ × ℕ) → ℕ
-changes_before place changes = count_by (λ c. nat_lt c.0 place) changes
+-- below the numbers after, this element stands at the place, and at others what stands there below the numbers before
+pub record HasChange (old new : List (List ℕ)) (before : List ℕ) (place element : ℕ) (after : List ℕ) : Type 0 where
+  pub here : tree_element new after place ≡ element
+  pub elsewhere : (other : ℕ) → other ≢ place → tree_element new after other ≡ tree_element old before other

@@ -15,4 +15,4 @@ unfolding mixed
 loop-i-init c = refl
 
 pub loop-i-preserved : goal.loop-i-preserved
-loop-i-preserved c = more c.args.children.now c.loop-i.i c.loop-i.mix c.loop-i.invariant
+loop-i-preserved c = more c.args.numbers.now c.loop-i.i c.loop-i.mix c.loop-i.invariant
