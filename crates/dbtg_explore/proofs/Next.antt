@@ -4,8 +4,6 @@ use Rattle.std.proofs.Common.{◌≡◌, sym, ◌∙◌, ap, subst, ℕ, suc, �
 use Rattle.std.specs.Prelude.{All, Err, IfOk, IfSome, Ok, Result, option_and_then}
 use Rattle.std.specs.List.{list_all, list_any}
 use Rattle.std.proofs.lemmas.Bool.{cases_Bool, false≢true, false_from_ne_true}
-use Rattle.std.proofs.lemmas.List.{map-append}
-use Rattle.std.proofs.lemmas.List.Elements.{All-append, All-cons, All-nil}
 use Rattle.std.proofs.lemmas.Option.{same_Some}
 use Rattle.dbtg_interned.specs.Arrays.{IsArray, elements}
 use Rattle.dbtg_interned.proofs.Public.{elements_length, stays_size}
@@ -25,12 +23,11 @@ use Rattle.dbtg_step.specs.Core.Reversible.{OnlyLastChanged, is_named}
 use Rattle.dbtg_step.specs.Core.Whole.{Making, state_now}
 use Rattle.dbtg_going.specs.declared.member.Going.{Going}
 use Rattle.dbtg_outcomes.specs.declared.transitions.Look.{Look}
-use Rattle.dbtg_outcomes.specs.declared.transitions.Passage.{Passage}
 use Rattle.dbtg_outcomes.specs.declared.transitions.Transition.{Transition}
 use Rattle.dbtg_outcomes.specs.Looked.{IsReadyWith}
 use Rattle.dbtg_outcomes.specs.Numbers.{AreNumbers, Grow, Numbers, content_at}
-use Rattle.dbtg_outcomes.specs.Inside.Transitions.{Follow, HasBefore, SayBefore, is_looked_at, part_at}
-use Rattle.dbtg_outcomes.specs.Transitions.{AddsAtMost, written}
+use Rattle.dbtg_outcomes.specs.Inside.Transitions.{Follow, IsLook, SayBefore, is_looked_at, part_at}
+use Rattle.dbtg_outcomes.specs.Transitions.{AddsAtMost, HasBefore, written}
 use Rattle.dbtg_outcomes.proofs.States.MadeAgain.{written_has, written_other}
 use Rattle.dbtg_outcomes.proofs.States.Numbers.{still_there}
 use Rattle.dbtg_outcomes.proofs.States.Places.{each_in, each_of, is_looked, looked_at, number_says, places, says_number, says_some, stays_there}
@@ -41,7 +38,7 @@ use Rattle.dbtg_explore.specs.States.{sequential_after}
 use Rattle.dbtg_explore.specs.Inside.Next.{IsFound, Reaches, RecordsStay, is_slot}
 use Rattle.dbtg_explore.specs.Inside.Parts.{IsNumberOf, parts_of}
 use Rattle.dbtg_explore.specs.Inside.Standing.{is_kept_beside}
-use Rattle.dbtg_explore.specs.Inside.Transitions.{AreKnown, AreLookedAt, AreLooks, AreSeen, IsKnown, IsLook, SlotsStay, place_of}
+use Rattle.dbtg_explore.specs.Inside.Transitions.{AreKnown, AreLookedAt, AreSeen, IsKnown, SlotsStay}
 use Rattle.dbtg_explore.specs.Inside.Walks.{AreStanding}
 use Rattle.dbtg_explore.proofs.Placed.{legal_there}
 use Rattle.dbtg_explore.proofs.Said.{keeps_alone}
@@ -97,33 +94,11 @@ pub if_some_weaker : {T : Type 0} (r : Option T) (P Q : T → Type 0) → ((x : 
 if_some_weaker None P Q f h = tt
 if_some_weaker (Some x) P Q f h = f x h
 
--- LOOKS
-
--- the looks at some cells, and the look at one more
-pub one_more_look : (m : Meeting) (kept : Numbers) (passage : Passage) (names : List CellName) (name : CellName) (looks : List Look) (l : Look) → AreLooks m kept passage names looks → l.place ≡ place_of m name
-    → slice_get (elements kept.arrays passage.before) l.place ≡ Some l.before → slice_get (elements kept.arrays passage.after) l.place ≡ Some l.after → AreLooks m kept passage (names ++ name ∷ []) (looks ++ l ∷ [])
-one_more_look m kept passage names name looks l h place before after = record {
-  had = All-append (λ k. slice_get (elements kept.arrays passage.before) k.place ≡ Some k.before) looks (l ∷ []) h.had (alone (λ k. slice_get (elements kept.arrays passage.before) k.place ≡ Some k.before) l before);
-  has = All-append (λ k. slice_get (elements kept.arrays passage.after) k.place ≡ Some k.after) looks (l ∷ []) h.has (alone (λ k. slice_get (elements kept.arrays passage.after) k.place ≡ Some k.after) l after);
-  places_are = map-append {B = ℕ} (λ (k : Look). k.place) looks (l ∷ []) ∙ (λ i. h.places_are i ++ place i ∷ []) ∙ ap (λ ps. (passage.unit - 1) ∷ ps) (sym (map-append {B = ℕ} (place_of m) names (name ∷ [])));
-} where
-  alone : (P : Look → Type 0) (k : Look) → P k → All P (k ∷ [])
-  alone P k p = All-cons P k [] p (All-nil P)
-
--- the look at the unit's own part alone
-pub own_look : (m : Meeting) (kept : Numbers) (passage : Passage) (l : Look) → l.place ≡ passage.unit - 1
-    → slice_get (elements kept.arrays passage.before) l.place ≡ Some l.before → slice_get (elements kept.arrays passage.after) l.place ≡ Some l.after → AreLooks m kept passage [] (l ∷ [])
-own_look m kept passage l place before after = record {
-  had = All-cons (λ k. slice_get (elements kept.arrays passage.before) k.place ≡ Some k.before) l [] before (All-nil (λ k. slice_get (elements kept.arrays passage.before) k.place ≡ Some k.before));
-  has = All-cons (λ k. slice_get (elements kept.arrays passage.after) k.place ≡ Some k.after) l [] after (All-nil (λ k. slice_get (elements kept.arrays passage.after) k.place ≡ Some k.after));
-  places_are = ap (λ i. i ∷ []) place;
-}
-
 -- WHERE IT LEADS
 
-module _ (m : Meeting) (old : Numbers) (h : List Entry) (looks : List Look) (n : ℕ) (are : All (IsLook m old.contents) looks) (at : IsNumberOf m old h n) where
-  is_look : (l : Look) → In l looks → IsLook m old.contents l
-  is_look = each_in (IsLook m old.contents) looks are
+module _ (m : Meeting) (old : Numbers) (h : List Entry) (looks : List Look) (n : ℕ) (are : All (IsLook (length m.programs + cell_count m.schema m.capacity) old.contents) looks) (at : IsNumberOf m old h n) where
+  is_look : (l : Look) → In l looks → IsLook (length m.programs + cell_count m.schema m.capacity) old.contents l
+  is_look = each_in (IsLook (length m.programs + cell_count m.schema m.capacity) old.contents) looks are
 
   -- what was looked at is said in the state
   pub say_before : HasBefore old n looks → SayBefore old.contents (parts_of m h) looks
@@ -198,7 +173,7 @@ module _ (m : Meeting) (old : Numbers) (h : List Entry) (looks : List Look) (n :
 -- TRANSITIONS THAT ARE KNOWN
 
 module _ (m : Meeting) (seen : given.Seen) (kept : Numbers) (o : List ℕ) (n u : ℕ) (t : Transition) (are : AreSeen m kept.contents seen) (at : IsNumberOf m kept (history_of m o) n) (found : IsFound m seen kept n u t) where
-  known_looks : All (IsLook m kept.contents) t.looks
+  known_looks : All (IsLook (length m.programs + cell_count m.schema m.capacity) kept.contents) t.looks
   known_looks = elim found.known [ inl plain ↦ (are.plain t plain).looks | inr changing ↦ (are.changing t changing.0).looks ]
 
   say : SayBefore kept.contents (parts_of m (history_of m o)) t.looks

@@ -33,7 +33,8 @@ use Rattle.dbtg_outcomes.specs.declared.transitions.Passage.{Passage}
 use Rattle.dbtg_outcomes.specs.declared.transitions.Transition.{Transition}
 use Rattle.dbtg_outcomes.specs.Looked.{IsReadyWith, LookedAtDetermines}
 use Rattle.dbtg_outcomes.specs.Numbers.{Numbers}
-use Rattle.dbtg_outcomes.specs.Inside.Transitions.{Follow, SayBefore, is_looked_at, part_at}
+use Rattle.dbtg_outcomes.specs.Transitions.{AreLooks, cell_place}
+use Rattle.dbtg_outcomes.specs.Inside.Transitions.{Follow, IsLook, SayBefore, is_looked_at, part_at}
 use Rattle.dbtg_outcomes.proofs.States.Next.{unit_is}
 use Rattle.dbtg_outcomes.proofs.States.Places.{at_cell, at_unit, behind_units, each_in, each_of, is_looked, its_number, number_says, place_by, places, says_some, stays_there}
 use Rattle.dbtg_outcomes.proofs.States.Transitions.{held_in, in_held}
@@ -42,7 +43,7 @@ use Rattle.dbtg_explore.specs.Orders.{IsMeeting, Meeting, due_of, history_of}
 use Rattle.dbtg_explore.specs.States.{MeetingState, sequential_after, state_of}
 use Rattle.dbtg_explore.specs.Versions.{unversioned, unversioned_entry, unversioned_unit}
 use Rattle.dbtg_explore.specs.Inside.Parts.{cell_part, kept_count, parts_of, unit_part}
-use Rattle.dbtg_explore.specs.Inside.Transitions.{AreLooks, AreSeen, IsKnown, IsLook, IsPassage, IsTransition, KeepsAlone, SlotsStay, place_of}
+use Rattle.dbtg_explore.specs.Inside.Transitions.{AreSeen, IsKnown, IsPassage, IsTransition, KeepsAlone, SlotsStay}
 use Rattle.dbtg_explore.proofs.Alike.{IsDueOf, comes_at, comes_then, due_is, due_there, programs_then, state_of_on, with_made, with_outcome}
 use Rattle.dbtg_explore.proofs.Keyed.{due_fits, legal, of_due, units_count}
 use Rattle.dbtg_explore.proofs.Parts.{part_said, part_tells, said_of}
@@ -144,7 +145,7 @@ module _ (m : Meeting) (p : List ℕ) (u : ℕ) (x : Statement) (unit : Unit) (l
 -- THE SAME AS ONCE
 
 module _ (m : Meeting) (determines : LookedAtDetermines) (is : IsMeeting m) (kept : Numbers) (o : List ℕ) (names : List CellName) (changing : Bool) (passage : Passage) (looks : List Look)
-    (passed : IsPassage m kept o names changing passage) (seen : AreLooks m kept passage names looks) where
+    (passed : IsPassage m kept o names changing passage) (seen : AreLooks m.schema m.capacity (length m.programs) kept passage names looks) where
   abbrev contents : List (List ℕ)
   contents = kept.contents
 
@@ -193,8 +194,8 @@ module _ (m : Meeting) (determines : LookedAtDetermines) (is : IsMeeting m) (kep
 
   cell_looked : (c : CellName) (i : ℕ) → In c names → cell_number m.schema m.capacity c ≡ Some i → In (length m.programs + i) (places looks)
   cell_looked c i there number =
-      let is : place_of m c ≡ length m.programs + i = ap (λ (r : Option ℕ). length m.programs + unwrap_or r 0) number in
-      subst (λ (ps : List ℕ). In (length m.programs + i) ps) (sym seen.places_are) (inr (subst (λ j. In j (map (place_of m) names)) is (in_map (place_of m) c names there)))
+      let is : cell_place m.schema m.capacity (length m.programs) c ≡ length m.programs + i = ap (λ (r : Option ℕ). length m.programs + unwrap_or r 0) number in
+      subst (λ (ps : List ℕ). In (length m.programs + i) ps) (sym seen.places_are) (inr (subst (λ j. In j (map (cell_place m.schema m.capacity (length m.programs)) names)) is (in_map (cell_place m.schema m.capacity (length m.programs)) c names there)))
 
   -- what was looked at said this before, and says this after
   had_before : (l : Look) → In l looks → slice_get contents l.before ≡ part_at (parts_of m h) l.place
@@ -207,9 +208,9 @@ module _ (m : Meeting) (determines : LookedAtDetermines) (is : IsMeeting m) (kep
       sym (ap (option_and_then (slice_get contents)) (each_in (λ l. slice_get (elements kept.arrays passage.after) l.place ≡ Some l.after) looks seen.has l i))
       ∙ number_says (parts_of m h') kept passage.after passed.after.number l.place (place_within l.place (in_map (λ (l : Look). l.place) l looks i))
 
-  looks_are : All (IsLook m contents) looks
+  looks_are : All (IsLook (length m.programs + cell_count m.schema m.capacity) contents) looks
   looks_are =
-      each_of (IsLook m contents) looks (λ l i.
+      each_of (IsLook (length m.programs + cell_count m.schema m.capacity) contents) looks (λ l i.
       let within = place_within l.place (in_map (λ (l : Look). l.place) l looks i) in
       let before = says_some (parts_of m h) l.place within in
       let after = says_some (parts_of m h') l.place within in
@@ -369,9 +370,9 @@ module _ (m : Meeting) (old new : List (List ℕ)) (keeps : Keeps old new) where
   longer : length old ≤ length new
   longer = let is : length new ≡ length (old ++ keeps.rest) = ap length keeps.new_is in let all = length-append old keeps.rest in omega (arith, is, all)
 
-  looks_later : (looks : List Look) → All (IsLook m old) looks → All (IsLook m new) looks
+  looks_later : (looks : List Look) → All (IsLook (length m.programs + cell_count m.schema m.capacity) old) looks → All (IsLook (length m.programs + cell_count m.schema m.capacity) new) looks
   looks_later looks =
-      All-weaker (IsLook m old) (IsLook m new) (λ l h.
+      All-weaker (IsLook (length m.programs + cell_count m.schema m.capacity) old) (IsLook (length m.programs + cell_count m.schema m.capacity) new) (λ l h.
       let more = longer in
       let before = h.before in
       let after = h.after in
@@ -385,11 +386,11 @@ module _ (m : Meeting) (old new : List (List ℕ)) (keeps : Keeps old new) where
     leads = λ q alone say.
         let said : SayBefore old (parts_of m (history_of m q)) t.looks
         = each_of (λ l. slice_get old l.before ≡ part_at (parts_of m (history_of m q)) l.place) t.looks (λ l i.
-        sym (stays_there old new keeps l.before (each_in (IsLook m old) t.looks known.looks l i).before) ∙ each_in (λ l. slice_get new l.before ≡ part_at (parts_of m (history_of m q)) l.place) t.looks say l i) in
+        sym (stays_there old new keeps l.before (each_in (IsLook (length m.programs + cell_count m.schema m.capacity) old) t.looks known.looks l i).before) ∙ each_in (λ l. slice_get new l.before ≡ part_at (parts_of m (history_of m q)) l.place) t.looks say l i) in
         let lead = known.leads q alone said in
         record {
           seen = each_of (λ l. slice_get new l.after ≡ part_at (parts_of m (history_of m (q ++ t.unit ∷ []))) l.place) t.looks (λ l i.
-              stays_there old new keeps l.after (each_in (IsLook m old) t.looks known.looks l i).after ∙ each_in (λ l. slice_get old l.after ≡ part_at (parts_of m (history_of m (q ++ t.unit ∷ []))) l.place) t.looks lead.seen l i);
+              stays_there old new keeps l.after (each_in (IsLook (length m.programs + cell_count m.schema m.capacity) old) t.looks known.looks l i).after ∙ each_in (λ l. slice_get old l.after ≡ part_at (parts_of m (history_of m (q ++ t.unit ∷ []))) l.place) t.looks lead.seen l i);
           unseen = lead.unseen;
         };
   }

@@ -3,21 +3,20 @@
 ghost use Rattle.dbtg_cells.specs.declared.name.CellName.TheVariants.{Slot};
 ghost use Rattle.dbtg_explore.specs.Inside.Next.{IsFound, Reaches, RecordsStay, is_slot};
 ghost use Rattle.dbtg_explore.specs.Inside.Steps.{IsAt};
-ghost use Rattle.dbtg_explore.specs.Inside.Transitions.{AreLookedAt, AreLooks, AreSeen, IsPassage, place_of};
+ghost use Rattle.dbtg_explore.specs.Inside.Transitions.{AreLookedAt, AreSeen, IsPassage};
 ghost use Rattle.dbtg_explore.specs.Inside.Walks.{Stands};
 ghost use Rattle.dbtg_explore.specs.Orders.{IsMeeting, Meeting as MeetingOfPrograms, can_turn, history_of};
-ghost use Rattle.dbtg_interned.specs.Arrays.{IsArray, elements};
+ghost use Rattle.dbtg_interned.specs.Arrays.{IsArray};
 ghost use Rattle.std.specs.List.{list_any};
-ghost use Rattle.std.specs.Prelude.{◌≡◌, ◌<◌, ◌++◌, ◌∷◌, [], ℕ, List, Some, true, false, length, slice_get, slice_index_or, IfOk, IfSome, OnOk};
+ghost use Rattle.std.specs.Prelude.{◌≡◌, ◌<◌, ◌++◌, ◌∷◌, [], ℕ, List, Some, true, false, length, slice_index_or, IfOk, IfSome, OnOk};
 
 use crate::meeting::Meeting;
 use crate::search::Search;
 use crate::walk::Walk;
-use dbtg_cells::{CellName, cell_number};
+use dbtg_cells::CellName;
 use dbtg_outcomes::{
-    Look, Numbers, Passage, Transition, Transitions, needed_cells, what_is_looked_at_determines,
+    Numbers, Passage, Places, Transition, Transitions, needed_cells, what_is_looked_at_determines,
 };
-use dbtg_schema::Row;
 use std::alloc::{AllocError, Global};
 
 /// Transitions of statements that were made. What a statement did that changed no record it does wherever it looks at the same. One that
@@ -108,49 +107,6 @@ impl<'a> Meeting<'a> {
             None => Ok(None),
         }
     }
-
-    // The look of a passage at a cell, if the schema has it.
-    fn look_at_cell(&self, numbers: &Numbers, passage: Passage, name: &CellName) -> Option<Look>
-        requires before { IsArray numbers.now.arrays passage.before }
-        requires after { IsArray numbers.now.arrays passage.after }
-        requires meeting { IsMeeting self.now }
-        ensures place { IfSome result (λ l. l.place ≡ place_of self.now name.now) }
-        ensures before { IfSome result (λ l. slice_get (elements numbers.now.arrays passage.before) l.place ≡ Some l.before) }
-        ensures after { IfSome result (λ l. slice_get (elements numbers.now.arrays passage.after) l.place ≡ Some l.after) }
-    {
-        let number = cell_number(self.schema, self.capacity, name)?;
-        let place = number.checked_add(self.units() as usize)?;
-        numbers.look_at(place, passage.before, passage.after)
-    }
-
-    // The looks of a passage at its unit and at these cells.
-    fn looks_at(
-        &self,
-        alloc: Global,
-        numbers: &Numbers,
-        passage: Passage,
-        names: &[CellName],
-    ) -> Result<Option<Row<Look>>, AllocError>
-        requires meeting { IsMeeting self.now }
-        requires numbered { 0 < passage.unit }
-        requires before { IsArray numbers.now.arrays passage.before }
-        requires after { IsArray numbers.now.arrays passage.after }
-        ensures { IfOk result (λ found. IfSome found (AreLooks self.now numbers.now passage names.now)) }
-    {
-        let mut looks = Row::of(Vec::new(alloc));
-        let place = passage.unit as usize - 1;
-        let Some(own) = numbers.look_at(place, passage.before, passage.after) else {
-            return Ok(None);
-        };
-        looks.push(own)?;
-        for name in names {
-            let Some(look) = self.look_at_cell(numbers, passage, name) else {
-                return Ok(None);
-            };
-            looks.push(look)?;
-        }
-        Ok(Some(looks))
-    }
 }
 
 impl Search {
@@ -171,7 +127,12 @@ impl Search {
         ensures rest { OnOk result (self.new ≡ record self.old { seen = self.new.seen }) }
     {
         what_is_looked_at_determines();
-        let Some(looks) = meeting.looks_at(alloc, &self.numbers, passage, names)? else {
+        let places = Places {
+            schema: meeting.schema,
+            capacity: meeting.capacity,
+            units: meeting.units(),
+        };
+        let Some(looks) = places.looks_at(alloc, &self.numbers, passage, names)? else {
             return Ok(());
         };
         let transition = Transition {

@@ -75,11 +75,7 @@ impl Search {
     {
         let number = self.next_state(alloc, meeting, place, walk, unit)?;
         let (to, _is_new) = self.found.enter(number, place, unit)?;
-        self.edges.push(Edge {
-            from: place,
-            unit,
-            to,
-        })?;
+        self.edges.push(Edge::new(place, unit, to)?)?;
         if self.limit < self.found.len() {
             return Err(Stop::States);
         }

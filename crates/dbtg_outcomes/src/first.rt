@@ -11,7 +11,7 @@ ghost use Rattle.dbtg_outcomes.specs.Inside.Search.{AreNotedOf, order_alone};
 
 use crate::meeting::{Meeting, make_copy};
 use crate::notes::Note;
-use crate::turns::{Turn, push_turns};
+use crate::turns::push_turns;
 use dbtg_schema::Row;
 use dbtg_step::WholeDatabase;
 use dbtg_unit::Statement;
@@ -167,7 +167,7 @@ impl<'a> Meeting<'a> {
     }
 
     /// The turns of the script that is made first.
-    pub(crate) fn first_turns(&self, alloc: Global) -> Result<Vec<Turn>, AllocError>
+    pub(crate) fn first_turns(&self, alloc: Global) -> Result<Vec<u8>, AllocError>
         requires { IsMeeting self.now }
         ensures { IfOk result (λ turns. LeadTo self.now turns.items (made_first self.now.first self.now.scripts)) }
     {
@@ -182,7 +182,7 @@ impl<'a> Meeting<'a> {
         &self,
         alloc: Global,
         script: &[Statement],
-    ) -> Result<Vec<Turn>, AllocError>
+    ) -> Result<Vec<u8>, AllocError>
         requires meeting { IsMeeting self.now }
         requires alone { others self.now.first self.now.scripts ≡ script.now ∷ [] }
         ensures { IfOk result (λ turns. LeadTo self.now turns.items (order_alone self.now script.now)) }

@@ -4,7 +4,6 @@ ghost use Rattle.std.specs.Prelude.{◌≡◌, ◌++◌, ◌∷◌, [], length, 
 ghost use Rattle.dbtg_outcomes.specs.Inside.Grouped.{IsAdded, IsAt, Lacks};
 
 use crate::count::sum_of;
-use crate::turns::Turn;
 use dbtg_schema::Row;
 use indexmap::IndexMap;
 use std::alloc::{AllocError, Global};
@@ -14,7 +13,7 @@ use std::marker::Model;
 #[derive(Drop)]
 pub struct Group {
     pub number: u32,
-    pub turns: Row<Turn>,
+    pub turns: Row<u8>,
     pub orders: Option<u64>,
 }
 

@@ -9,6 +9,7 @@ mod facts;
 mod first;
 mod groups;
 mod laws;
+mod looks;
 mod meeting;
 mod names;
 mod needing;
@@ -35,6 +36,7 @@ pub use laws::{
     every_history_comes_out, every_run_comes_out, names_tell_records_apart,
     order_of_opening_is_no_state, orders_are_all_merges, what_is_looked_at_determines,
 };
+pub use looks::Places;
 pub use meeting::{Meeting, as_numbers};
 pub use needing::needed_cells;
 pub use numbers::Numbers;

@@ -13,7 +13,6 @@ use crate::count::sum_of;
 use crate::groups::{Group, Groups};
 use crate::meeting::Meeting;
 use crate::search::{Search, Stop};
-use crate::turns::units_of;
 use crate::walk::Walk;
 use crate::watch::Watch;
 use dbtg_interned::Texts;
@@ -78,11 +77,10 @@ fn join_result<'a>(
     ensures stands { OnOk result (Stands meeting.now walk.new) }
     ensures joins { OnOk result (Joins meeting.now group.now texts.old texts.new results.old results.new) }
 {
-    let turns = group.turns.as_slice();
-    meeting.go_to(alloc, walk, turns)?;
+    meeting.go_to(alloc, walk, group.turns.as_slice())?;
     let text = meeting.result_key(alloc, walk.database.database())?;
     let number = texts.enter(text)?;
-    let turns = Row::of(Vec::from_slice(alloc, turns)?);
+    let turns = group.turns.copy(alloc)?;
     let orders = group.orders;
     results.add(Group {
         number,
@@ -142,7 +140,7 @@ fn results_of(alloc: Global, groups: &[Group]) -> Result<Vec<OneResult>, AllocEr
 {
     let mut results = Vec::new(alloc);
     for group in groups {
-        let turns = units_of(alloc, group.turns.as_slice())?;
+        let turns = group.turns.copy(alloc)?;
         let orders = group.orders;
         results.push(OneResult { turns, orders })?;
     }

@@ -1,18 +1,18 @@
 //! A search among all orders of the statements of scripts, layer by layer: a layer has the states after a number of statements, each
 //! with the first order that leads there and the number of all orders that do.
-ghost use Rattle.std.specs.Prelude.{◌≡◌, ◌≤◌, ◌<◌, ◌∷◌, [], true, is_some, length, All, IfErr, IfOk, MatchResult, OnOk};
+ghost use Rattle.std.specs.Prelude.{◌≡◌, ◌≤◌, ◌<◌, ◌∷◌, [], length, All, IfErr, IfOk, MatchResult, OnOk};
 ghost use Rattle.dbtg_outcomes.specs.declared.search.Stop.TheVariants.{Memory, States};
 ghost use Rattle.dbtg_outcomes.specs.Orders.{count_statements, made_first, others};
 ghost use Rattle.dbtg_outcomes.specs.Outcomes.{IsMeeting, count_states, states_within};
 ghost use Rattle.dbtg_outcomes.specs.Results.{units_of};
 ghost use Rattle.dbtg_outcomes.specs.Inside.Search.{AreNotedOf, IsAt};
 ghost use Rattle.dbtg_outcomes.specs.Inside.Steps.{Advances, Extends, ExtendsAll, GoesOn, HasNumber, HaveStatements, IsAtState, IsOver, IsUnderWay, LeadToMore};
-ghost use Rattle.dbtg_outcomes.specs.Inside.Walks.{LeadTo, Stands, next_turn, statement_at};
+ghost use Rattle.dbtg_outcomes.specs.Inside.Walks.{LeadTo, Stands};
 
 use crate::groups::{Group, Groups};
 use crate::meeting::Meeting;
 use crate::notes::{Note, enter_note};
-use crate::turns::{Turn, next_turn};
+use crate::turns::{made_by, turns_with};
 use crate::walk::Walk;
 use crate::watch::Watch;
 use dbtg_schema::Row;
@@ -43,44 +43,6 @@ impl<T: Drop> From<AllocFailed<T>> for Stop {
 }
 
 impl<'a> Meeting<'a> {
-    // Extends the order of a group by this turn.
-    fn extend_with(
-        &self,
-        alloc: Global,
-        walk: &mut Walk<'a>,
-        group: &Group,
-        turn: Turn,
-        next: &mut Groups,
-    ) -> Result<(), AllocError>
-        requires meeting { IsMeeting self.now }
-        requires stands { Stands self.now walk.old }
-        requires group { HaveStatements self.now group.now }
-        requires numbered { HasNumber self.now walk.old.numbers group.now }
-        requires turn { turn ≡ next_turn turn.unit group.now.turns }
-        requires there { is_some (statement_at self.now.scripts turn) ≡ true }
-        ensures stands { OnOk result (Stands self.now walk.new) }
-        ensures extends { OnOk result (Extends self.now group.now (turn.unit ∷ []) next.old next.new walk.old walk.new) }
-    {
-        let (number, status) = self.next_state(alloc, walk, group, turn)?;
-        let before = group.turns.as_slice();
-        let mut turns = Vec::with_capacity(alloc, before.len() + 1)?;
-        turns.extend_from_slice(before)?;
-        turns.push(turn)?;
-        let turns = Row::of(turns);
-        let orders = group.orders;
-        next.add(Group {
-            number,
-            turns,
-            orders,
-        })?;
-        let note = Note {
-            unit: turn.unit,
-            place: turn.place,
-            status,
-        };
-        enter_note(&mut walk.notes, note)
-    }
-
     // Extends the order of a group by the next statement of this unit, if it has one.
     fn extend_by(
         &self,
@@ -97,11 +59,25 @@ impl<'a> Meeting<'a> {
         ensures stands { OnOk result (Stands self.now walk.new) }
         ensures extends { OnOk result (Extends self.now group.now (unit ∷ []) next.old next.new walk.old walk.new) }
     {
-        let turn = next_turn(group.turns.as_slice(), unit);
-        match self.statement_at(turn) {
-            Some(_statement) => self.extend_with(alloc, walk, group, turn, next),
-            None => Ok(()),
+        let before = group.turns.as_slice();
+        let place = made_by(before, unit);
+        if self.statement_at(unit, place).is_none() {
+            return Ok(());
         }
+        let (number, status) = self.next_state(alloc, walk, group, unit)?;
+        let turns = turns_with(alloc, before, unit)?;
+        let orders = group.orders;
+        next.add(Group {
+            number,
+            turns,
+            orders,
+        })?;
+        let note = Note {
+            unit,
+            place,
+            status,
+        };
+        enter_note(&mut walk.notes, note)
     }
 
     // Extends the order of a group by the next statement of each unit that has one.
@@ -190,7 +166,7 @@ impl<'a> Search<'a> {
     fn at_first(
         alloc: Global,
         meeting: &Meeting<'a>,
-        turns: Row<Turn>,
+        turns: Row<u8>,
         notes: Vec<Note>,
         limit: usize,
     ) -> Result<Search<'a>, AllocError>

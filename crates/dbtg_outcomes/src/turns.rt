@@ -1,37 +1,18 @@
-//! Turns: which unit makes a statement, and which of its script it is.
-ghost use Rattle.std.specs.Prelude.{◌≡◌, ◌≤◌, ◌==◌, ◌++◌, ◌∷◌, [], filter, length, map, take, IfOk, OnOk};
-ghost use Rattle.std.specs.List.{range_with_len};
-ghost use Rattle.dbtg_outcomes.specs.Inside.Walks.{next_turn, turns_of_script};
+//! Turns: units, one after another. In its turn a unit makes the next statement of its script.
+ghost use Rattle.std.specs.Prelude.{◌≡◌, ◌≤◌, ◌==◌, ◌++◌, ◌∷◌, [], filter, length, replicate, take, IfOk, OnOk};
 
 use dbtg_schema::Row;
 use std::alloc::{AllocError, Global};
 
-/// A unit, and the place in its script, from 0, of the statement that it makes.
-#[derive(Clone, Copy, PartialEq, Eq)]
-pub struct Turn {
-    pub unit: u8,
-    pub place: usize,
-}
-
 /// How many of the turns are the unit's.
-pub fn made_by(turns: &[Turn], unit: u8) -> usize
-    ensures { result ≡ length (filter (λ t. t.unit == unit) turns.now) }
+pub fn made_by(turns: &[u8], unit: u8) -> usize
+    ensures { result ≡ length (filter (λ u. u == unit) turns.now) }
 {
-    turns.iter().filter(|turn| turn.unit == unit).count()
-}
-
-/// The turn in which the unit makes its next statement, if it has one left.
-pub fn next_turn(turns: &[Turn], unit: u8) -> Turn
-    ensures { result ≡ next_turn unit turns.now }
-{
-    Turn {
-        unit,
-        place: made_by(turns, unit),
-    }
+    turns.iter().filter(|turn| **turn == unit).count()
 }
 
 /// How many turns are the same at the beginning of both.
-pub fn shared_by(some: &[Turn], others: &[Turn]) -> usize
+pub fn shared_by(some: &[u8], others: &[u8]) -> usize
     ensures within { (result ≤ length some.now) × (result ≤ length others.now) }
     ensures same { take result some.now ≡ take result others.now }
 {
@@ -43,23 +24,22 @@ pub fn shared_by(some: &[Turn], others: &[Turn]) -> usize
     some.len()
 }
 
-/// Appends the turns in which a unit makes this many statements, from the first on.
-pub fn push_turns(turns: &mut Vec<Turn>, unit: u8, count: usize) -> Result<(), AllocError>
-    ensures { OnOk result (turns.new.items ≡ turns.old.items ++ turns_of_script unit count) }
+/// Appends this many turns of a unit.
+pub fn push_turns(turns: &mut Vec<u8>, unit: u8, count: usize) -> Result<(), AllocError>
+    ensures { OnOk result (turns.new.items ≡ turns.old.items ++ replicate count unit) }
 {
-    for place in 0..count {
-        turns.push(Turn { unit, place })?;
+    for _turn in 0..count {
+        turns.push(unit)?;
     }
     Ok(())
 }
 
-/// The units whose turns they are.
-pub fn units_of(alloc: Global, turns: &[Turn]) -> Result<Row<u8>, AllocError>
-    ensures { IfOk result (λ units. units ≡ map (λ t. t.unit) turns.now) }
+/// The turns, and then one of this unit.
+pub fn turns_with(alloc: Global, turns: &[u8], unit: u8) -> Result<Row<u8>, AllocError>
+    ensures { IfOk result (λ longer. longer ≡ turns.now ++ unit ∷ []) }
 {
-    let mut units = Row::of(Vec::new(alloc));
-    for turn in turns {
-        units.push(turn.unit)?;
-    }
-    Ok(units)
+    let mut longer = Vec::with_capacity(alloc, turns.len() + 1)?;
+    longer.extend_from_slice(turns)?;
+    longer.push(unit)?;
+    Ok(Row::of(longer))
 }

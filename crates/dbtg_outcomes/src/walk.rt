@@ -2,16 +2,17 @@
 ghost use Rattle.std.specs.Prelude.{◌≡◌, ◌+◌, ◌≤◌, ◌∷◌, ◌++◌, [], true, length, is_some, option_map, IfOk, OnOk};
 ghost use Rattle.dbtg_cells.specs.CellNumbers.{cell_count};
 ghost use Rattle.dbtg_interned.specs.Arrays.{size};
+ghost use Rattle.dbtg_outcomes.specs.Orders.{next_of};
 ghost use Rattle.dbtg_outcomes.specs.Outcomes.{IsMeeting};
 ghost use Rattle.dbtg_outcomes.specs.Numbers.{AreNumbers};
 ghost use Rattle.dbtg_outcomes.specs.Inside.Numbers.{IsNumberOf};
-ghost use Rattle.dbtg_outcomes.specs.Inside.Walks.{AreTaken, HasStatusIn, HasTaken, IsTakenBack, Stands, have_statements, order_of, statement_at};
+ghost use Rattle.dbtg_outcomes.specs.Inside.Walks.{AreTaken, HasNextStatus, HasTaken, IsTakenBack, Stands, have_statements, order_of, statement_at};
 
 use crate::meeting::Meeting;
 use crate::notes::Note;
 use crate::numbers::Numbers;
 use crate::transitions::Transitions;
-use crate::turns::{Turn, shared_by};
+use crate::turns::{made_by, shared_by};
 use dbtg_step::{ReversibleDatabase, WholeDatabase};
 use dbtg_unit::Statement;
 use std::alloc::{AllocError, Global};
@@ -21,7 +22,7 @@ use std::alloc::{AllocError, Global};
 #[derive(Drop)]
 pub struct Walk<'a> {
     pub database: ReversibleDatabase<'a>,
-    pub turns: Vec<Turn>,
+    pub turns: Vec<u8>,
     pub numbers: Numbers,
     pub notes: Vec<Note>,
     pub transitions: Transitions,
@@ -59,50 +60,53 @@ impl<'a> Meeting<'a> {
         })
     }
 
-    /// The statement that is made in a turn, if there is one.
-    pub(crate) fn statement_at(&self, turn: Turn) -> Option<&Statement>
-        ensures { option_map (λ x. (turn.unit, x.now)) result ≡ statement_at self.now.scripts turn }
+    /// The statement at this place of the unit's script, from 0, if there is one.
+    pub(crate) fn statement_at(&self, unit: u8, place: usize) -> Option<&Statement>
+        ensures { option_map (λ x. x.now) result ≡ statement_at self.now.scripts unit place }
     {
-        if turn.unit == 0 {
+        if unit == 0 {
             return None;
         }
-        match self.scripts.get(turn.unit as usize - 1) {
-            Some(script) => script.get(turn.place),
+        match self.scripts.get(unit as usize - 1) {
+            Some(script) => script.get(place),
             None => None,
         }
     }
 
-    // The unit makes the statement of its turn.
-    fn take_turn(&self, alloc: Global, walk: &mut Walk<'a>, turn: Turn) -> Result<(), AllocError>
+    /// The statement that the unit makes next after these turns, if it has one left.
+    pub(crate) fn next_statement(&self, turns: &[u8], unit: u8) -> Option<&Statement>
+        requires { have_statements self.now turns.now ≡ true }
+        ensures { option_map (λ x. x.now) result ≡ next_of self.now.scripts (order_of self.now turns.now) unit }
+    {
+        self.statement_at(unit, made_by(turns, unit))
+    }
+
+    // The unit has its turn, and makes its next statement.
+    fn take_turn(&self, alloc: Global, walk: &mut Walk<'a>, unit: u8) -> Result<(), AllocError>
         requires meeting { IsMeeting self.now }
         requires stands { Stands self.now walk.old }
-        requires there { is_some (statement_at self.now.scripts turn) ≡ true }
-        ensures { OnOk result (HasTaken self.now turn walk.old walk.new) }
+        requires there { is_some (next_of self.now.scripts (order_of self.now walk.old.turns.items) unit) ≡ true }
+        ensures { OnOk result (HasTaken self.now unit walk.old walk.new) }
     {
-        match self.statement_at(turn) {
+        match self.next_statement(walk.turns.as_slice(), unit) {
             Some(statement) => {
                 let statement = statement.copy(alloc)?;
-                walk.turns.push(turn)?;
-                walk.database.make(turn.unit, statement)
+                walk.turns.push(unit)?;
+                walk.database.make(unit, statement)
             }
             None => Ok(()),
         }
     }
 
-    // The units make the statements of these turns.
-    fn take_turns(
-        &self,
-        alloc: Global,
-        walk: &mut Walk<'a>,
-        turns: &[Turn],
-    ) -> Result<(), AllocError>
+    // The units have these turns.
+    fn take_turns(&self, alloc: Global, walk: &mut Walk<'a>, turns: &[u8]) -> Result<(), AllocError>
         requires meeting { IsMeeting self.now }
         requires stands { Stands self.now walk.old }
-        requires there { have_statements self.now turns.now ≡ true }
+        requires there { have_statements self.now (walk.old.turns.items ++ turns.now) ≡ true }
         ensures { OnOk result (AreTaken self.now turns.now walk.old walk.new) }
     {
-        for turn in turns {
-            self.take_turn(alloc, walk, *turn)?;
+        for unit in turns {
+            self.take_turn(alloc, walk, *unit)?;
         }
         Ok(())
     }
@@ -112,7 +116,7 @@ impl<'a> Meeting<'a> {
         &self,
         alloc: Global,
         walk: &mut Walk<'a>,
-        turns: &[Turn],
+        turns: &[u8],
     ) -> Result<(), AllocError>
         requires meeting { IsMeeting self.now }
         requires stands { Stands self.now walk.old }
@@ -142,28 +146,28 @@ impl<'a> Meeting<'a> {
         self.whole_number(alloc, numbers, database)
     }
 
-    /// Goes to where these turns lead and takes one turn more; gives the status of its statement.
+    /// Goes to where these turns lead, and the unit has one turn more; gives the status of its statement.
     pub(crate) fn turned(
         &self,
         alloc: Global,
         walk: &mut Walk<'a>,
-        turns: &[Turn],
-        turn: Turn,
+        turns: &[u8],
+        unit: u8,
     ) -> Result<u16, AllocError>
         requires meeting { IsMeeting self.now }
         requires stands { Stands self.now walk.old }
         requires there { have_statements self.now turns.now ≡ true }
-        requires next { is_some (statement_at self.now.scripts turn) ≡ true }
+        requires next { is_some (next_of self.now.scripts (order_of self.now turns.now) unit) ≡ true }
         ensures stands { OnOk result (Stands self.now walk.new) }
-        ensures turns { OnOk result (walk.new.turns.items ≡ turns.now ++ turn ∷ []) }
+        ensures turns { OnOk result (walk.new.turns.items ≡ turns.now ++ unit ∷ []) }
         ensures notes { OnOk result (walk.new.notes.items ≡ walk.old.notes.items) }
         ensures numbers { OnOk result (walk.new.numbers ≡ walk.old.numbers) }
         ensures transitions { OnOk result (walk.new.transitions ≡ walk.old.transitions) }
-        ensures status { IfOk result (HasStatusIn self.now (order_of self.now turns.now) turn) }
+        ensures status { IfOk result (HasNextStatus self.now (order_of self.now turns.now) unit) }
     {
         self.go_to(alloc, walk, turns)?;
         let before = walk.database.database().history().len();
-        self.take_turn(alloc, walk, turn)?;
+        self.take_turn(alloc, walk, unit)?;
         let made = &walk.database.database().history()[before];
         Ok(made.answer.status.code(&made.statement))
     }

@@ -1,5 +1,5 @@
 //! A wish for the status of a statement over all orders, and turns that break it.
-ghost use Rattle.std.specs.Prelude.{◌≡◌, ◌≤◌, ◌<◌, ◌++◌, ◌∷◌, [], length, map, true, All, IfErr, IfOk, OnOk};
+ghost use Rattle.std.specs.Prelude.{◌≡◌, ◌≤◌, ◌<◌, length, true, All, IfErr, IfOk, OnOk};
 ghost use Rattle.dbtg_outcomes.specs.declared.search.Stop.TheVariants.{States};
 ghost use Rattle.dbtg_outcomes.specs.Orders.{count_statements, others};
 ghost use Rattle.dbtg_outcomes.specs.Outcomes.{IsMeeting, count_states};
@@ -11,7 +11,7 @@ ghost use Rattle.dbtg_outcomes.specs.Inside.Wishes.{Hunts, HuntsOn, IsBroken, Is
 use crate::groups::Group;
 use crate::meeting::Meeting;
 use crate::search::{Search, Stop};
-use crate::turns::{Turn, next_turn, units_of};
+use crate::turns::{made_by, turns_with};
 use crate::walk::Walk;
 use crate::watch::Watch;
 use dbtg_schema::Row;
@@ -46,7 +46,7 @@ impl<'a> Meeting<'a> {
         &self,
         alloc: Global,
         walk: &mut Walk<'a>,
-        turns: &[Turn],
+        turns: &[u8],
         wish: Wish,
     ) -> Result<bool, AllocError>
         requires meeting { IsMeeting self.now }
@@ -58,14 +58,14 @@ impl<'a> Meeting<'a> {
         ensures numbers { OnOk result (walk.new.numbers ≡ walk.old.numbers) }
         ensures broken { IfOk result (IsBroken self.now wish (order_of self.now turns.now)) }
     {
-        let turn = next_turn(turns, wish.unit);
-        if turn.place != wish.place - 1 {
+        let place = made_by(turns, wish.unit);
+        if place != wish.place - 1 {
             return Ok(false);
         }
-        if self.statement_at(turn).is_none() {
+        if self.statement_at(wish.unit, place).is_none() {
             return Ok(false);
         }
-        let status = self.turned(alloc, walk, turns, turn)?;
+        let status = self.turned(alloc, walk, turns, wish.unit)?;
         Ok(wish.breaks(status))
     }
 
@@ -89,20 +89,11 @@ impl<'a> Meeting<'a> {
         for group in layer {
             let turns = group.turns.as_slice();
             if self.is_broken_behind(alloc, walk, turns, wish)? {
-                return Ok(Some(turns_up_to(alloc, turns, wish.unit)?));
+                return Ok(Some(turns_with(alloc, turns, wish.unit)?));
             }
         }
         Ok(None)
     }
-}
-
-// The units of the turns, and then this unit.
-fn turns_up_to(alloc: Global, turns: &[Turn], unit: u8) -> Result<Row<u8>, AllocError>
-    ensures { IfOk result (λ units. units ≡ map (λ t. t.unit) turns.now ++ unit ∷ []) }
-{
-    let mut units = units_of(alloc, turns)?;
-    units.push(unit)?;
-    Ok(units)
 }
 
 /// A search for turns that break a wish, and the first that it found.

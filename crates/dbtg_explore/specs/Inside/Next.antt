@@ -8,7 +8,7 @@ use Rattle.dbtg_step.specs.Core.Reversible.{made_first}
 use Rattle.dbtg_step.specs.Core.Whole.{Making, state_now}
 use Rattle.dbtg_outcomes.specs.declared.transitions.Transition.{Transition}
 use Rattle.dbtg_outcomes.specs.Numbers.{Grow, Numbers}
-use Rattle.dbtg_outcomes.specs.Inside.Transitions.{HasBefore}
+use Rattle.dbtg_outcomes.specs.Transitions.{HasBefore}
 use Rattle.dbtg_explore.specs.declared.next_state.Seen as given
 use Rattle.dbtg_explore.specs.declared.search.Search as search
 use Rattle.dbtg_explore.specs.Orders.{Meeting, history_of}

@@ -3,7 +3,7 @@
 -- record it is `changing`.
 use Rattle.std.specs.Prelude.{ℕ, ◌≡◌, ◌≢◌, ◌+◌, ◌-◌, ◌<◌, Bool, true, false, List, [], ◌∷◌, ◌++◌, Some, map, unwrap_or, All, Contains, length}
 use Rattle.std.specs.List.{list_all}
-use Rattle.dbtg_cells.specs.CellNumbers.{cell_count, cell_number, is_cell}
+use Rattle.dbtg_cells.specs.CellNumbers.{cell_count, is_cell}
 use Rattle.dbtg_cells.specs.declared.name.CellName.{CellName}
 use Rattle.dbtg_cells.specs.declared.name.CellName.TheVariants.{Slot}
 use Rattle.dbtg_unit.specs.declared.statement.Statement.{Statement}
@@ -17,16 +17,12 @@ use Rattle.dbtg_outcomes.specs.declared.transitions.Passage.{Passage}
 use Rattle.dbtg_outcomes.specs.declared.transitions.Transition.{Transition}
 use Rattle.dbtg_outcomes.specs.Looked.{IsReadyWith}
 use Rattle.dbtg_outcomes.specs.Numbers.{Numbers}
-use Rattle.dbtg_outcomes.specs.Inside.Transitions.{Follow, HasAfter, HasBefore, SayBefore}
+use Rattle.dbtg_outcomes.specs.Inside.Transitions.{Follow, IsLook, SayBefore}
 use Rattle.dbtg_explore.specs.declared.next_state.Seen as given
 use Rattle.dbtg_explore.specs.Orders.{Meeting, due_of, history_of}
 use Rattle.dbtg_explore.specs.States.{sequential_after}
 use Rattle.dbtg_explore.specs.Versions.{unversioned}
 use Rattle.dbtg_explore.specs.Inside.Parts.{IsNumberOf, kept_count, parts_of}
-
--- the place of a cell
-abbrev pub place_of : Meeting → CellName → ℕ
-place_of m c = length m.programs + unwrap_or (cell_number m.schema m.capacity c) 0
 
 -- no other unit keeps a record
 abbrev pub KeepsAlone : Meeting → List Entry → ℕ → Type 0
@@ -36,12 +32,6 @@ KeepsAlone m history u = (v : ℕ) → v ≢ u → kept_count (unit_at (unversio
 abbrev pub SlotsStay : Meeting → Database → Database → Type 0
 SlotsStay m before after = (t k : ℕ) → cell m.schema m.capacity after (Slot t k) ≡ cell m.schema m.capacity before (Slot t k)
 
--- it is of a part of the states, and its numbers are those of contents
-pub record IsLook (m : Meeting) (contents : List (List ℕ)) (l : Look) : Type 0 where
-  pub place : l.place < length m.programs + cell_count m.schema m.capacity
-  pub before : l.before < length contents
-  pub after : l.after < length contents
-
 -- the turn of a unit leads there wherever the same is looked at; if it changed a record, where no other unit keeps one
 abbrev pub IsTransition : Meeting → List (List ℕ) → Bool → ℕ → List Look → Type 0
 IsTransition m contents changing u looks =
@@ -49,7 +39,7 @@ IsTransition m contents changing u looks =
     → Follow contents (parts_of m (history_of m q)) (parts_of m (history_of m (q ++ u ∷ []))) looks
 
 pub record IsKnown (m : Meeting) (contents : List (List ℕ)) (changing : Bool) (t : Transition) : Type 0 where
-  pub looks : All (IsLook m contents) t.looks
+  pub looks : All (IsLook (length m.programs + cell_count m.schema m.capacity) contents) t.looks
   pub leads : IsTransition m contents changing t.unit t.looks
 
 -- so are all of these
@@ -76,9 +66,3 @@ pub record IsPassage (m : Meeting) (kept : Numbers) (o : List ℕ) (names : List
   pub after : IsNumberOf m kept (history_of m (o ++ passage.unit ∷ [])) passage.after
   pub looks_at : AreLookedAt m (history_of m o) passage.unit names
   pub stay : changing ≡ false → SlotsStay m (sequential_after m (history_of m o)).database (sequential_after m (history_of m (o ++ passage.unit ∷ []))).database
-
--- the looks of a unit at its own part and at those of these cells, from the state of one number to that of another
-pub record AreLooks (m : Meeting) (kept : Numbers) (passage : Passage) (names : List CellName) (looks : List Look) : Type 0 where
-  pub had : HasBefore kept passage.before looks
-  pub has : HasAfter kept passage.after looks
-  pub places_are : map (λ l. l.place) looks ≡ (passage.unit - 1) ∷ map (place_of m) names

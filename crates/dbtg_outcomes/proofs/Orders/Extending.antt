@@ -1,15 +1,13 @@
 -- Groups that continue with the next statements of units.
 -- m is a meeting, g a group, u a unit, x a statement, w an order with a weight; k, l, n are a walk one after another, and so are the groups
 -- a, b, c.
-use Rattle.std.proofs.Common.{◌≡◌, refl, sym, ◌∙◌, ap, subst, ℕ, ◌+◌, ◌<◌, ◌≤◌, List, [], ◌∷◌, ◌++◌, length, get_or, take, drop, true, Option, Some, None, arith, append_assoc, append-nil}
-use Rattle.std.specs.Prelude.{◌&&◌, is_some, option_map, option_to_list}
+use Rattle.std.proofs.Common.{◌≡◌, refl, sym, ◌∙◌, ap, subst, ℕ, ◌+◌, ◌<◌, ◌≤◌, List, [], ◌∷◌, ◌++◌, length, get_or, take, drop, true, Some, None, arith, append_assoc, append-nil}
+use Rattle.std.specs.Prelude.{◌==◌, filter, is_some}
 use Rattle.std.specs.List.{range_with_len}
-use Rattle.std.proofs.lemmas.Bool.{false≢true}
 use Rattle.std.proofs.lemmas.List.{take-append-drop, take_more, map-append}
 use Rattle.std.proofs.lemmas.List.Concat.{flat_map-append}
 use Rattle.dbtg_unit.specs.declared.statement.Statement.{Statement}
 use Rattle.dbtg_outcomes.specs.declared.groups.Group.{Group}
-use Rattle.dbtg_outcomes.specs.declared.turns.Turn.{Turn}
 use Rattle.dbtg_outcomes.specs.declared.walk.Walk.{Walk}
 use Rattle.dbtg_outcomes.specs.Inside.Gathered.{each_of, gathered}
 use Rattle.dbtg_outcomes.specs.Inside.Grouped.{IsAdded, Numbered}
@@ -20,13 +18,13 @@ use Rattle.dbtg_outcomes.specs.Outcomes.{HasStatus}
 use Rattle.dbtg_outcomes.specs.Results.{Meeting, state_key, units_of}
 use Rattle.dbtg_outcomes.specs.Inside.Search.{AreHeld, AreNoted, IsHeld}
 use Rattle.dbtg_outcomes.specs.Inside.Statuses.{HasNoted}
-use Rattle.dbtg_outcomes.specs.Inside.Walks.{HasStatusIn, LeadTo, have_statements, next_turn, order_of, statement_at}
+use Rattle.dbtg_outcomes.specs.Inside.Walks.{HasNextStatus, LeadTo, have_statements, order_of}
 use Rattle.dbtg_outcomes.specs.Inside.Steps.{Extends, ExtendsAll, HoldStates, LeadToMore, next_orders, nexts, with_each}
 use Rattle.dbtg_outcomes.proofs.Lists.Gathered.{each_append, gathered_append, gathered_longer}
 use Rattle.dbtg_outcomes.proofs.States.Layers.{stand_length}
 use Rattle.dbtg_outcomes.proofs.States.Numbers.{stay_more, stay_none}
 use Rattle.dbtg_outcomes.proofs.Orders.Nexts.{hold_ended, hold_extended, noted_extended}
-use Rattle.dbtg_outcomes.proofs.Orders.Turns.{made_in_turns, next_there, order_append, there_both}
+use Rattle.dbtg_outcomes.proofs.Orders.Turns.{made_in_turns, order_then, some_is, there_then}
 use Rattle.dbtg_outcomes.proofs.States.Noted.{noted_append, noted_none, noted_nothing}
 use Rattle.dbtg_outcomes.proofs.Lists.Ranges.{next_range}
 
@@ -41,13 +39,13 @@ module _ (m : Meeting) where
   }
 
   -- the walk has gone on to where one statement more is made, and the state there has this number
-  pub record IsNumbered (ts : List Turn) (old new : Walk) (n : ℕ) : Type 0 where
+  pub record IsNumbered (ts : List ℕ) (old new : Walk) (n : ℕ) : Type 0 where
     pub grown : Grow old.numbers new.numbers
     pub sound : AreNumbers new.numbers
     pub is : IsNumberOf m new.numbers (order_of m ts) n
 
   -- a group continues with the next statement of one unit
-  pub extends_one : (g : Group) (u : ℕ) (x : Statement) (ts : List Turn) (n place status : ℕ) (old new : Numbered) (k l : Walk) → next_of m.scripts (order_of m g.turns) u ≡ Some x → LeadTo m ts (order_of m g.turns ++ (u, x) ∷ []) → HasStatus m (order_of m g.turns) u x status → place ≡ made u (order_of m g.turns) → IsNumbered ts k l n → IsAdded old (record { number = n; turns = ts; orders = g.orders }) new → HasNoted k.notes.items (record { unit = u; place = place; status = status }) l.notes.items → Extends m g (u ∷ []) old new k l
+  pub extends_one : (g : Group) (u : ℕ) (x : Statement) (ts : List ℕ) (n place status : ℕ) (old new : Numbered) (k l : Walk) → next_of m.scripts (order_of m g.turns) u ≡ Some x → LeadTo m ts (order_of m g.turns ++ (u, x) ∷ []) → HasStatus m (order_of m g.turns) u x status → place ≡ made u (order_of m g.turns) → IsNumbered ts k l n → IsAdded old (record { number = n; turns = ts; orders = g.orders }) new → HasNoted k.notes.items (record { unit = u; place = place; status = status }) l.notes.items → Extends m g (u ∷ []) old new k l
   extends_one g u x ts n place status old new k l e leads has p number added noted = record {
     holds = λ seen w held hold.
         subst (λ (os : List (List (ℕ × Statement))). HoldStates m l.numbers new (seen ++ each_of w.1 os)) (sym (append-nil (extended_by m.scripts w.0 u)))
@@ -57,23 +55,14 @@ module _ (m : Meeting) where
   }
 
   -- the same, turn by turn
-  pub extends_turn : (g : Group) (t : Turn) (ts : List Turn) (n status : ℕ) (old new : Numbered) (k l : Walk) → have_statements m g.turns ≡ true → t ≡ next_turn t.unit g.turns → is_some (statement_at m.scripts t) ≡ true → ts ≡ g.turns ++ t ∷ [] → HasStatusIn m (order_of m g.turns) t status → IsNumbered ts k l n → IsAdded old (record { number = n; turns = ts; orders = g.orders }) new → HasNoted k.notes.items (record { unit = t.unit; place = t.place; status = status }) l.notes.items → Extends m g (t.unit ∷ []) old new k l
-  extends_turn g t ts n status old new k l have next there turns has number added noted =
-      by (next_of m.scripts (order_of m g.turns) t.unit) refl
-    where
-      at : statement_at m.scripts t ≡ option_map (λ x. (t.unit, x)) (next_of m.scripts (order_of m g.turns) t.unit)
-      at = ap (statement_at m.scripts) next ∙ next_there m t.unit g.turns have
-
-      by : (x : Option Statement) → next_of m.scripts (order_of m g.turns) t.unit ≡ x → Extends m g (t.unit ∷ []) old new k l
-      by None e = absurd (false≢true (sym (ap is_some (at ∙ ap (option_map {T = Statement} {U = ℕ × Statement} (λ x. (t.unit, x))) e)) ∙ there))
-      by (Some x) e =
-          let is : statement_at m.scripts t ≡ Some (t.unit, x) = at ∙ ap (option_map {T = Statement} {U = ℕ × Statement} (λ x. (t.unit, x))) e in
-          let one : order_of m (t ∷ []) ≡ (t.unit, x) ∷ [] = ap (λ (o : Option (ℕ × Statement)). option_to_list o ++ []) is in
-          let leads : LeadTo m ts (order_of m g.turns ++ (t.unit, x) ∷ []) = record {
-            order_is = ap (order_of m) turns ∙ order_append m g.turns (t ∷ []) ∙ ap (λ (o : List (ℕ × Statement)). order_of m g.turns ++ o) one;
-            there = ap (have_statements m) turns ∙ there_both m g.turns (t ∷ []) have (ap (λ (o : Option (ℕ × Statement)). is_some o && true) is);
-          } in
-          extends_one g t.unit x ts n t.place status old new k l e leads (has x is) (ap (λ (u : Turn). u.place) next ∙ sym (made_in_turns m t.unit g.turns have)) number added noted
+  pub extends_turn : (g : Group) (u : ℕ) (us : List ℕ) (n place status : ℕ) (old new : Numbered) (k l : Walk) → have_statements m g.turns ≡ true → is_some (next_of m.scripts (order_of m g.turns) u) ≡ true → us ≡ g.turns ++ u ∷ [] → HasNextStatus m (order_of m g.turns) u status → place ≡ length (filter (λ v. v == u) g.turns) → IsNumbered us k l n → IsAdded old (record { number = n; turns = us; orders = g.orders }) new → HasNoted k.notes.items (record { unit = u; place = place; status = status }) l.notes.items → Extends m g (u ∷ []) old new k l
+  extends_turn g u us n place status old new k l have there turns has at number added noted =
+      let next = some_is (next_of m.scripts (order_of m g.turns) u) there in
+      let leads : LeadTo m us (order_of m g.turns ++ (u, next.0) ∷ []) = record {
+        order_is = ap (order_of m) turns ∙ order_then m g.turns u next.0 next.1;
+        there = ap (have_statements m) turns ∙ there_then m g.turns u have there;
+      } in
+      extends_one g u next.0 us n place status old new k l next.1 leads (has next.0 next.1) (at ∙ sym (made_in_turns m u g.turns have)) number added noted
 
   -- a unit at the end of its script adds nothing
   pub extends_ended : (g : Group) (u : ℕ) (gs : Numbered) (k : Walk) → next_of m.scripts (order_of m g.turns) u ≡ None → Extends m g (u ∷ []) gs gs k k
@@ -84,13 +73,6 @@ module _ (m : Meeting) where
     noted = noted_none m (order_of m g.turns) u k.notes.items none;
     stay = stay_none k.numbers;
   }
-
-  pub extends_no_turn : (g : Group) (t : Turn) (u : ℕ) (gs : Numbered) (k : Walk) → have_statements m g.turns ≡ true → t ≡ next_turn u g.turns → statement_at m.scripts t ≡ None → Extends m g (u ∷ []) gs gs k k
-  extends_no_turn g t u gs k have next none = extends_ended g u gs k (by (next_of m.scripts (order_of m g.turns) u) (sym (next_there m u g.turns have) ∙ ap (statement_at m.scripts) (sym next) ∙ none))
-    where
-      by : (x : Option Statement) → option_map {T = Statement} {U = ℕ × Statement} (λ x. (u, x)) x ≡ None → x ≡ None
-      by None e = refl
-      by (Some x) e = absurd (cc (e))
 
   pub extends_more : (g : Group) (us vs : List ℕ) (a b c : Numbered) (k l n : Walk) → Extends m g us a b k l → Extends m g vs b c l n → Extends m g (us ++ vs) a c k n
   extends_more g us vs a b c k l n h r = record {

@@ -5,7 +5,6 @@ use Rattle.std.specs.Prelude.{option_map, option_to_list}
 use Rattle.dbtg_unit.specs.declared.statement.Statement.{Statement}
 use Rattle.dbtg_outcomes.specs.declared.groups.Group.{Group}
 use Rattle.dbtg_outcomes.specs.declared.notes.Note.{Note}
-use Rattle.dbtg_outcomes.specs.declared.turns.Turn.{Turn}
 use Rattle.dbtg_outcomes.specs.Inside.Gathered.{each_of, gathered}
 use Rattle.dbtg_outcomes.specs.Inside.Grouped.{IsAdded, Numbered}
 use Rattle.dbtg_outcomes.specs.Numbers.{AreNumbers, Grow, Numbers}
@@ -36,7 +35,7 @@ module _ (m : Meeting) where
       (stand_later m (IsNumberOf m a) (IsNumberOf m b) (number_later m a b are grown) old (gathered (state_key m) [] seen) h) is held added
 
   -- the group of the order that continues with a unit's next statement
-  pub hold_extended : (group : Group) (u : ℕ) (x : Statement) (ts : List Turn) (n : ℕ) (a b : Numbers) (old new : Numbered) → next_of m.scripts (order_of m group.turns) u ≡ Some x → LeadTo m ts (order_of m group.turns ++ (u, x) ∷ []) → Grow a b → AreNumbers b → IsNumberOf m b (order_of m ts) n → IsAdded old (record { number = n; turns = ts; orders = group.orders }) new → (seen : List (List (ℕ × Statement) × ℕ)) (w : List (ℕ × Statement) × ℕ) → IsHeld m group w → HoldStates m a old seen → HoldStates m b new (seen ++ each_of w.1 (extended_by m.scripts w.0 u))
+  pub hold_extended : (group : Group) (u : ℕ) (x : Statement) (ts : List ℕ) (n : ℕ) (a b : Numbers) (old new : Numbered) → next_of m.scripts (order_of m group.turns) u ≡ Some x → LeadTo m ts (order_of m group.turns ++ (u, x) ∷ []) → Grow a b → AreNumbers b → IsNumberOf m b (order_of m ts) n → IsAdded old (record { number = n; turns = ts; orders = group.orders }) new → (seen : List (List (ℕ × Statement) × ℕ)) (w : List (ℕ × Statement) × ℕ) → IsHeld m group w → HoldStates m a old seen → HoldStates m b new (seen ++ each_of w.1 (extended_by m.scripts w.0 u))
   hold_extended group u x ts n a b old new e leads grown are is added seen w held hold =
       let order : order_of m ts ≡ w.0 ++ (u, x) ∷ [] = leads.order_is ∙ ap (λ l. l ++ (u, x) ∷ []) held.turns.order_is in
       let next : next_of m.scripts w.0 u ≡ Some x = ap (λ o. next_of m.scripts o u) (sym held.turns.order_is) ∙ e in

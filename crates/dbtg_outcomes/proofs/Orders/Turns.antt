@@ -1,138 +1,182 @@
 -- Turns, and the order of the statements that are made in them.
--- m is a meeting, t a turn, ts are turns, u is a unit, o is an order.
-use Rattle.std.proofs.Common.{◌≡◌, refl, sym, ◌∙◌, ap, subst, ℕ, zero, suc, ◌+◌, ◌-◌, ◌<◌, ◌≤◌, ◌&&◌, Bool, true, false, List, [], ◌∷◌, ◌++◌, length, map, Option, Some, None, arith, append_assoc, slice_get, take, drop, get_or}
-use Rattle.std.specs.Prelude.{◌==◌, not, filter, is_some, option_and_then, option_map, nat_lt, option_to_list, slice_index_or, if◌then◌else◌}
-use Rattle.std.specs.List.{range_with_len}
-use Rattle.std.proofs.lemmas.Bool.{and_from, and_parts, eqb-true, false≢true}
+-- m is a meeting, u is a unit, us and vs are turns, o is an order, x is a statement.
+use Rattle.std.proofs.Common.{◌≡◌, refl, sym, ◌∙◌, ap, subst, ℕ, zero, suc, ◌+◌, ◌-◌, ◌<◌, ◌≤◌, ◌&&◌, Bool, true, false, List, [], ◌∷◌, ◌++◌, length, map, Option, Some, None, arith, append_assoc, append-nil, slice_get, take, drop, get_or}
+use Rattle.std.specs.Prelude.{◌==◌, filter, is_some, option_and_then, option_map, nat_lt, option_to_list, replicate, slice_index_or, if◌then◌else◌}
+use Rattle.std.specs.Borrow.{Bor}
+use Rattle.std.proofs.Math.Bool.{and_assoc}
+use Rattle.std.proofs.Math.Seq.{take-append_seam}
+use Rattle.std.proofs.lemmas.Bool.{and_from, and_parts, false≢true}
 use Rattle.std.proofs.lemmas.Bool.Decides.{nat_tests}
 use Rattle.std.proofs.lemmas.Option.{slice_get_past, slice_get_read}
-use Rattle.std.proofs.lemmas.List.{map-append, take-append-drop}
-use Rattle.std.proofs.lemmas.List.Concat.{flat_map-append}
-use Rattle.std.proofs.lemmas.List.Folds.{list_all-append}
+use Rattle.std.proofs.lemmas.List.{length-append, length-map, length-take-le, map-append, take-append-drop, take_more}
 use Rattle.dbtg_cells.proofs.Public.{get_behind}
 use Rattle.dbtg_unit.specs.declared.statement.Statement.{Statement}
-use Rattle.dbtg_unit.proofs.Public.{range_more}
 use Rattle.dbtg_step.specs.Machine.SequentialDatabase.{unit_at}
-use Rattle.dbtg_outcomes.specs.declared.turns.Turn.{Turn}
 use Rattle.dbtg_outcomes.specs.Orders.{made, next_of}
 use Rattle.dbtg_outcomes.specs.Results.{Meeting}
-use Rattle.dbtg_outcomes.specs.Inside.Walks.{LeadTo, have_statements, next_turn, order_of, statement_at, turns_of_script}
+use Rattle.dbtg_outcomes.specs.Inside.Walks.{LeadTo, have_statements, have_statements_behind, order_behind, order_of, statement_at, with_next}
+use Rattle.dbtg_outcomes.proofs.Orders.Begun.{made_own}
 
--- a turn with a statement is a list of one
-one_of : {X : Type 0} (o : Option X) → is_some o ≡ true → (x : X) × (option_to_list o ≡ x ∷ []) × (o ≡ Some x)
-one_of None h = absurd (false≢true h)
-one_of (Some x) h = (x, refl, refl)
+-- what is there
+pub some_is : {X : Type 0} (o : Option X) → is_some o ≡ true → (x : X) × (o ≡ Some x)
+some_is None h = absurd (false≢true h)
+some_is (Some x) h = (x, refl)
 
--- the statement of a turn is its unit's
-unit_of : (scripts : List (List Statement)) (t : Turn) (s : ℕ × Statement) → statement_at scripts t ≡ Some s → s.0 ≡ t.unit
-unit_of scripts t s h = by (option_and_then (λ (script : List Statement). slice_get script t.place) (unit_at scripts t.unit)) h
-  where
-    by : (x : Option Statement) → option_map (λ x. (t.unit, x)) x ≡ Some s → s.0 ≡ t.unit
-    by None e = absurd (cc)
-    by (Some x) e = let same : (t.unit, x) ≡ s = cc in ap (λ (r : ℕ × Statement). r.0) (sym same)
+-- a statement that is found is there
+pub found_some : (found : Option (Bor Statement)) (next : Option Statement) → option_map {T = Bor Statement} {U = Statement} (λ x. x.now) found ≡ next → is_some found ≡ true → is_some next ≡ true
+found_some None next e h = absurd (false≢true h)
+found_some (Some x) next e h = ap is_some (sym e)
+
+pub none_found : (found : Option (Bor Statement)) (next : Option Statement) → option_map {T = Bor Statement} {U = Statement} (λ x. x.now) found ≡ next → is_some found ≡ false → next ≡ None
+none_found None next e h = sym e
+none_found (Some x) next e h = absurd (cc (h))
+
+-- how many statements a unit has made, by the units of all statements
+made_units : (u : ℕ) (o : List (ℕ × Statement)) → made u o ≡ length (filter (λ (v : ℕ). v == u) (map (λ (s : ℕ × Statement). s.0) o))
+made_units u [] = refl
+made_units u (s ∷ o) =
+    let rest = made_units u o in
+    elim (s.0 == u) as (λ b. length (if b then s ∷ filter (λ (r : ℕ × Statement). r.0 == u) o else filter (λ (r : ℕ × Statement). r.0 == u) o) ≡ length (if b then s.0 ∷ filter (λ (v : ℕ). v == u) (map (λ (r : ℕ × Statement). r.0) o) else filter (λ (v : ℕ). v == u) (map (λ (r : ℕ × Statement). r.0) o))) [
+      | true ↦ omega (arith, rest)
+      | false ↦ rest
+    ]
+
+-- BEHIND AN ORDER
+
+module _ (scripts : List (List Statement)) where
+  with_some : (o : List (ℕ × Statement)) (u : ℕ) (x : Statement) → next_of scripts o u ≡ Some x → with_next scripts o u ≡ o ++ (u, x) ∷ []
+  with_some o u x e = ap (λ (n : Option Statement). o ++ option_to_list (option_map {T = Statement} {U = ℕ × Statement} (λ y. (u, y)) n)) e
+
+  behind_append : (o : List (ℕ × Statement)) (us vs : List ℕ) → order_behind scripts o (us ++ vs) ≡ order_behind scripts (order_behind scripts o us) vs
+  unfolding order_behind
+  behind_append o [] vs = refl
+  behind_append o (u ∷ us) vs = behind_append (with_next scripts o u) us vs
+
+  there_append : (o : List (ℕ × Statement)) (us vs : List ℕ) → have_statements_behind scripts o (us ++ vs) ≡ (have_statements_behind scripts o us && have_statements_behind scripts (order_behind scripts o us) vs)
+  unfolding order_behind have_statements_behind
+  there_append o [] vs = refl
+  there_append o (u ∷ us) vs =
+      ap (λ (b : Bool). is_some (next_of scripts o u) && b) (there_append (with_next scripts o u) us vs)
+      ∙ sym (and_assoc (is_some (next_of scripts o u)) (have_statements_behind scripts (with_next scripts o u) us) (have_statements_behind scripts (order_behind scripts (with_next scripts o u) us) vs))
+
+  -- one turn
+  one_behind : (o : List (ℕ × Statement)) (u : ℕ) → order_behind scripts o (u ∷ []) ≡ with_next scripts o u
+  unfolding order_behind
+  one_behind o u = refl
+
+  one_there : (o : List (ℕ × Statement)) (u : ℕ) → have_statements_behind scripts o (u ∷ []) ≡ (is_some (next_of scripts o u) && true)
+  unfolding have_statements_behind
+  one_there o u = refl
+
+  -- the order stays in front
+  begins : (o : List (ℕ × Statement)) (us : List ℕ) → (rest : List (ℕ × Statement)) × (order_behind scripts o us ≡ o ++ rest)
+  unfolding order_behind
+  begins o [] = ([], sym (append-nil o))
+  begins o (u ∷ us) =
+      let next = option_to_list (option_map {T = Statement} {U = ℕ × Statement} (λ x. (u, x)) (next_of scripts o u)) in
+      let more = begins (with_next scripts o u) us in
+      (next ++ more.0, more.1 ∙ append_assoc o next more.0)
+
+  units_behind : (o : List (ℕ × Statement)) (us : List ℕ) → have_statements_behind scripts o us ≡ true → map (λ (s : ℕ × Statement). s.0) (order_behind scripts o us) ≡ map (λ (s : ℕ × Statement). s.0) o ++ us
+  unfolding order_behind have_statements_behind
+  units_behind o [] h = sym (append-nil (map (λ (s : ℕ × Statement). s.0) o))
+  units_behind o (u ∷ us) h =
+      let both = and_parts (is_some (next_of scripts o u)) (have_statements_behind scripts (with_next scripts o u) us) h in
+      let one = some_is (next_of scripts o u) both.0 in
+      let front : map (λ (s : ℕ × Statement). s.0) (with_next scripts o u) ≡ map (λ (s : ℕ × Statement). s.0) o ++ u ∷ [] = ap (map (λ (s : ℕ × Statement). s.0)) (with_some o u one.0 one.1) ∙ map-append (λ (s : ℕ × Statement). s.0) o ((u, one.0) ∷ []) in
+      units_behind (with_next scripts o u) us both.1 ∙ ap (λ (l : List ℕ). l ++ us) front ∙ append_assoc (map (λ (s : ℕ × Statement). s.0) o) (u ∷ []) us
+
+  -- a unit that is at this place of its script makes the rest of it
+  script_behind : (u : ℕ) (front script : List Statement) (o : List (ℕ × Statement)) → unit_at scripts u ≡ Some (front ++ script) → made u o ≡ length front → (order_behind scripts o (replicate (length script) u) ≡ o ++ map (λ x. (u, x)) script) × (have_statements_behind scripts o (replicate (length script) u) ≡ true)
+  unfolding order_behind have_statements_behind
+  script_behind u front [] o e n = (sym (append-nil o), refl)
+  script_behind u front (x ∷ script) o e n =
+      let next : next_of scripts o u ≡ Some x = ap (option_and_then (λ (s : List Statement). slice_get s (made u o))) e ∙ ap (slice_get (front ++ x ∷ script)) n ∙ get_behind front x script in
+      let long : length (front ++ x ∷ []) ≡ length front + 1 = length-append front (x ∷ []) in
+      let own = made_own u o x in
+      let rest = script_behind u (front ++ x ∷ []) script (o ++ (u, x) ∷ []) (e ∙ ap Some (sym (append_assoc front (x ∷ []) script))) (omega (arith, long, own, n)) in
+      let is = with_some o u x next in (
+        ap (λ (p : List (ℕ × Statement)). order_behind scripts p (replicate (length script) u)) is ∙ rest.0 ∙ append_assoc o ((u, x) ∷ []) (map (λ x. (u, x)) script),
+        and_from (is_some (next_of scripts o u)) (have_statements_behind scripts (with_next scripts o u) (replicate (length script) u)) (ap is_some next) (ap (λ (p : List (ℕ × Statement)). have_statements_behind scripts p (replicate (length script) u)) is ∙ rest.1),
+      )
+
+  opening_order : order_behind scripts [] [] ≡ []
+  unfolding order_behind
+  opening_order = refl
+
+  opening_there : have_statements_behind scripts [] [] ≡ true
+  unfolding have_statements_behind
+  opening_there = refl
+
+-- OF A MEETING
 
 module _ (m : Meeting) where
-  pub order_append : (ts us : List Turn) → order_of m (ts ++ us) ≡ order_of m ts ++ order_of m us
-  order_append ts us = flat_map-append (λ (t : Turn). option_to_list (statement_at m.scripts t)) ts us
+  -- no turns
+  pub none_lead : LeadTo m [] []
+  none_lead = record { order_is = opening_order m.scripts; there = opening_there m.scripts }
 
-  pub there_append : (ts us : List Turn) → have_statements m (ts ++ us) ≡ (have_statements m ts && have_statements m us)
-  there_append ts us = list_all-append (λ (t : Turn). is_some (statement_at m.scripts t)) ts us
+  pub there_front : (us vs : List ℕ) → have_statements m (us ++ vs) ≡ true → have_statements m us ≡ true
+  there_front us vs h = (and_parts (have_statements m us) (have_statements_behind m.scripts (order_of m us) vs) (sym (there_append m.scripts [] us vs) ∙ h)).0
 
-  pub there_both : (ts us : List Turn) → have_statements m ts ≡ true → have_statements m us ≡ true → have_statements m (ts ++ us) ≡ true
-  there_both ts us h g = there_append ts us ∙ and_from (have_statements m ts) (have_statements m us) h g
+  pub there_taken : (n : ℕ) (us : List ℕ) → have_statements m us ≡ true → have_statements m (take n us) ≡ true
+  there_taken n us h = there_front (take n us) (drop n us) (ap (have_statements m) (take-append-drop n us) ∙ h)
 
-  pub there_parts : (n : ℕ) (ts : List Turn) → have_statements m ts ≡ true → (have_statements m (take n ts) ≡ true) × (have_statements m (drop n ts) ≡ true)
-  there_parts n ts h = and_parts (have_statements m (take n ts)) (have_statements m (drop n ts)) (sym (there_append (take n ts) (drop n ts)) ∙ ap (have_statements m) (take-append-drop n ts) ∙ h)
+  -- one turn more
+  pub there_then : (us : List ℕ) (u : ℕ) → have_statements m us ≡ true → is_some (next_of m.scripts (order_of m us) u) ≡ true → have_statements m (us ++ u ∷ []) ≡ true
+  there_then us u h g =
+      there_append m.scripts [] us (u ∷ [])
+      ∙ and_from (have_statements m us) (have_statements_behind m.scripts (order_of m us) (u ∷ [])) h (one_there m.scripts (order_of m us) u ∙ ap (λ (b : Bool). b && true) g)
 
-  pub there_at : (ts : List Turn) (i : ℕ) (t : Turn) → i < length ts → have_statements m ts ≡ true → is_some (statement_at m.scripts (get_or ts i t)) ≡ true
-  there_at [] i t low h = absurd (omega arith)
-  there_at (u ∷ ts) zero t low h = (and_parts (is_some (statement_at m.scripts u)) (have_statements m ts) h).0
-  there_at (u ∷ ts) (suc i) t low h = there_at ts i t (omega arith) (and_parts (is_some (statement_at m.scripts u)) (have_statements m ts) h).1
+  last_there : (us : List ℕ) (u : ℕ) → have_statements m (us ++ u ∷ []) ≡ true → is_some (next_of m.scripts (order_of m us) u) ≡ true
+  last_there us u h =
+      let behind = (and_parts (have_statements m us) (have_statements_behind m.scripts (order_of m us) (u ∷ [])) (sym (there_append m.scripts [] us (u ∷ [])) ∙ h)).1 in
+      (and_parts (is_some (next_of m.scripts (order_of m us) u)) true (sym (one_there m.scripts (order_of m us) u) ∙ behind)).0
 
-  -- the first statements are those of the first turns
-  pub order_taken : (n : ℕ) (ts : List Turn) → have_statements m ts ≡ true → take n (order_of m ts) ≡ order_of m (take n ts)
-  order_taken zero ts h = refl
-  order_taken (suc n) [] h = refl
-  order_taken (suc n) (t ∷ ts) h =
-      let both = and_parts (is_some (statement_at m.scripts t)) (have_statements m ts) h in
-      let one = one_of (statement_at m.scripts t) both.0 in
-      ap (λ (l : List (ℕ × Statement)). take (suc n) (l ++ order_of m ts)) one.1 ∙ ap (λ (l : List (ℕ × Statement)). one.0 ∷ l) (order_taken n ts both.1) ∙ ap (λ (l : List (ℕ × Statement)). l ++ order_of m (take n ts)) (sym one.1)
+  pub order_then : (us : List ℕ) (u : ℕ) (x : Statement) → next_of m.scripts (order_of m us) u ≡ Some x → order_of m (us ++ u ∷ []) ≡ order_of m us ++ (u, x) ∷ []
+  order_then us u x e = behind_append m.scripts [] us (u ∷ []) ∙ one_behind m.scripts (order_of m us) u ∙ with_some m.scripts (order_of m us) u x e
 
-  -- a unit has made as many statements as it had turns
-  pub made_in_turns : (u : ℕ) (ts : List Turn) → have_statements m ts ≡ true → made u (order_of m ts) ≡ length (filter (λ t. t.unit == u) ts)
-  made_in_turns u [] h = refl
-  made_in_turns u (t ∷ ts) h =
-      let both = and_parts (is_some (statement_at m.scripts t)) (have_statements m ts) h in
-      let one = one_of (statement_at m.scripts t) both.0 in
-      let same : one.0.0 ≡ t.unit = unit_of m.scripts t one.0 one.2 in
-      let rest = made_in_turns u ts both.1 in
-      ap (λ (l : List (ℕ × Statement)). made u (l ++ order_of m ts)) one.1
-      ∙ ap (λ (v : ℕ). length (if v == u then one.0 ∷ filter (λ (r : ℕ × Statement). r.0 == u) (order_of m ts) else filter (λ (r : ℕ × Statement). r.0 == u) (order_of m ts))) same
-      ∙ elim (t.unit == u) as (λ b. length (if b then one.0 ∷ filter (λ (r : ℕ × Statement). r.0 == u) (order_of m ts) else filter (λ (r : ℕ × Statement). r.0 == u) (order_of m ts)) ≡ length (if b then t ∷ filter (λ (r : Turn). r.unit == u) ts else filter (λ (r : Turn). r.unit == u) ts)) [
-        | true ↦ omega (arith, rest)
-        | false ↦ rest
-      ]
-
-  -- so the next turn of a unit has its next statement
-  pub next_there : (u : ℕ) (ts : List Turn) → have_statements m ts ≡ true → statement_at m.scripts (next_turn u ts) ≡ option_map (λ x. (u, x)) (next_of m.scripts (order_of m ts) u)
-  next_there u ts h = ap (λ (k : ℕ). option_map (λ x. (u, x)) (option_and_then (λ (script : List Statement). slice_get script k) (unit_at m.scripts u))) (sym (made_in_turns u ts h))
+  -- the unit of each of these turns has a next statement
+  pub there_at : (us vs so_far : List ℕ) (i u : ℕ) → i < length vs → have_statements m (us ++ vs) ≡ true → so_far ≡ us ++ take i vs → is_some (next_of m.scripts (order_of m so_far) (get_or vs i u)) ≡ true
+  there_at us vs so_far i u low h is =
+      let v = get_or vs i u in
+      let turns : (us ++ take i vs) ++ v ∷ [] ≡ us ++ take (i + 1) vs = append_assoc us (take i vs) (v ∷ []) ∙ ap (λ (l : List ℕ). us ++ l) (sym (take_more vs i u low)) in
+      let whole : ((us ++ take i vs) ++ v ∷ []) ++ drop (i + 1) vs ≡ us ++ vs = ap (λ (l : List ℕ). l ++ drop (i + 1) vs) turns ∙ append_assoc us (take (i + 1) vs) (drop (i + 1) vs) ∙ ap (λ (l : List ℕ). us ++ l) (take-append-drop (i + 1) vs) in
+      let there = last_there (us ++ take i vs) v (there_front ((us ++ take i vs) ++ v ∷ []) (drop (i + 1) vs) (ap (have_statements m) whole ∙ h)) in
+      ap (λ (l : List ℕ). is_some (next_of m.scripts (order_of m l) v)) is ∙ there
 
   -- the units of the order are those of the turns
-  pub units_are : (ts : List Turn) → have_statements m ts ≡ true → map (λ (s : ℕ × Statement). s.0) (order_of m ts) ≡ map (λ (t : Turn). t.unit) ts
-  units_are [] h = refl
-  units_are (t ∷ ts) h =
-      let both = and_parts (is_some (statement_at m.scripts t)) (have_statements m ts) h in
-      let one = one_of (statement_at m.scripts t) both.0 in
-      ap (λ (l : List (ℕ × Statement)). map (λ (s : ℕ × Statement). s.0) (l ++ order_of m ts)) one.1 ∙ (λ i. unit_of m.scripts t one.0 one.2 i ∷ units_are ts both.1 i)
+  pub units_are : (us : List ℕ) → have_statements m us ≡ true → map (λ (s : ℕ × Statement). s.0) (order_of m us) ≡ us
+  units_are us h = units_behind m.scripts [] us h
 
-  -- THE TURNS OF A SCRIPT
+  -- a unit has made as many statements as it had turns
+  pub made_in_turns : (u : ℕ) (us : List ℕ) → have_statements m us ≡ true → made u (order_of m us) ≡ length (filter (λ v. v == u) us)
+  made_in_turns u us h = made_units u (order_of m us) ∙ ap (λ (l : List ℕ). length (filter (λ (v : ℕ). v == u) l)) (units_are us h)
 
-  -- from the statement at this place on
-  script_from : (u : ℕ) (front script : List Statement) → unit_at m.scripts u ≡ Some (front ++ script) → LeadTo m (map (λ i. record { unit = u; place = i }) (range_with_len (length front) (length script))) (map (λ x. (u, x)) script)
-  script_from u front [] e = record { order_is = refl; there = refl }
-  script_from u front (x ∷ script) e =
-      let t : Turn = record { unit = u; place = length front } in
-      let at : statement_at m.scripts t ≡ Some (u, x) = ap (λ (f : Option (List Statement)). option_map (λ y. (u, y)) (option_and_then (λ (s : List Statement). slice_get s (length front)) f)) e ∙ ap (option_map (λ y. (u, y))) (get_behind front x script) in
-      let rest = script_from u (front ++ x ∷ []) script (e ∙ ap Some (sym (append_assoc front (x ∷ []) script))) in
-      let long : length (front ++ x ∷ []) ≡ length front + 1 = long_by_one front in
-      let moved = subst (λ (k : ℕ). LeadTo m (map (λ i. record { unit = u; place = i }) (range_with_len k (length script))) (map (λ x. (u, x)) script)) long rest in
-      record {
-        order_is = (λ i. option_to_list (at i) ++ moved.order_is i);
-        there = and_from (is_some (statement_at m.scripts t)) (have_statements m (map (λ i. record { unit = u; place = i }) (range_with_len (length front + 1) (length script)))) (ap is_some at) moved.there;
-      }
-    where
-      long_by_one : (xs : List Statement) → length (xs ++ x ∷ []) ≡ length xs + 1
-      long_by_one [] = refl
-      long_by_one (y ∷ ys) = let rest = long_by_one ys in omega (arith, rest)
+  -- so its next statement is the one at that place of its script
+  pub next_at : (u place : ℕ) (us : List ℕ) → have_statements m us ≡ true → place ≡ length (filter (λ v. v == u) us) → statement_at m.scripts u place ≡ next_of m.scripts (order_of m us) u
+  next_at u place us h is = ap (statement_at m.scripts u) (is ∙ sym (made_in_turns u us h))
 
-  pub script_turns : (u : ℕ) (script : List Statement) (count : ℕ) → unit_at m.scripts u ≡ Some script → count ≡ length script → LeadTo m (turns_of_script u count) (map (λ x. (u, x)) script)
-  script_turns u script count e n = subst (λ (k : ℕ). LeadTo m (turns_of_script u k) (map (λ x. (u, x)) script)) (sym n) (script_from u [] script e)
+  -- the first statements are those of the first turns
+  pub order_taken : (n : ℕ) (us : List ℕ) → n ≤ length us → have_statements m us ≡ true → take n (order_of m us) ≡ order_of m (take n us)
+  order_taken n us low h =
+      let front = order_of m (take n us) in
+      let more = begins m.scripts front (drop n us) in
+      let whole : order_of m us ≡ front ++ more.0 = ap (order_of m) (sym (take-append-drop n us)) ∙ behind_append m.scripts [] (take n us) (drop n us) ∙ more.1 in
+      let long : length front ≡ n = sym (length-map front (λ (s : ℕ × Statement). s.0)) ∙ ap length (units_are (take n us) (there_taken n us h)) ∙ length-take-le n us low in
+      ap (take n) whole ∙ ap (λ (k : ℕ). take k (front ++ more.0)) (sym long) ∙ take-append_seam front more.0
 
-  pub leads_on : (ts us : List Turn) (o p : List (ℕ × Statement)) → LeadTo m ts o → LeadTo m us p → LeadTo m (ts ++ us) (o ++ p)
-  leads_on ts us o p h g = record { order_is = order_append ts us ∙ (λ i. h.order_is i ++ g.order_is i); there = there_both ts us h.there g.there }
-
--- one turn more of a script
-pub one_turn_more : (u n : ℕ) → turns_of_script u (n + 1) ≡ turns_of_script u n ++ record { unit = u; place = n } ∷ []
-one_turn_more u n =
-    let e : n + 1 ≡ suc n = omega arith in
-    let last : 0 + n ≡ n = omega arith in
-    ap (map {A = ℕ} {B = Turn} (λ i. record { unit = u; place = i })) (ap (range_with_len 0) e ∙ range_more n 0 ∙ ap (λ k. range_with_len 0 n ++ k ∷ []) last)
-    ∙ map-append {A = ℕ} {B = Turn} (λ i. record { unit = u; place = i }) (range_with_len 0 n) (n ∷ [])
-
--- turns that are not told apart are the same
-pub same_turn : (t u : Turn) → false ≡ not (t.unit == u.unit && t.place == u.place) → t ≡ u
-same_turn t u e = by (t.unit == u.unit) (t.place == u.place) refl refl e
-  where
-    by : (a b : Bool) → (t.unit == u.unit) ≡ a → (t.place == u.place) ≡ b → false ≡ not (a && b) → t ≡ u
-    by true true f g h = let unit = eqb-true t.unit u.unit f in let place = eqb-true t.place u.place g in λ i. record { unit = unit i; place = place i }
-    by true false f g h = absurd (false≢true h)
-    by false b f g h = absurd (false≢true h)
+  -- a unit that has made nothing yet makes its script
+  pub script_turns : (us : List ℕ) (o : List (ℕ × Statement)) (u : ℕ) (script : List Statement) (count : ℕ) → LeadTo m us o → made u o ≡ 0 → unit_at m.scripts u ≡ Some script → count ≡ length script → LeadTo m (us ++ replicate count u) (o ++ map (λ x. (u, x)) script)
+  script_turns us o u script count h idle e n =
+      let made = script_behind m.scripts u [] script o e idle in
+      subst (λ (k : ℕ). LeadTo m (us ++ replicate k u) (o ++ map (λ x. (u, x)) script)) (sym n) (record {
+        order_is = behind_append m.scripts [] us (replicate (length script) u) ∙ ap (λ (p : List (ℕ × Statement)). order_behind m.scripts p (replicate (length script) u)) h.order_is ∙ made.0;
+        there =
+            there_append m.scripts [] us (replicate (length script) u)
+            ∙ and_from (have_statements m us) (have_statements_behind m.scripts (order_of m us) (replicate (length script) u)) h.there (ap (λ (p : List (ℕ × Statement)). have_statements_behind m.scripts p (replicate (length script) u)) h.order_is ∙ made.1);
+      })
 
 -- WHERE A STATEMENT IS LOOKED FOR
-
-pub looked_for : (scripts : List (List Statement)) (t : Turn) (script : Option (List Statement)) (found : Option Statement) → unit_at scripts t.unit ≡ script → found ≡ option_and_then (λ (s : List Statement). slice_get s t.place) script → option_map {T = Statement} {U = ℕ × Statement} (λ x. (t.unit, x)) found ≡ statement_at scripts t
-looked_for scripts t script found at is =
-    ap (option_map {T = Statement} {U = ℕ × Statement} (λ x. (t.unit, x))) (is ∙ ap (λ (f : Option (List Statement)). option_and_then (λ (s : List Statement). slice_get s t.place) f) (sym at))
 
 pub no_unit : (scripts : List (List Statement)) (u : ℕ) → u ≡ 0 → unit_at scripts u ≡ None
 unfolding unit_at

@@ -1,7 +1,7 @@
 -- A meeting with one script beside the one that is made first: there is one order, and one state after each statement.
 -- m is a meeting, o is an order, u a unit, x a statement, k how many statements are made.
 use Rattle.std.proofs.Common.{inl, inr, ◌≡◌, refl, sym, ◌∙◌, ap, subst, ℕ, zero, suc, ◌+◌, ◌-◌, ◌<◌, ◌≤◌, Bool, true, false, List, [], ◌∷◌, ◌++◌, length, take, drop, get_or, Some, None, arith, append_assoc, append-nil, slice_get}
-use Rattle.std.specs.Prelude.{Contains, flat_map, option_map, option_to_list, if◌then◌else◌}
+use Rattle.std.specs.Prelude.{Contains, flat_map, option_map, option_to_list, replicate, if◌then◌else◌}
 use Rattle.std.specs.List.{list_all, range_with_len}
 use Rattle.std.specs.Str.{bytes_eq}
 use Rattle.std.proofs.lemmas.Bool.{and_parts}
@@ -14,7 +14,6 @@ use Rattle.dbtg_step.specs.Machine.SequentialDatabase.{unit_at}
 use Rattle.dbtg_outcomes.specs.declared.groups.Group.{Group}
 use Rattle.dbtg_outcomes.specs.declared.notes.Note.{Note}
 use Rattle.dbtg_outcomes.specs.declared.search.Search as given
-use Rattle.dbtg_outcomes.specs.declared.turns.Turn.{Turn}
 use Rattle.dbtg_outcomes.specs.declared.walk.Walk.{Walk}
 use Rattle.dbtg_outcomes.specs.Counted.{counted}
 use Rattle.dbtg_outcomes.specs.Groups.{groups}
@@ -23,10 +22,10 @@ use Rattle.dbtg_outcomes.specs.Outcomes.{Comes, count_states, states_after, stat
 use Rattle.dbtg_outcomes.specs.Results.{Meeting, state_key, units_of}
 use Rattle.dbtg_outcomes.specs.Inside.Search.{AreHeld, AreNotedOf, HasNote, IsAt, IsNoteIn, layer, order_alone}
 use Rattle.dbtg_outcomes.specs.Inside.Steps.{IsAtState}
-use Rattle.dbtg_outcomes.specs.Inside.Walks.{LeadTo, Stands, turns_of_script}
+use Rattle.dbtg_outcomes.specs.Inside.Walks.{LeadTo, Stands}
 use Rattle.dbtg_outcomes.proofs.Lists.Members.{contains_in, in_contains}
 use Rattle.dbtg_outcomes.proofs.Orders.Begun.{begun_more, completed_last}
-use Rattle.dbtg_outcomes.proofs.Orders.Turns.{leads_on, script_turns}
+use Rattle.dbtg_outcomes.proofs.Orders.Turns.{script_turns}
 use Rattle.dbtg_outcomes.proofs.Orders.Mixed.{by_one, own, own_all, own_append, own_none}
 
 -- HOW MANY STATEMENTS A UNIT HAS MADE
@@ -167,10 +166,10 @@ module _ (m : Meeting) (script : List Statement) (alone : others m.first m.scrip
       ∙ ap (λ (o : List (ℕ × Statement)). o ∷ []) (whole_is m.first m.scripts script alone)
 
   -- its turns
-  pub turns_alone_lead : (ts us : List Turn) (count : ℕ) → LeadTo m ts (made_first m.first m.scripts) → us ≡ ts ++ turns_of_script 1 count → count ≡ length script → LeadTo m us (order_alone m script)
-  turns_alone_lead ts us count first is long =
-      subst (λ (vs : List Turn). LeadTo m vs (order_alone m script)) (sym is)
-      (leads_on m ts (turns_of_script 1 count) (made_first m.first m.scripts) (by_one 1 script) first (script_turns m 1 script count (alone_unit m.first m.scripts script alone) long))
+  pub turns_alone_lead : (us vs : List ℕ) (count : ℕ) → LeadTo m us (made_first m.first m.scripts) → vs ≡ us ++ replicate count 1 → count ≡ length script → LeadTo m vs (order_alone m script)
+  turns_alone_lead us vs count first is long =
+      subst (λ (ws : List ℕ). LeadTo m ws (order_alone m script)) (sym is)
+      (script_turns m us (made_first m.first m.scripts) 1 script count first (first_idle m.first m.scripts script alone) (alone_unit m.first m.scripts script alone) long)
 
   -- STATES
 

@@ -1,8 +1,7 @@
 -- Where a unit's turn is next: its unit is of the schema, and what its statement looks at there is what it looks at after the order.
--- m is a meeting, o an order, t a turn, x a statement.
-use Rattle.std.proofs.Common.{◌≡◌, refl, sym, ◌∙◌, ap, subst, ℕ, suc, ◌-◌, ◌<◌, true, List, [], ◌∷◌, ◌++◌, Option, Some, None, slice_get}
-use Rattle.std.specs.Prelude.{IfSome, is_some, option_map, option_to_list}
-use Rattle.std.proofs.lemmas.Bool.{false≢true}
+-- m is a meeting, o an order, u a unit, x a statement.
+use Rattle.std.proofs.Common.{◌≡◌, sym, ◌∙◌, ap, subst, ℕ, suc, ◌-◌, ◌<◌, true, List, Option, Some, None, slice_get}
+use Rattle.std.specs.Prelude.{IfSome}
 use Rattle.std.specs.List.{list_all}
 use Rattle.std.proofs.lemmas.Option.{same_Some}
 use Rattle.dbtg_cells.specs.CellNumbers.{is_cell}
@@ -17,10 +16,7 @@ use Rattle.dbtg_outcomes.specs.Looked.{IsReadyWith}
 use Rattle.dbtg_outcomes.specs.Outcomes.{IsMeeting}
 use Rattle.dbtg_outcomes.specs.Results.{Meeting, state_of}
 use Rattle.dbtg_outcomes.specs.Inside.Transitions.{AreLookedAt}
-use Rattle.dbtg_outcomes.specs.declared.turns.Turn.{Turn}
-use Rattle.dbtg_outcomes.specs.Orders.{next_of}
-use Rattle.dbtg_outcomes.specs.Inside.Walks.{IsMaking, have_statements, next_turn, order_of, statement_at}
-use Rattle.dbtg_outcomes.proofs.Orders.Turns.{next_there, order_append}
+use Rattle.dbtg_outcomes.specs.Inside.Walks.{IsMaking}
 use Rattle.dbtg_outcomes.proofs.States.LeadOn.{legal_now}
 use Rattle.dbtg_outcomes.proofs.States.Next.{unit_is}
 use Rattle.dbtg_outcomes.proofs.States.Runs.{run_state_is}
@@ -29,35 +25,6 @@ use Rattle.dbtg_outcomes.proofs.States.Runs.{run_state_is}
 pub if_some_weaker : {T : Type 0} (r : Option T) (P Q : T → Type 0) → ((x : T) → P x → Q x) → IfSome r P → IfSome r Q
 if_some_weaker None P Q f h = tt
 if_some_weaker (Some x) P Q f h = f x h
-
--- the turn of a unit that has a statement left is that of its next statement
-pub record IsNextTurn (m : Meeting) (ts : List Turn) (t : Turn) : Type 0 where
-  pub statement : Statement
-  pub next : next_of m.scripts (order_of m ts) t.unit ≡ Some statement
-  pub there : statement_at m.scripts t ≡ Some (t.unit, statement)
-
-pub is_next_turn : (m : Meeting) (ts : List Turn) (t : Turn) → have_statements m ts ≡ true → t ≡ next_turn t.unit ts → is_some (statement_at m.scripts t) ≡ true → IsNextTurn m ts t
-is_next_turn m ts t have next there = by (next_of m.scripts (order_of m ts) t.unit) refl where
-  at : statement_at m.scripts t ≡ option_map (λ x. (t.unit, x)) (next_of m.scripts (order_of m ts) t.unit)
-  at = ap (statement_at m.scripts) next ∙ next_there m t.unit ts have
-
-  by : (x : Option Statement) → next_of m.scripts (order_of m ts) t.unit ≡ x → IsNextTurn m ts t
-  by None e = absurd (false≢true (sym (ap is_some (at ∙ ap (option_map {T = Statement} {U = ℕ × Statement} (λ x. (t.unit, x))) e)) ∙ there))
-  by (Some x) e = record { statement = x; next = e; there = at ∙ ap (option_map {T = Statement} {U = ℕ × Statement} (λ x. (t.unit, x))) e }
-
-pub same_statement : (u : ℕ) (x y : Statement) → ◌≡◌ {A = Option (ℕ × Statement)} (Some (u, x)) (Some (u, y)) → x ≡ y
-same_statement u x y e =
-    let p : ℕ × Statement = (u, x) in
-    let q : ℕ × Statement = (u, y) in
-    let pair : Some p ≡ Some q = e in
-    let same : p ≡ q = cc in
-    ap (λ (s : ℕ × Statement). s.1) same
-
--- its order
-pub order_then : (m : Meeting) (ts : List Turn) (t : Turn) (x : Statement) → statement_at m.scripts t ≡ Some (t.unit, x) → order_of m (ts ++ t ∷ []) ≡ order_of m ts ++ (t.unit, x) ∷ []
-order_then m ts t x e =
-    let one : order_of m (t ∷ []) ≡ (t.unit, x) ∷ [] = ap (λ (o : Option (ℕ × Statement)). option_to_list o ++ []) e in
-    order_append m ts (t ∷ []) ∙ ap (λ (o : List (ℕ × Statement)). order_of m ts ++ o) one
 
 module _ (m : Meeting) (is : IsMeeting m) (o : List (ℕ × Statement)) (making : Making) (at : IsMaking m o making) (history : IsHistoryOf making.schema making.capacity making.units making.history) where
   legal_here : IsLegalState m.schema m.capacity (state_of m o)

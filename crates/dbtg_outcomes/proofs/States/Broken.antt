@@ -1,8 +1,8 @@
 -- Orders that break a wish: from the groups of a layer to all its orders, and from these to the statuses that come.
 -- m is a meeting, w a wish, o an order, x is a statement, n how many statements are made.
 use Rattle.std.proofs.Common.{◌≡◌, get_or, take, ⊎_elim, refl, sym, ◌∙◌, ap, subst, ℕ, ◌+◌, ◌-◌, ◌<◌, ◌≤◌, Bool, true, false, List, [], ◌∷◌, ◌++◌, length, map, Option, Some, None, arith, inl, inr, append_assoc, slice_get}
-use Rattle.std.specs.Prelude.{Contains, is_some, nat_le, nat_lt, option_and_then, option_map, unwrap_or}
-use Rattle.std.proofs.lemmas.Bool.{and_parts, cases_Bool, cases_lt, false≢true, leb-true, ltb-true}
+use Rattle.std.specs.Prelude.{◌==◌, Contains, filter, is_some, nat_le, nat_lt, option_and_then, unwrap_or}
+use Rattle.std.proofs.lemmas.Bool.{and_parts, cases_Bool, cases_lt, leb-true, ltb-true}
 use Rattle.std.proofs.lemmas.Option.{slice_get_within}
 use Rattle.std.proofs.lemmas.List.{length-append, length-map, length-take-le, take_more}
 use Rattle.std.proofs.lemmas.List.Elements.{Contains-push_cases}
@@ -12,7 +12,6 @@ use Rattle.dbtg_unit.specs.Database.Statements.Effect.{StatementEffect}
 use Rattle.dbtg_unit.proofs.Public.{In, in_range, in_right, of_map}
 use Rattle.dbtg_step.specs.Machine.SequentialDatabase.{unit_at}
 use Rattle.dbtg_outcomes.specs.declared.groups.Group.{Group}
-use Rattle.dbtg_outcomes.specs.declared.turns.Turn.{Turn}
 use Rattle.dbtg_outcomes.specs.declared.walk.Walk.{Walk}
 use Rattle.dbtg_outcomes.specs.declared.wishes.Hunt.{Hunt}
 use Rattle.dbtg_outcomes.specs.declared.wishes.Wish.{Wish}
@@ -22,12 +21,12 @@ use Rattle.dbtg_outcomes.specs.Results.{Meeting, state_key, units_of}
 use Rattle.dbtg_outcomes.specs.Wishes.{BreaksBy, IsJudged, breaks, is_there}
 use Rattle.dbtg_outcomes.specs.Inside.Search.{AreHeld, layer}
 use Rattle.dbtg_outcomes.specs.Inside.Steps.{Advances, GoesOn, IsOver}
-use Rattle.dbtg_outcomes.specs.Inside.Walks.{HasStatusIn, Stands, have_statements, next_turn, order_of, statement_at}
+use Rattle.dbtg_outcomes.specs.Inside.Walks.{HasNextStatus, Stands, have_statements, order_of}
 use Rattle.dbtg_outcomes.specs.Inside.Wishes.{Breaks, Hunts, HuntsOn, IsBroken, IsBrokenIn, IsHunt, IsHuntOver, IsHunting, IsUnbroken}
 use Rattle.dbtg_outcomes.proofs.Lists.Members.{contains_in, in_contains}
 use Rattle.dbtg_outcomes.proofs.Orders.Begun.{amid, begun_left, begun_long, completed_begins, front_or_amid, next_left}
 use Rattle.dbtg_outcomes.proofs.Orders.Mixed.{first_left}
-use Rattle.dbtg_outcomes.proofs.Orders.Turns.{made_in_turns, next_there, units_are}
+use Rattle.dbtg_outcomes.proofs.Orders.Turns.{made_in_turns, some_is, units_are}
 use Rattle.dbtg_outcomes.proofs.States.SameStates.{SameState, back, status_same}
 use Rattle.dbtg_outcomes.proofs.States.Searched.{at_walked, held_of, next_completes, states_grow, weight_of}
 use Rattle.dbtg_outcomes.proofs.States.States.{group_of, has_group, same_state}
@@ -55,47 +54,32 @@ module _ (m : Meeting) (w : Wish) where
   none_next o e b = let clash : None ≡ Some b.statement = sym e ∙ b.next_is in absurd (cc)
 
   -- the same of turns, after which the unit of the wish has its next turn
-  module _ (ts : List Turn) (t : Turn) (have : have_statements m ts ≡ true) (is : t ≡ next_turn w.unit ts) where
-    at : statement_at m.scripts t ≡ option_map {T = Statement} {U = ℕ × Statement} (λ x. (w.unit, x)) (next_of m.scripts (order_of m ts) w.unit)
-    at = ap (statement_at m.scripts) is ∙ next_there m w.unit ts have
+  module _ (us : List ℕ) (have : have_statements m us ≡ true) (place : ℕ) (is : place ≡ length (filter (λ u. u == w.unit) us)) where
+    made_is : made w.unit (order_of m us) ≡ place
+    made_is = made_in_turns m w.unit us have ∙ sym is
 
-    made_is : made w.unit (order_of m ts) ≡ t.place
-    made_is = made_in_turns m w.unit ts have ∙ sym (ap (λ (u : Turn). u.place) is)
-
-    pub broken_turn : (code : ℕ) (broken : Bool) → is_some (statement_at m.scripts t) ≡ true → t.place ≡ w.place - 1 → HasStatusIn m (order_of m ts) t code → broken ≡ breaks w code → IsBroken m w (order_of m ts) broken
-    broken_turn code broken there place has decides = by (next_of m.scripts (order_of m ts) w.unit) refl
-      where
-        by : (x : Option Statement) → next_of m.scripts (order_of m ts) w.unit ≡ x → IsBroken m w (order_of m ts) broken
-        by None e = absurd (false≢true (sym (ap is_some (at ∙ ap (option_map {T = Statement} {U = ℕ × Statement} (λ x. (w.unit, x))) e)) ∙ there))
-        by (Some x) e =
-            let unit : t.unit ≡ w.unit = ap (λ (u : Turn). u.unit) is in
-            let found : statement_at m.scripts t ≡ Some (t.unit, x) = at ∙ ap (option_map {T = Statement} {U = ℕ × Statement} (λ x. (w.unit, x))) e ∙ ap (λ (u : ℕ). Some (u, x)) (sym unit) in
-            broken_by (order_of m ts) x code broken e (made_is ∙ place) (subst (λ (u : ℕ). HasStatus m (order_of m ts) u x code) unit (has x found)) decides
+    pub broken_turn : (code : ℕ) (broken : Bool) → is_some (next_of m.scripts (order_of m us) w.unit) ≡ true → place ≡ w.place - 1 → HasNextStatus m (order_of m us) w.unit code → broken ≡ breaks w code → IsBroken m w (order_of m us) broken
+    broken_turn code broken there at has decides =
+        let next = some_is (next_of m.scripts (order_of m us) w.unit) there in
+        broken_by (order_of m us) next.0 code broken next.1 (made_is ∙ at) (has next.0 next.1) decides
 
     -- no such statement comes next
-    pub other_place : (t.place ≡ w.place - 1 → ⊥) → Breaks m w (order_of m ts) → ⊥
+    pub other_place : (place ≡ w.place - 1 → ⊥) → Breaks m w (order_of m us) → ⊥
     other_place other b = other (sym made_is ∙ b.place_is)
-
-    pub no_turn : statement_at m.scripts t ≡ None → Breaks m w (order_of m ts) → ⊥
-    no_turn none = none_next (order_of m ts) (by (next_of m.scripts (order_of m ts) w.unit) (sym at ∙ none))
-      where
-        by : (x : Option Statement) → option_map {T = Statement} {U = ℕ × Statement} (λ x. (w.unit, x)) x ≡ None → x ≡ None
-        by None e = refl
-        by (Some x) e = absurd (cc (e))
 
   -- GROUP BY GROUP
 
   pub none_broken : IsBrokenIn m w [] None
   none_broken g c b = absurd (contains_in [] g c)
 
-  pub none_broken_more : (gs : List Group) (i : ℕ) (g : Group) (broken : Bool) (ts : List Turn) → i < length gs → g ≡ get_or gs i g → ts ≡ g.turns → IsBrokenIn m w (take i gs) None → IsBroken m w (order_of m ts) broken → broken ≡ false → IsBrokenIn m w (take (i + 1) gs) None
+  pub none_broken_more : (gs : List Group) (i : ℕ) (g : Group) (broken : Bool) (ts : List ℕ) → i < length gs → g ≡ get_or gs i g → ts ≡ g.turns → IsBrokenIn m w (take i gs) None → IsBroken m w (order_of m ts) broken → broken ≡ false → IsBrokenIn m w (take (i + 1) gs) None
   none_broken_more gs i g broken ts low is same before here none f c b =
       let more : take (i + 1) gs ≡ take i gs ++ g ∷ [] = take_more gs i g low ∙ ap (λ (x : Group). take i gs ++ x ∷ []) (sym is) in
       ⊎_elim
       (λ d. before f d b)
       (λ e.
       let there : f.turns ≡ ts = ap (λ (x : Group). x.turns) (sym e) ∙ sym same in
-      subst (IsBroken m w (order_of m ts)) none here (subst (λ (us : List Turn). Breaks m w (order_of m us)) there b))
+      subst (IsBroken m w (order_of m ts)) none here (subst (λ (us : List ℕ). Breaks m w (order_of m us)) there b))
       (Contains-push_cases (take i gs) g f (subst (λ (l : List Group). Contains l f) more c))
 
   -- FROM THE GROUPS OF A LAYER TO ITS ORDERS

@@ -1,7 +1,7 @@
 -- The script that is made first, statement by statement.
 -- m is a meeting, o is an order, u is a unit, x is a statement.
 use Rattle.std.proofs.Common.{◌≡◌, refl, sym, ◌∙◌, ap, subst, ℕ, suc, ◌+◌, ◌-◌, ◌<◌, ◌≤◌, Bool, true, false, List, [], ◌∷◌, ◌++◌, length, take, get_or, Some, arith, append-nil, append_assoc, slice_get}
-use Rattle.std.specs.Prelude.{unwrap_or}
+use Rattle.std.specs.Prelude.{replicate, unwrap_or}
 use Rattle.std.specs.List.{list_all}
 use Rattle.std.proofs.lemmas.List.{length-take-le, map-append, take_more}
 use Rattle.std.proofs.lemmas.Option.{slice_get_read}
@@ -14,16 +14,15 @@ use Rattle.dbtg_unit.proofs.Public.{all_at, element_at}
 use Rattle.dbtg_step.specs.Core.Whole.{HasMade, Making}
 use Rattle.dbtg_step.specs.Machine.SequentialDatabase.{unit_at}
 use Rattle.dbtg_outcomes.specs.declared.notes.Note.{Note}
-use Rattle.dbtg_outcomes.specs.declared.turns.Turn.{Turn}
 use Rattle.dbtg_outcomes.specs.Inside.Outcomes.{MakesNoted, MakesScript}
-use Rattle.dbtg_outcomes.specs.Inside.Walks.{IsMaking, LeadTo, turns_of_script}
+use Rattle.dbtg_outcomes.specs.Inside.Walks.{IsMaking, LeadTo}
 use Rattle.dbtg_outcomes.specs.Inside.Search.{AreNotedOf}
 use Rattle.dbtg_outcomes.specs.Inside.Statuses.{HasNoted}
 use Rattle.dbtg_outcomes.specs.Orders.{first_script, last_of, made, made_first}
 use Rattle.dbtg_outcomes.specs.Results.{Meeting}
 use Rattle.dbtg_outcomes.proofs.Orders.Mixed.{by_one}
 use Rattle.dbtg_outcomes.proofs.Orders.Begun.{made_own}
-use Rattle.dbtg_outcomes.proofs.Orders.Turns.{script_turns}
+use Rattle.dbtg_outcomes.proofs.Orders.Turns.{none_lead, script_turns}
 use Rattle.dbtg_outcomes.proofs.States.Noted.{noted_of_more}
 use Rattle.dbtg_outcomes.proofs.States.Runs.{made_more, status_of}
 
@@ -117,12 +116,12 @@ module _ (m : Meeting) where
       let index : length scripts ≡ length (s ∷ scripts) - 1 = omega arith in
       ap (slice_get (s ∷ scripts)) index ∙ at.1 ∙ ap Some (sym (ap (λ f. unwrap_or f []) at.1))
 
-  led_by : (first : Bool) (scripts : List (List Statement)) → m.scripts ≡ scripts → LeadTo m (turns_of_script (length scripts) (length (first_script first scripts))) (made_first first scripts)
-  led_by false scripts e = record { order_is = refl; there = refl }
-  led_by true [] e = record { order_is = refl; there = refl }
+  led_by : (first : Bool) (scripts : List (List Statement)) → m.scripts ≡ scripts → LeadTo m (replicate (length (first_script first scripts)) (length scripts)) (made_first first scripts)
+  led_by false scripts e = none_lead m
+  led_by true [] e = none_lead m
   led_by true (s ∷ scripts) e =
-      script_turns m (length (s ∷ scripts)) (last_of (s ∷ scripts)) (length (last_of (s ∷ scripts))) (ap (λ (l : List (List Statement)). unit_at l (length (s ∷ scripts))) e ∙ last_unit s scripts) refl
+      script_turns m [] [] (length (s ∷ scripts)) (last_of (s ∷ scripts)) (length (last_of (s ∷ scripts))) (none_lead m) refl (ap (λ (l : List (List Statement)). unit_at l (length (s ∷ scripts))) e ∙ last_unit s scripts) refl
 
-  pub first_turns_lead : (ts : List Turn) (u count : ℕ) → ts ≡ turns_of_script u count → u ≡ length m.scripts → count ≡ length (first_script m.first m.scripts) → LeadTo m ts (made_first m.first m.scripts)
-  first_turns_lead ts u count is unit long =
-      subst (λ (us : List Turn). LeadTo m us (made_first m.first m.scripts)) (sym (is ∙ (λ i. turns_of_script (unit i) (long i)))) (led_by m.first m.scripts refl)
+  pub first_turns_lead : (us : List ℕ) (u count : ℕ) → us ≡ replicate count u → u ≡ length m.scripts → count ≡ length (first_script m.first m.scripts) → LeadTo m us (made_first m.first m.scripts)
+  first_turns_lead us u count is unit long =
+      subst (λ (vs : List ℕ). LeadTo m vs (made_first m.first m.scripts)) (sym (is ∙ (λ i. replicate (long i) (unit i)))) (led_by m.first m.scripts refl)

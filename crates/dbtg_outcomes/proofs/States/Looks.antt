@@ -6,6 +6,7 @@ use Rattle.std.proofs.lemmas.List.{map-append}
 use Rattle.std.proofs.lemmas.List.Elements.{All-append, All-cons, All-nil}
 use Rattle.std.specs.List.{list_all}
 use Rattle.std.proofs.lemmas.Bool.{and_parts, eqb-true, false≢true}
+use Rattle.dbtg_schema.specs.Lists.{Lists}
 use Rattle.dbtg_schema.specs.Lookups.{some_and}
 use Rattle.dbtg_interned.specs.Arrays.{elements, with_each}
 use Rattle.dbtg_unit.proofs.Public.{In}
@@ -13,9 +14,7 @@ use Rattle.dbtg_cells.specs.declared.name.CellName.{CellName}
 use Rattle.dbtg_outcomes.specs.declared.transitions.Look.{Look}
 use Rattle.dbtg_outcomes.specs.declared.transitions.Passage.{Passage}
 use Rattle.dbtg_outcomes.specs.Numbers.{Numbers}
-use Rattle.dbtg_outcomes.specs.Results.{Meeting}
-use Rattle.dbtg_outcomes.specs.Inside.Transitions.{AreLooks, HasBefore, place_of}
-use Rattle.dbtg_outcomes.specs.Transitions.{has_at, written}
+use Rattle.dbtg_outcomes.specs.Transitions.{AreLooks, HasBefore, cell_place, has_at, written}
 use Rattle.dbtg_outcomes.proofs.States.Places.{each_of}
 
 -- FOUND
@@ -50,20 +49,20 @@ changes_written (l ∷ looks) es = changes_written looks (slice_set es l.place l
 -- ONE MORE
 
 -- the looks at some cells, and the look at one more
-pub one_more_look : (m : Meeting) (kept : Numbers) (passage : Passage) (names : List CellName) (name : CellName) (looks : List Look) (l : Look) → AreLooks m kept passage names looks → l.place ≡ place_of m name
-    → slice_get (elements kept.arrays passage.before) l.place ≡ Some l.before → slice_get (elements kept.arrays passage.after) l.place ≡ Some l.after → AreLooks m kept passage (names ++ name ∷ []) (looks ++ l ∷ [])
-one_more_look m kept passage names name looks l h place before after = record {
+pub one_more_look : (schema : Lists) (capacity units : ℕ) (kept : Numbers) (passage : Passage) (names : List CellName) (name : CellName) (looks : List Look) (l : Look) → AreLooks schema capacity units kept passage names looks → l.place ≡ cell_place schema capacity units name
+    → slice_get (elements kept.arrays passage.before) l.place ≡ Some l.before → slice_get (elements kept.arrays passage.after) l.place ≡ Some l.after → AreLooks schema capacity units kept passage (names ++ name ∷ []) (looks ++ l ∷ [])
+one_more_look schema capacity units kept passage names name looks l h place before after = record {
   had = All-append (λ k. slice_get (elements kept.arrays passage.before) k.place ≡ Some k.before) looks (l ∷ []) h.had (alone (λ k. slice_get (elements kept.arrays passage.before) k.place ≡ Some k.before) l before);
   has = All-append (λ k. slice_get (elements kept.arrays passage.after) k.place ≡ Some k.after) looks (l ∷ []) h.has (alone (λ k. slice_get (elements kept.arrays passage.after) k.place ≡ Some k.after) l after);
-  places_are = map-append {B = ℕ} (λ (k : Look). k.place) looks (l ∷ []) ∙ (λ i. h.places_are i ++ place i ∷ []) ∙ ap (λ ps. (passage.unit - 1) ∷ ps) (sym (map-append {B = ℕ} (place_of m) names (name ∷ [])));
+  places_are = map-append {B = ℕ} (λ (k : Look). k.place) looks (l ∷ []) ∙ (λ i. h.places_are i ++ place i ∷ []) ∙ ap (λ ps. (passage.unit - 1) ∷ ps) (sym (map-append {B = ℕ} (cell_place schema capacity units) names (name ∷ [])));
 } where
   alone : (P : Look → Type 0) (k : Look) → P k → All P (k ∷ [])
   alone P k p = All-cons P k [] p (All-nil P)
 
 -- the look at the unit's own part alone
-pub own_look : (m : Meeting) (kept : Numbers) (passage : Passage) (l : Look) → l.place ≡ passage.unit - 1
-    → slice_get (elements kept.arrays passage.before) l.place ≡ Some l.before → slice_get (elements kept.arrays passage.after) l.place ≡ Some l.after → AreLooks m kept passage [] (l ∷ [])
-own_look m kept passage l place before after = record {
+pub own_look : (schema : Lists) (capacity units : ℕ) (kept : Numbers) (passage : Passage) (l : Look) → l.place ≡ passage.unit - 1
+    → slice_get (elements kept.arrays passage.before) l.place ≡ Some l.before → slice_get (elements kept.arrays passage.after) l.place ≡ Some l.after → AreLooks schema capacity units kept passage [] (l ∷ [])
+own_look schema capacity units kept passage l place before after = record {
   had = All-cons (λ k. slice_get (elements kept.arrays passage.before) k.place ≡ Some k.before) l [] before (All-nil (λ k. slice_get (elements kept.arrays passage.before) k.place ≡ Some k.before));
   has = All-cons (λ k. slice_get (elements kept.arrays passage.after) k.place ≡ Some k.after) l [] after (All-nil (λ k. slice_get (elements kept.arrays passage.after) k.place ≡ Some k.after));
   places_are = ap (λ i. i ∷ []) place;

@@ -18,8 +18,8 @@ use Rattle.dbtg_outcomes.specs.Outcomes.{IsMeeting}
 use Rattle.dbtg_outcomes.specs.Results.{Meeting}
 use Rattle.dbtg_outcomes.specs.Inside.Numbers.{IsNumberOf}
 use Rattle.dbtg_outcomes.specs.Inside.Parts.{parts_of}
-use Rattle.dbtg_outcomes.specs.Inside.Transitions.{HasBefore, IsKnown, IsLedTo, IsLook, IsMadeAgain, LeadsAs, is_looked_at, part_at}
-use Rattle.dbtg_outcomes.specs.Transitions.{written}
+use Rattle.dbtg_outcomes.specs.Inside.Transitions.{IsKnown, IsLedTo, IsLook, IsMadeAgain, LeadsAs, is_looked_at, part_at}
+use Rattle.dbtg_outcomes.specs.Transitions.{HasBefore, written}
 use Rattle.dbtg_outcomes.proofs.States.Numbers.{still_there}
 use Rattle.dbtg_outcomes.proofs.States.Next.{its_unit, legal_then, next_fits}
 use Rattle.dbtg_outcomes.proofs.States.Places.{each_in, each_of, is_looked, looked_at, number_says, places, says_number, says_some, stays_there}
@@ -66,8 +66,8 @@ module _ (m : Meeting) (is : IsMeeting m) (old new : Numbers) (o : List (ℕ × 
   abbrev more : List (ℕ × Statement)
   more = o ++ (u, x) ∷ []
 
-  is_look : (l : Look) → In l t.looks → IsLook m old.contents l
-  is_look = each_in (IsLook m old.contents) t.looks known.looks
+  is_look : (l : Look) → In l t.looks → IsLook (length m.scripts + cell_count m.schema m.capacity) old.contents l
+  is_look = each_in (IsLook (length m.scripts + cell_count m.schema m.capacity) old.contents) t.looks known.looks
 
   lead : LeadsAs m old.contents o u x t
   lead =

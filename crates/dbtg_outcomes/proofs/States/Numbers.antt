@@ -10,7 +10,7 @@ use Rattle.dbtg_schema.specs.Lists.{Lists}
 use Rattle.dbtg_schema.proofs.Public.{some_is}
 use Rattle.dbtg_interned.specs.Kept.{IsOnce, Keeps}
 use Rattle.dbtg_interned.specs.Arrays.{AreArrays, IsArray, elements, size}
-use Rattle.dbtg_interned.proofs.Public.{elements_length, equal_are_one, grows_refl, grows_trans, keeps_refl, keeps_trans, stays_array, stays_elements, stays_list, stays_size, zeros_array, zeros_elements}
+use Rattle.dbtg_interned.proofs.Public.{elements_length, equal_are_one, few_elements, grows_refl, grows_trans, keeps_refl, keeps_trans, stays_array, stays_elements, stays_list, stays_size, zeros_array, zeros_elements}
 use Rattle.dbtg_cells.specs.CellNumbers.{cell_count, cell_number, cells_in_order, is_cell}
 use Rattle.dbtg_cells.specs.Names.{name_eq}
 use Rattle.dbtg_cells.specs.declared.name.CellName.{CellName}
@@ -160,18 +160,8 @@ nothing_said p kept once room = record {
 -- ONE PART MORE
 
 -- there are at most 2 ^ 24 places
-few_below : (k : ℕ) → k ≤ 6 → 16 ^ k ≤ 16777216
-few_below zero h = omega arith
-few_below (suc zero) h = omega arith
-few_below (suc (suc zero)) h = omega arith
-few_below (suc (suc (suc zero))) h = omega arith
-few_below (suc (suc (suc (suc zero)))) h = omega arith
-few_below (suc (suc (suc (suc (suc zero))))) h = omega arith
-few_below (suc (suc (suc (suc (suc (suc zero)))))) h = omega arith
-few_below (suc (suc (suc (suc (suc (suc (suc k))))))) h = absurd (omega (arith, h))
-
 pub few_places : (numbers : Numbers) → AreNumbers numbers → size numbers.arrays ≤ 16777216
-few_places numbers are = few_below numbers.arrays.levels are.arrays.few_levels
+few_places numbers are = few_elements numbers.arrays are.arrays
 
 -- what is put into an array
 pub put_is : (old new : Numbers) (array place number n : ℕ) (content : List ℕ) → AreArrays old.arrays → AreNumbers new → Grow old new → place < size old.arrays → IsArray old.arrays array → IsArray new.arrays n

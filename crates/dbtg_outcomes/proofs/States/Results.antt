@@ -8,7 +8,6 @@ use Rattle.dbtg_outcomes.specs.declared.groups.Group.{Group}
 use Rattle.dbtg_outcomes.specs.declared.notes.Note.{Note}
 use Rattle.dbtg_outcomes.specs.declared.outcomes.Outcomes as given
 use Rattle.dbtg_outcomes.specs.declared.search.Search.{Search}
-use Rattle.dbtg_outcomes.specs.declared.turns.Turn.{Turn}
 use Rattle.dbtg_outcomes.specs.Counted.{counted}
 use Rattle.dbtg_outcomes.specs.Inside.Gathered.{gathered}
 use Rattle.dbtg_outcomes.specs.Inside.Given.{all_orders, one_result}
@@ -35,10 +34,10 @@ use Rattle.dbtg_outcomes.proofs.Lists.Weights.{total}
 module _ (m : Meeting) where
   -- GROUP INTO GROUP
 
-  pub joins_one : (g : Group) (ts : List Turn) (n : ℕ) (before after : List (List ℕ)) (old new : Numbered) → have_statements m g.turns ≡ true → ts ≡ g.turns → Keeps before after → IsOnce after → IsTextOf m after (order_of m g.turns) n → IsAdded old (record { number = n; turns = ts; orders = g.orders }) new → Joins m g before after old new
+  pub joins_one : (g : Group) (ts : List ℕ) (n : ℕ) (before after : List (List ℕ)) (old new : Numbered) → have_statements m g.turns ≡ true → ts ≡ g.turns → Keeps before after → IsOnce after → IsTextOf m after (order_of m g.turns) n → IsAdded old (record { number = n; turns = ts; orders = g.orders }) new → Joins m g before after old new
   joins_one g ts n before after old new there same kept are is added = record {
     holds = λ seen w held hold.
-        let own : IsHeld m (record { number = n; turns = ts; orders = g.orders }) w = record { turns = subst (λ (us : List Turn). LeadTo m us w.0) (sym same) held.turns; orders_are = held.orders_are } in
+        let own : IsHeld m (record { number = n; turns = ts; orders = g.orders }) w = record { turns = subst (λ (us : List ℕ). LeadTo m us w.0) (sym same) held.turns; orders_are = held.orders_are } in
         hold_next m (result_text m) (IsTextOf m after) (text_tells m after) (text_same m after are) old new seen (record { number = n; turns = ts; orders = g.orders }) w.0 w.1
         (stand_later m (IsTextOf m before) (IsTextOf m after) (text_later m before after kept) old (gathered (result_text m) [] seen) hold)
         (subst (λ (o : List (ℕ × Statement)). IsTextOf m after o n) held.turns.order_is is) own added;
@@ -84,7 +83,7 @@ module _ (m : Meeting) where
   results_given [] (w ∷ ws) h = absurd h
   results_given (g ∷ gs) [] h = absurd h
   results_given (g ∷ gs) (w ∷ ws) h =
-      let turns : map (λ (t : Turn). t.unit) g.turns ≡ map (λ (s : ℕ × Statement). s.0) w.0 = sym (units_are m g.turns h.0.turns.there) ∙ ap (map (λ (s : ℕ × Statement). s.0)) h.0.turns.order_is in
+      let turns : g.turns ≡ map (λ (s : ℕ × Statement). s.0) w.0 = sym (units_are m g.turns h.0.turns.there) ∙ ap (map (λ (s : ℕ × Statement). s.0)) h.0.turns.order_is in
       let one : one_result g ≡ result_of w = λ i. record { turns = turns i; orders = h.0.orders_are i } in
       λ i. one i ∷ results_given gs ws h.1 i
 

@@ -33,8 +33,9 @@ use Rattle.dbtg_outcomes.specs.Orders.{made, next_of}
 use Rattle.dbtg_outcomes.specs.Outcomes.{IsMeeting}
 use Rattle.dbtg_outcomes.specs.Results.{Meeting, state_of, unit_answers}
 use Rattle.dbtg_outcomes.specs.Spelling.{unit_numbers}
+use Rattle.dbtg_outcomes.specs.Transitions.{cell_place}
 use Rattle.dbtg_outcomes.specs.Inside.Parts.{cell_part, parts_of, unit_part}
-use Rattle.dbtg_outcomes.specs.Inside.Transitions.{IsKnown, IsLook, IsTransition, LeadsAs, SayBefore, WasSeen, is_looked_at, part_at, place_of}
+use Rattle.dbtg_outcomes.specs.Inside.Transitions.{IsKnown, IsLook, IsTransition, LeadsAs, SayBefore, WasSeen, is_looked_at, part_at}
 use Rattle.dbtg_outcomes.proofs.Orders.Begun.{made_own}
 use Rattle.dbtg_outcomes.proofs.States.LeadOn.{same_unit_part}
 use Rattle.dbtg_outcomes.proofs.States.Looked.{looked_at_determines}
@@ -107,8 +108,8 @@ module _ (m : Meeting) (each : EachIsDetermined) (del : DeleteIsDetermined) (is 
 
   cell_looked : (c : CellName) (i : ℕ) → In c names → cell_number m.schema m.capacity c ≡ Some i → In (length m.scripts + i) (places t.looks)
   cell_looked c i there number =
-      let is : place_of m c ≡ length m.scripts + i = ap (λ (r : Option ℕ). length m.scripts + unwrap_or r 0) number in
-      subst (λ (ps : List ℕ). In (length m.scripts + i) ps) (sym seen.places_are) (inr (subst (λ j. In j (map (place_of m) names)) is (in_map (place_of m) c names there)))
+      let is : cell_place m.schema m.capacity (length m.scripts) c ≡ length m.scripts + i = ap (λ (r : Option ℕ). length m.scripts + unwrap_or r 0) number in
+      subst (λ (ps : List ℕ). In (length m.scripts + i) ps) (sym seen.places_are) (inr (subst (λ j. In j (map (cell_place m.schema m.capacity (length m.scripts)) names)) is (in_map (cell_place m.schema m.capacity (length m.scripts)) c names there)))
 
   -- what was looked at said this before, and says this after
   had_before : (l : Look) → In l t.looks → slice_get contents l.before ≡ part_at (parts_of m o) l.place
@@ -121,9 +122,9 @@ module _ (m : Meeting) (each : EachIsDetermined) (del : DeleteIsDetermined) (is 
       sym (ap (option_and_then (slice_get contents)) (each_in (λ l. slice_get (elements kept.arrays k) l.place ≡ Some l.after) t.looks seen.has l i))
       ∙ number_says (parts_of m (o ++ (u, x) ∷ [])) kept k seen.after.number l.place (place_within l.place (in_map (λ (l : Look). l.place) l t.looks i))
 
-  pub looks_are : All (IsLook m contents) t.looks
+  pub looks_are : All (IsLook (length m.scripts + cell_count m.schema m.capacity) contents) t.looks
   looks_are =
-      each_of (IsLook m contents) t.looks (λ l i.
+      each_of (IsLook (length m.scripts + cell_count m.schema m.capacity) contents) t.looks (λ l i.
       let low = place_within l.place (in_map (λ (l : Look). l.place) l t.looks i) in
       let before = says_some (parts_of m o) l.place low in
       let after = says_some (parts_of m (o ++ (u, x) ∷ [])) l.place low in
@@ -252,9 +253,9 @@ module _ (m : Meeting) (old new : List (List ℕ)) (keeps : Keeps old new) (u : 
   longer : length old ≤ length new
   longer = let is : length new ≡ length (old ++ keeps.rest) = ap length keeps.new_is in let all = length-append old keeps.rest in omega (arith, is, all)
 
-  pub looks_later : All (IsLook m old) t.looks → All (IsLook m new) t.looks
+  pub looks_later : All (IsLook (length m.scripts + cell_count m.schema m.capacity) old) t.looks → All (IsLook (length m.scripts + cell_count m.schema m.capacity) new) t.looks
   looks_later =
-      All-weaker (IsLook m old) (IsLook m new) (λ l h.
+      All-weaker (IsLook (length m.scripts + cell_count m.schema m.capacity) old) (IsLook (length m.scripts + cell_count m.schema m.capacity) new) (λ l h.
       let more = longer in
       let before = h.before in
       let after = h.after in
@@ -262,17 +263,17 @@ module _ (m : Meeting) (old new : List (List ℕ)) (keeps : Keeps old new) (u : 
       t.looks
 
   -- a transition leads where it led when more is kept
-  pub transition_later : All (IsLook m old) t.looks → IsTransition m old u t → IsTransition m new u t
+  pub transition_later : All (IsLook (length m.scripts + cell_count m.schema m.capacity) old) t.looks → IsTransition m old u t → IsTransition m new u t
   transition_later looks leads o x legal next say =
       let said : SayBefore old (parts_of m o) t.looks
       = each_of (λ l. slice_get old l.before ≡ part_at (parts_of m o) l.place) t.looks (λ l i.
-      sym (stays_there old new keeps l.before (each_in (IsLook m old) t.looks looks l i).before) ∙ each_in (λ l. slice_get new l.before ≡ part_at (parts_of m o) l.place) t.looks say l i) in
+      sym (stays_there old new keeps l.before (each_in (IsLook (length m.scripts + cell_count m.schema m.capacity) old) t.looks looks l i).before) ∙ each_in (λ l. slice_get new l.before ≡ part_at (parts_of m o) l.place) t.looks say l i) in
       let lead = leads o x legal next said in
       record {
         status = lead.status;
         follow = record {
           seen = each_of (λ l. slice_get new l.after ≡ part_at (parts_of m (o ++ (u, x) ∷ [])) l.place) t.looks (λ l i.
-              stays_there old new keeps l.after (each_in (IsLook m old) t.looks looks l i).after ∙ each_in (λ l. slice_get old l.after ≡ part_at (parts_of m (o ++ (u, x) ∷ [])) l.place) t.looks lead.follow.seen l i);
+              stays_there old new keeps l.after (each_in (IsLook (length m.scripts + cell_count m.schema m.capacity) old) t.looks looks l i).after ∙ each_in (λ l. slice_get old l.after ≡ part_at (parts_of m (o ++ (u, x) ∷ [])) l.place) t.looks lead.follow.seen l i);
           unseen = lead.follow.unseen;
         };
       }

@@ -1,12 +1,12 @@
 -- Groups as they are returned.
-use Rattle.std.specs.Prelude.{ℕ, List, [], ◌∷◌, Option, map}
+use Rattle.std.specs.Prelude.{ℕ, List, [], ◌∷◌, Option}
 use Rattle.dbtg_outcomes.specs.declared.groups.Group.{Group}
 use Rattle.dbtg_outcomes.specs.declared.outcomes.OneResult.{OneResult}
 use Rattle.dbtg_outcomes.specs.Inside.Grouped.{sum_of}
 
 -- a group as a result
 abbrev pub one_result : Group → OneResult
-one_result g = record { turns = map (λ t. t.unit) g.turns; orders = g.orders }
+one_result g = record { turns = g.turns; orders = g.orders }
 
 -- this many orders, and those of groups
 abbrev pub all_orders : Option ℕ → List Group → Option ℕ

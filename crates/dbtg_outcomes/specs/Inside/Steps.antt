@@ -5,7 +5,6 @@ use Rattle.std.specs.Prelude.{ℕ, ◌≡◌, ◌+◌, ◌<◌, List, [], ◌∷
 use Rattle.std.specs.List.{AllByRecursion, flat_map}
 use Rattle.dbtg_outcomes.specs.declared.groups.Group.{Group}
 use Rattle.dbtg_outcomes.specs.declared.search.Search as given
-use Rattle.dbtg_outcomes.specs.declared.turns.Turn.{Turn}
 use Rattle.dbtg_outcomes.specs.declared.walk.Walk.{Walk}
 use Rattle.dbtg_outcomes.specs.Inside.Gathered.{each_of, gathered}
 use Rattle.dbtg_outcomes.specs.Inside.Grouped.{Numbered}
@@ -14,7 +13,7 @@ use Rattle.dbtg_outcomes.specs.Inside.Numbers.{IsNumberOf, IsTextOf}
 use Rattle.dbtg_outcomes.specs.Orders.{extended}
 use Rattle.dbtg_outcomes.specs.Outcomes.{states_within}
 use Rattle.dbtg_outcomes.specs.Results.{Meeting, result_text, state_key, units_of}
-use Rattle.dbtg_outcomes.specs.Inside.Walks.{HasStatusIn, have_statements, order_of}
+use Rattle.dbtg_outcomes.specs.Inside.Walks.{HasNextStatus, have_statements, order_of}
 use Rattle.dbtg_outcomes.specs.Inside.Search.{AreHeld, AreNoted, CountedOrder, Hold, IsAt, IsHeld, MadeOrder, OrderAndUnit}
 
 -- each turn of the group has a statement
@@ -32,10 +31,11 @@ HasNumber m numbers g = IsNumberOf m numbers (order_of m g.turns) g.number
 
 -- ONE STATEMENT MORE
 
--- a turn t after the turns ts leads to the state with this number, by a statement with this status; a and b are a walk before and after
-pub record Reaches (m : Meeting) (ts : List Turn) (t : Turn) (a b : Walk) (number status : ℕ) : Type 0 where
-  pub has_status : HasStatusIn m (order_of m ts) t status
-  pub has_number : IsNumberOf m b.numbers (order_of m (ts ++ t ∷ [])) number
+-- a turn of unit u after the turns us leads to the state with this number, by a statement with this status; a and b are a walk before
+-- and after
+pub record Reaches (m : Meeting) (us : List ℕ) (u : ℕ) (a b : Walk) (number status : ℕ) : Type 0 where
+  pub has_status : HasNextStatus m (order_of m us) u status
+  pub has_number : IsNumberOf m b.numbers (order_of m (us ++ u ∷ [])) number
   pub grown : Grow a.numbers b.numbers
   pub notes_are : b.notes.items ≡ a.notes.items
 

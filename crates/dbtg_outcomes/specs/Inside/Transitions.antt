@@ -19,6 +19,7 @@ use Rattle.dbtg_outcomes.specs.Orders.{next_of}
 use Rattle.dbtg_outcomes.specs.Outcomes.{HasStatus}
 use Rattle.dbtg_outcomes.specs.Parts.{Parts}
 use Rattle.dbtg_outcomes.specs.Results.{Meeting, state_of}
+use Rattle.dbtg_outcomes.specs.Transitions.{HasAfter, HasBefore, cell_place}
 use Rattle.dbtg_outcomes.specs.Inside.Numbers.{IsNumberOf}
 use Rattle.dbtg_outcomes.specs.Inside.Parts.{parts_of}
 
@@ -28,20 +29,8 @@ use Rattle.dbtg_outcomes.specs.Inside.Parts.{parts_of}
 abbrev pub part_at : Parts → ℕ → Option (List ℕ)
 part_at p i = if nat_lt i p.count then Some (p.unit (i + 1)) else option_map p.cell (slice_get (cells_in_order p.schema p.capacity) (i - p.count))
 
--- the place of a cell
-abbrev pub place_of : Meeting → CellName → ℕ
-place_of m c = length m.scripts + unwrap_or (cell_number m.schema m.capacity c) 0
-
 abbrev pub is_looked_at : List Look → ℕ → Bool
 is_looked_at looks i = list_any (λ l. l.place == i) looks
-
--- the array of a state has these numbers where they were looked at, before
-abbrev pub HasBefore : Numbers → ℕ → List Look → Type 0
-HasBefore kept n looks = All (λ l. slice_get (elements kept.arrays n) l.place ≡ Some l.before) looks
-
--- and after
-abbrev pub HasAfter : Numbers → ℕ → List Look → Type 0
-HasAfter kept n looks = All (λ l. slice_get (elements kept.arrays n) l.place ≡ Some l.after) looks
 
 -- TRANSITIONS
 
@@ -65,15 +54,15 @@ IsTransition m contents u t =
     (o : List (ℕ × Statement)) (x : Statement) → IsLegalState m.schema m.capacity (state_of m o) → next_of m.scripts o u ≡ Some x
     → SayBefore contents (parts_of m o) t.looks → LeadsAs m contents o u x t
 
--- it is of a part of the states, and its numbers are those of contents
-pub record IsLook (m : Meeting) (contents : List (List ℕ)) (l : Look) : Type 0 where
-  pub place : l.place < length m.scripts + cell_count m.schema m.capacity
+-- it is of one of this many parts, and its numbers are those of contents
+pub record IsLook (parts : ℕ) (contents : List (List ℕ)) (l : Look) : Type 0 where
+  pub place : l.place < parts
   pub before : l.before < length contents
   pub after : l.after < length contents
 
 -- a transition that tells from these contents what its unit's next statement leads to
 pub record IsKnown (m : Meeting) (contents : List (List ℕ)) (u : ℕ) (t : Transition) : Type 0 where
-  pub looks : All (IsLook m contents) t.looks
+  pub looks : All (IsLook (length m.scripts + cell_count m.schema m.capacity) contents) t.looks
   pub leads : IsTransition m contents u t
 
 -- so are all of these
@@ -110,7 +99,7 @@ pub record WasSeen (m : Meeting) (kept : Numbers) (o : List (ℕ × Statement)) 
   pub had : HasBefore kept n t.looks
   pub has : HasAfter kept k t.looks
   pub are_cells : list_all (is_cell m.schema m.capacity) names ≡ true
-  pub places_are : map (λ l. l.place) t.looks ≡ (u - 1) ∷ map (place_of m) names
+  pub places_are : map (λ l. l.place) t.looks ≡ (u - 1) ∷ map (cell_place m.schema m.capacity (length m.scripts)) names
   pub ready : (unit : Unit) → unit_of (state_of m o) u ≡ Some unit → IsReadyWith m.schema m.capacity (state_of m o).database unit x names
 
 -- what was seen once is so wherever the same is looked at
@@ -126,11 +115,3 @@ pub record IsPassage (m : Meeting) (kept : Numbers) (o : List (ℕ × Statement)
   pub before : IsNumberOf m kept o passage.before
   pub after : IsNumberOf m kept (o ++ (passage.unit, x) ∷ []) passage.after
   pub looks_at : AreLookedAt m o passage.unit x names
-
--- ONE MORE
-
--- the looks of a unit at its own part and at those of these cells, from the state of one number to that of another
-pub record AreLooks (m : Meeting) (kept : Numbers) (passage : Passage) (names : List CellName) (looks : List Look) : Type 0 where
-  pub had : HasBefore kept passage.before looks
-  pub has : HasAfter kept passage.after looks
-  pub places_are : map (λ l. l.place) looks ≡ (passage.unit - 1) ∷ map (place_of m) names

@@ -1,6 +1,6 @@
 -- How an order that breaks a wish is searched for.
 -- m is a meeting, w a wish, o an order, n how many statements are made.
-use Rattle.std.specs.Prelude.{ℕ, ◌≡◌, ◌<◌, ◌+◌, ◌-◌, ◌++◌, ◌∷◌, [], Bool, true, false, List, Option, Some, None, map, Contains}
+use Rattle.std.specs.Prelude.{ℕ, ◌≡◌, ◌<◌, ◌+◌, ◌-◌, ◌++◌, ◌∷◌, [], Bool, true, false, List, Option, Some, None, Contains}
 use Rattle.dbtg_unit.specs.declared.statement.Statement.{Statement}
 use Rattle.dbtg_outcomes.specs.declared.groups.Group.{Group}
 use Rattle.dbtg_outcomes.specs.declared.wishes.Hunt.{Hunt}
@@ -30,7 +30,7 @@ IsBroken m w o false = Breaks m w o → ⊥
 abbrev pub IsBrokenIn : Meeting → Wish → List Group → Option (List ℕ) → Type 0
 IsBrokenIn m w gs None = (g : Group) → Contains gs g → Breaks m w (order_of m g.turns) → ⊥
 IsBrokenIn m w gs (Some turns) =
-    (g : Group) × Contains gs g × Breaks m w (order_of m g.turns) × (turns ≡ map (λ t. t.unit) g.turns ++ w.unit ∷ [])
+    (g : Group) × Contains gs g × Breaks m w (order_of m g.turns) × (turns ≡ g.turns ++ w.unit ∷ [])
 
 -- no order of fewer statements than n does
 abbrev pub IsUnbroken : Meeting → Wish → ℕ → Type 0

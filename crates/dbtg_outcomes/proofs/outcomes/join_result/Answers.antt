@@ -15,9 +15,9 @@ pub returns-clause-joins : goal.returns-clause-joins
 returns-clause-joins c =
     let m = c.args.meeting.now in
     let stands = c.in_ok-go_to.ensures.stands in
-    let turns = c.in_ok-go_to.ensures.turns ∙ c.as_slice-turns.ensures in
+    let turns = c.in_ok-go_to.ensures.turns ∙ c.as_slice.ensures in
     let text = c.in_ok-text.ensures ∙ ap (λ (k : Making). result_text m (statements_of k.history)) c.database.ensures ∙ ap (result_text m) (stands.is_making.made ∙ ap (order_of m) turns) in
     on_ok_weaker c.add.result
-    (λ added. joins_one m c.args.group.now c.of-turns.result c.in_ok-number.number c.args.texts.now c.enter.new.self c.args.results.now c.add.new.self c.requires.group (c.of-turns.ensures ∙ c.in_ok-from_slice.ensures.items ∙ c.as_slice-turns.ensures)
+    (λ added. joins_one m c.args.group.now c.in_ok-turns.turns c.in_ok-number.number c.args.texts.now c.enter.new.self c.args.results.now c.add.new.self c.requires.group c.in_ok-turns.ensures
     c.enter.ensures.keeps c.enter.ensures.once (c.in_ok-number.ensures.number ∙ ap (λ (l : List ℕ). Some l) text) added)
     c.add.ensures

@@ -1,6 +1,6 @@
 use Rattle.std.proofs.Common.{◌≡◌, ◌++◌}
-use Rattle.dbtg_outcomes.specs.Inside.Walks.{turns_of_script}
+use Rattle.std.specs.Prelude.{replicate}
 use Rattle.dbtg_outcomes.proofs.turns.push_turns.Given as goal
 
-abbrev pub invariant-loop-place : goal.invariant-loop-place
-invariant-loop-place l = l.turns.items ≡ l.initial.turns.items ++ turns_of_script l.unit l.place
+abbrev pub invariant-loop-turn : goal.invariant-loop-turn
+invariant-loop-turn l = l.turns.items ≡ l.initial.turns.items ++ replicate l._turn l.unit

@@ -1,6 +1,5 @@
 use Rattle.std.proofs.Common.{◌≡◌, refl, subst, length, take, arith}
 use Rattle.std.proofs.lemmas.List.{take_more_same}
-use Rattle.dbtg_outcomes.proofs.Orders.Turns.{same_turn}
 use Rattle.dbtg_outcomes.proofs.turns.shared_by.Goals as goal
 
 pub loop-at-init : goal.loop-at-init
@@ -10,7 +9,7 @@ pub loop-at-preserved : goal.loop-at-preserved
 loop-at-preserved c =
     record {
       within = omega (arith, c.if-others-at.false);
-      same = take_more_same c.args.some.now c.args.others.now c.loop-at.at (record { unit = 0; place = 0 }) c.loop-at-test.true c.if-others-at.false c.loop-at.invariant.same (same_turn _ _ c.if-ne.ensures);
+      same = take_more_same c.args.some.now c.args.others.now c.loop-at.at 0 c.loop-at-test.true c.if-others-at.false c.loop-at.invariant.same c.if-some-at.false;
     }
 
 pub returns-clause-same : goal.returns-clause-same

@@ -1,32 +1,31 @@
-use Rattle.std.proofs.Common.{◌≡◌, ◌∙◌, ◌-◌, true, Some, List, ap, refl, sym, subst, length, arith}
+use Rattle.std.proofs.Common.{◌≡◌, ◌∙◌, ◌-◌, true, ℕ, List, ap, refl, sym, subst, length, arith}
 use Rattle.std.specs.Prelude.{option_map}
 use Rattle.std.specs.List.{list_all}
-use Rattle.std.proofs.lemmas.Option.{slice_get_read}
+use Rattle.std.proofs.lemmas.Option.{same_Some, slice_get_read}
 use Rattle.std.proofs.lemmas.Result.{IfOk-weaker}
 use Rattle.dbtg_cells.specs.CellNumbers.{is_cell}
 use Rattle.dbtg_unit.specs.declared.statement.Statement.{Statement}
 use Rattle.dbtg_unit.specs.Database.State.Belongs.{IsUnitOf, IsWithin}
 use Rattle.dbtg_unit.specs.Database.Statements.Fits.{fits}
 use Rattle.dbtg_step.specs.Core.Whole.{Making, state_now}
-use Rattle.dbtg_outcomes.specs.declared.turns.Turn.{Turn}
 use Rattle.dbtg_outcomes.specs.Looked.{IsReadyWith}
 use Rattle.dbtg_outcomes.specs.Inside.Transitions.{AreLookedAt}
 use Rattle.dbtg_outcomes.specs.Results.{Meeting}
-use Rattle.dbtg_outcomes.specs.Inside.Walks.{IsMaking, order_of, statement_at}
-use Rattle.dbtg_outcomes.proofs.States.AtTurn.{if_some_weaker, looked_at_there, same_statement, unit_there}
-use Rattle.dbtg_outcomes.proofs.States.Walks.{turn_fits}
+use Rattle.dbtg_outcomes.specs.Inside.Walks.{IsMaking, order_of}
+use Rattle.dbtg_outcomes.proofs.States.AtTurn.{if_some_weaker, looked_at_there, unit_there}
+use Rattle.dbtg_outcomes.proofs.States.Walks.{next_fits}
 use Rattle.dbtg_outcomes.proofs.meeting.Meeting.cells_at.Goals as goal
 
-pub overflow_sub-unit : goal.overflow_sub-unit
-overflow_sub-unit c =
-    let e : statement_at c.args.self.now.scripts c.args.turn ≡ Some (c.args.turn.unit, c.in-Some.statement.now) = sym c.statement_at.ensures ∙ ap (option_map (λ x. (c.args.turn.unit, x.now))) c.in-Some.is in
-    (turn_fits c.args.self.now c.requires.meeting c.args.turn c.in-Some.statement.now e).numbered
+pub overflow_sub-its_unit : goal.overflow_sub-its_unit
+overflow_sub-its_unit c =
+    let e = sym c.next_statement.ensures ∙ ap (option_map (λ x. x.now)) c.in-Some.is in
+    (next_fits c.args.self.now c.requires.meeting (order_of c.args.self.now c.args.turns.now) c.args.unit c.in-Some.statement.now e).numbered
 
-pub bounds-units-turn : goal.bounds-units-turn
-bounds-units-turn c =
+pub bounds-units-unit : goal.bounds-units-unit
+bounds-units-unit c =
     let m = c.args.self.now in
-    let e : statement_at m.scripts c.args.turn ≡ Some (c.args.turn.unit, c.in-Some.statement.now) = sym c.statement_at.ensures ∙ ap (option_map (λ x. (c.args.turn.unit, x.now))) c.in-Some.is in
-    let fit = turn_fits m c.requires.meeting c.args.turn c.in-Some.statement.now e in
+    let e = sym c.next_statement.ensures ∙ ap (option_map (λ x. x.now)) c.in-Some.is in
+    let fit = next_fits m c.requires.meeting (order_of m c.args.turns.now) c.args.unit c.in-Some.statement.now e in
     let numbered = fit.numbered in
     let within = fit.within in
     let count : length c.units.result.now ≡ length m.scripts = c.units.ensures.count ∙ ap (λ (k : Making). k.units) (c.database-database.ensures ∙ c.in_ok-go_to.ensures.stands.is_making.same) in
@@ -35,57 +34,57 @@ bounds-units-turn c =
 pub needed_cells-requires-clause-fitting : goal.needed_cells-requires-clause-fitting
 needed_cells-requires-clause-fitting c =
     let m = c.args.self.now in
-    let e : statement_at m.scripts c.args.turn ≡ Some (c.args.turn.unit, c.in-Some.statement.now) = sym c.statement_at.ensures ∙ ap (option_map (λ x. (c.args.turn.unit, x.now))) c.in-Some.is in
-    subst (λ (k : Meeting). fits k.schema c.in-Some.statement.now ≡ true) (sym c.self.view_is) (turn_fits m c.requires.meeting c.args.turn c.in-Some.statement.now e).fitting
+    let e = sym c.next_statement.ensures ∙ ap (option_map (λ x. x.now)) c.in-Some.is in
+    subst (λ (k : Meeting). fits k.schema c.in-Some.statement.now ≡ true) (sym c.self.view_is) (next_fits m c.requires.meeting (order_of m c.args.turns.now) c.args.unit c.in-Some.statement.now e).fitting
 
 pub needed_cells-requires-clause-of_schema : goal.needed_cells-requires-clause-of_schema
 needed_cells-requires-clause-of_schema c =
     let m = c.args.self.now in
-    let u = c.args.turn.unit in
+    let u = c.args.unit in
     let d = c.database-database.result.now in
-    let e : statement_at m.scripts c.args.turn ≡ Some (u, c.in-Some.statement.now) = sym c.statement_at.ensures ∙ ap (option_map (λ x. (u, x.now))) c.in-Some.is in
-    let fit = turn_fits m c.requires.meeting c.args.turn c.in-Some.statement.now e in
+    let e = sym c.next_statement.ensures ∙ ap (option_map (λ x. x.now)) c.in-Some.is in
+    let fit = next_fits m c.requires.meeting (order_of m c.args.turns.now) c.args.unit c.in-Some.statement.now e in
     let numbered = fit.numbered in
     let within = fit.within in
     let count : length c.units.result.now ≡ length m.scripts = c.units.ensures.count ∙ ap (λ (k : Making). k.units) (c.database-database.ensures ∙ c.in_ok-go_to.ensures.stands.is_making.same) in
-    let at : IsMaking m (order_of m c.args.turns.now) d = subst (λ (k : Making). IsMaking m (order_of m c.args.turns.now) k) (sym c.database-database.ensures) (subst (λ (ts : List Turn). IsMaking m (order_of m ts) c.go_to.new.walk.database.making) c.in_ok-go_to.ensures.turns c.in_ok-go_to.ensures.stands.is_making) in
-    let found = slice_get_read c.units.result.now (length c.units.result.now) (u - 1) c.index-units-turn.result refl (omega (arith, numbered, within, count)) c.index-units-turn.is in
-    subst (λ (k : Meeting). IsUnitOf k.schema c.index-units-turn.result) (sym c.self.view_is)
-    (unit_there m c.requires.meeting (order_of m c.args.turns.now) d at c.history-history.ensures.of u numbered c.units.result.now c.units.ensures.units c.index-units-turn.result found).of_schema
+    let at : IsMaking m (order_of m c.args.turns.now) d = subst (λ (k : Making). IsMaking m (order_of m c.args.turns.now) k) (sym c.database-database.ensures) (subst (λ (ts : List ℕ). IsMaking m (order_of m ts) c.go_to.new.walk.database.making) c.in_ok-go_to.ensures.turns c.in_ok-go_to.ensures.stands.is_making) in
+    let found = slice_get_read c.units.result.now (length c.units.result.now) (u - 1) c.index-units-unit.result refl (omega (arith, numbered, within, count)) c.index-units-unit.is in
+    subst (λ (k : Meeting). IsUnitOf k.schema c.index-units-unit.result) (sym c.self.view_is)
+    (unit_there m c.requires.meeting (order_of m c.args.turns.now) d at c.history-history.ensures.of u numbered c.units.result.now c.units.ensures.units c.index-units-unit.result found).of_schema
 
 pub needed_cells-requires-clause-within : goal.needed_cells-requires-clause-within
 needed_cells-requires-clause-within c =
     let m = c.args.self.now in
-    let u = c.args.turn.unit in
+    let u = c.args.unit in
     let d = c.database-database.result.now in
-    let e : statement_at m.scripts c.args.turn ≡ Some (u, c.in-Some.statement.now) = sym c.statement_at.ensures ∙ ap (option_map (λ x. (u, x.now))) c.in-Some.is in
-    let fit = turn_fits m c.requires.meeting c.args.turn c.in-Some.statement.now e in
+    let e = sym c.next_statement.ensures ∙ ap (option_map (λ x. x.now)) c.in-Some.is in
+    let fit = next_fits m c.requires.meeting (order_of m c.args.turns.now) c.args.unit c.in-Some.statement.now e in
     let numbered = fit.numbered in
     let within = fit.within in
     let count : length c.units.result.now ≡ length m.scripts = c.units.ensures.count ∙ ap (λ (k : Making). k.units) (c.database-database.ensures ∙ c.in_ok-go_to.ensures.stands.is_making.same) in
-    let at : IsMaking m (order_of m c.args.turns.now) d = subst (λ (k : Making). IsMaking m (order_of m c.args.turns.now) k) (sym c.database-database.ensures) (subst (λ (ts : List Turn). IsMaking m (order_of m ts) c.go_to.new.walk.database.making) c.in_ok-go_to.ensures.turns c.in_ok-go_to.ensures.stands.is_making) in
-    let found = slice_get_read c.units.result.now (length c.units.result.now) (u - 1) c.index-units-turn.result refl (omega (arith, numbered, within, count)) c.index-units-turn.is in
-    subst (λ (k : Meeting). IsWithin k.capacity c.index-units-turn.result) (sym c.self.view_is)
-    (unit_there m c.requires.meeting (order_of m c.args.turns.now) d at c.history-history.ensures.of u numbered c.units.result.now c.units.ensures.units c.index-units-turn.result found).within
+    let at : IsMaking m (order_of m c.args.turns.now) d = subst (λ (k : Making). IsMaking m (order_of m c.args.turns.now) k) (sym c.database-database.ensures) (subst (λ (ts : List ℕ). IsMaking m (order_of m ts) c.go_to.new.walk.database.making) c.in_ok-go_to.ensures.turns c.in_ok-go_to.ensures.stands.is_making) in
+    let found = slice_get_read c.units.result.now (length c.units.result.now) (u - 1) c.index-units-unit.result refl (omega (arith, numbered, within, count)) c.index-units-unit.is in
+    subst (λ (k : Meeting). IsWithin k.capacity c.index-units-unit.result) (sym c.self.view_is)
+    (unit_there m c.requires.meeting (order_of m c.args.turns.now) d at c.history-history.ensures.of u numbered c.units.result.now c.units.ensures.units c.index-units-unit.result found).within
 
 pub returns-in-Some-clause-cells : goal.returns-in-Some-clause-cells
 returns-in-Some-clause-cells c =
     let m = c.args.self.now in
-    let u = c.args.turn.unit in
+    let u = c.args.unit in
     let d = c.database-database.result.now in
-    let e : statement_at m.scripts c.args.turn ≡ Some (u, c.in-Some.statement.now) = sym c.statement_at.ensures ∙ ap (option_map (λ x. (u, x.now))) c.in-Some.is in
-    let fit = turn_fits m c.requires.meeting c.args.turn c.in-Some.statement.now e in
+    let e = sym c.next_statement.ensures ∙ ap (option_map (λ x. x.now)) c.in-Some.is in
+    let fit = next_fits m c.requires.meeting (order_of m c.args.turns.now) c.args.unit c.in-Some.statement.now e in
     let numbered = fit.numbered in
     let within = fit.within in
     let count : length c.units.result.now ≡ length m.scripts = c.units.ensures.count ∙ ap (λ (k : Making). k.units) (c.database-database.ensures ∙ c.in_ok-go_to.ensures.stands.is_making.same) in
-    let at : IsMaking m (order_of m c.args.turns.now) d = subst (λ (k : Making). IsMaking m (order_of m c.args.turns.now) k) (sym c.database-database.ensures) (subst (λ (ts : List Turn). IsMaking m (order_of m ts) c.go_to.new.walk.database.making) c.in_ok-go_to.ensures.turns c.in_ok-go_to.ensures.stands.is_making) in
-    let found = slice_get_read c.units.result.now (length c.units.result.now) (u - 1) c.index-units-turn.result refl (omega (arith, numbered, within, count)) c.index-units-turn.is in
+    let at : IsMaking m (order_of m c.args.turns.now) d = subst (λ (k : Making). IsMaking m (order_of m c.args.turns.now) k) (sym c.database-database.ensures) (subst (λ (ts : List ℕ). IsMaking m (order_of m ts) c.go_to.new.walk.database.making) c.in_ok-go_to.ensures.turns c.in_ok-go_to.ensures.stands.is_making) in
+    let found = slice_get_read c.units.result.now (length c.units.result.now) (u - 1) c.index-units-unit.result refl (omega (arith, numbered, within, count)) c.index-units-unit.is in
     IfOk-weaker c.needed_cells.result _ _
     (λ found-names ready. if_some_weaker found-names _ _ (λ names are y there.
     let x = c.in-Some.statement.now in
-    subst (λ (z : Statement). AreLookedAt m (order_of m c.args.turns.now) u z names.items) (same_statement u x y (sym e ∙ there))
-    (looked_at_there m c.requires.meeting (order_of m c.args.turns.now) d at c.history-history.ensures.of u numbered c.units.result.now c.units.ensures.units c.index-units-turn.result found x names.items
-    (subst (λ (k : Meeting). IsReadyWith k.schema k.capacity (state_now d).database c.index-units-turn.result x names.items) c.self.view_is are.0)
+    subst (λ (z : Statement). AreLookedAt m (order_of m c.args.turns.now) u z names.items) (same_Some x y (sym e ∙ there))
+    (looked_at_there m c.requires.meeting (order_of m c.args.turns.now) d at c.history-history.ensures.of u numbered c.units.result.now c.units.ensures.units c.index-units-unit.result found x names.items
+    (subst (λ (k : Meeting). IsReadyWith k.schema k.capacity (state_now d).database c.index-units-unit.result x names.items) c.self.view_is are.0)
     (subst (λ (k : Meeting). list_all (is_cell k.schema k.capacity) names.items ≡ true) c.self.view_is are.1)))
     ready)
     c.needed_cells.ensures

@@ -1,18 +1,19 @@
-use Rattle.std.proofs.Common.{◌∙◌, ◌++◌, ap, sym, take}
+use Rattle.std.proofs.Common.{◌∙◌, ◌≤◌, ◌++◌, ℕ, List, ap, length, subst, sym, take}
 use Rattle.std.proofs.lemmas.List.{take-append-drop, take_rest}
 use Rattle.std.proofs.lemmas.Result.{on_ok_weaker}
 use Rattle.dbtg_outcomes.specs.Inside.Walks.{have_statements}
-use Rattle.dbtg_outcomes.proofs.Orders.Turns.{there_parts}
 use Rattle.dbtg_outcomes.proofs.States.Walks.{stands_back}
 use Rattle.dbtg_outcomes.proofs.meeting.Meeting.go_to.Goals as goal
 
 pub take_turns-requires-clause-stands : goal.take_turns-requires-clause-stands
-take_turns-requires-clause-stands c = stands_back c.args.self.now c.shared_by-shared.result c.args.walk.now c.take_back_to.new.self c.requires.stands c.take_back_to.ensures
+take_turns-requires-clause-stands c = stands_back c.args.self.now c.shared_by-shared.result c.args.walk.now c.take_back_to.new.self (subst (λ (us : List ℕ). c.shared_by-shared.result ≤ length us) c.as_slice.ensures.value c.shared_by-shared.ensures.within.0) c.requires.stands c.take_back_to.ensures
 
 pub take_turns-requires-clause-there : goal.take_turns-requires-clause-there
 take_turns-requires-clause-there c =
-    let ts = c.args.turns.now in
-    ap (have_statements c.args.self.now) (take_rest ts c.shared_by-shared.result) ∙ (there_parts c.args.self.now c.shared_by-shared.result ts c.requires.there).1
+    let n = c.shared_by-shared.result in
+    let us = c.args.turns.now in
+    let front = c.take_back_to.ensures.turns_are ∙ ap (take n) (sym c.as_slice.ensures.value) ∙ c.shared_by-shared.ensures.same in
+    ap (have_statements c.args.self.now) ((λ i. front i ++ take_rest us n i) ∙ take-append-drop n us) ∙ c.requires.there
 
 pub returns-clause-stands : goal.returns-clause-stands
 returns-clause-stands c = on_ok_weaker c.take_turns.result (λ taken. taken.stands) c.take_turns.ensures

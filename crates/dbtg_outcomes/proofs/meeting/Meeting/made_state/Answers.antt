@@ -2,12 +2,12 @@ use Rattle.std.proofs.Common.{◌≡◌, ◌∙◌, ◌++◌, ◌∷◌, [], ℕ
 use Rattle.std.specs.Prelude.{IfSome}
 use Rattle.dbtg_unit.specs.declared.statement.Statement.{Statement}
 use Rattle.dbtg_cells.specs.declared.name.CellName.{CellName}
-use Rattle.dbtg_outcomes.specs.declared.turns.Turn.{Turn}
 use Rattle.dbtg_outcomes.specs.Inside.Numbers.{IsNumberOf}
 use Rattle.dbtg_outcomes.specs.Inside.Transitions.{AreLookedAt}
-use Rattle.dbtg_outcomes.specs.Inside.Walks.{HasStatusIn, order_of, statement_at}
+use Rattle.dbtg_outcomes.specs.Inside.Walks.{HasNextStatus, order_of}
 use Rattle.dbtg_outcomes.specs.Numbers.{Grow, Numbers}
-use Rattle.dbtg_outcomes.proofs.States.AtTurn.{is_next_turn, order_then}
+use Rattle.dbtg_outcomes.specs.Orders.{next_of}
+use Rattle.dbtg_outcomes.proofs.Orders.Turns.{order_then, some_is}
 use Rattle.dbtg_outcomes.proofs.States.Numbers.{number_later}
 use Rattle.dbtg_outcomes.proofs.States.Walks.{known_on, leads_to, stands_noted}
 use Rattle.dbtg_outcomes.proofs.meeting.Meeting.made_state.Goals as goal
@@ -21,8 +21,8 @@ next_number-requires-clause-leads c =
     let g = c.args.group.now in
     let w = c.turned.new.walk in
     let status = c.in_ok-status.ensures in
-    let turns = status.turns ∙ ap (λ (us : List Turn). us ++ c.args.turn ∷ []) c.as_slice-turns.ensures in
-    leads_to m c.requires.meeting g.turns c.args.turn g.number w.numbers w c.requires.there
+    let turns = status.turns ∙ ap (λ (us : List ℕ). us ++ c.args.unit ∷ []) c.as_slice-turns.ensures in
+    leads_to m c.requires.meeting g.turns c.args.unit g.number w.numbers w c.requires.there
     (subst (λ (ns : Numbers). IsNumberOf m ns (order_of m g.turns) g.number) (sym (status.numbers ∙ c.in_ok-names.ensures.numbers)) c.requires.numbered) status.stands turns
 
 pub remember-requires-clause-stands : goal.remember-requires-clause-stands
@@ -35,27 +35,27 @@ pub remember-requires-clause-passed : goal.remember-requires-clause-passed
 remember-requires-clause-passed c =
     let m = c.args.self.now in
     let g = c.args.group.now in
-    let t = c.args.turn in
+    let u = c.args.unit in
     let w = c.turned.new.walk in
     let kept = c.next_number.new.numbers in
     let status = c.in_ok-status.ensures in
     let after = c.in_ok-after.ensures in
-    let next = is_next_turn m g.turns t c.requires.group c.requires.turn c.requires.there in
-    let x = next.statement in
-    let turns = status.turns ∙ ap (λ (us : List Turn). us ++ t ∷ []) c.as_slice-turns.ensures in
-    let order = status.stands.is_making.made ∙ ap (order_of m) turns ∙ order_then m g.turns t x next.there in
+    let next = some_is (next_of m.scripts (order_of m g.turns) u) c.requires.there in
+    let x = next.0 in
+    let turns = status.turns ∙ ap (λ (us : List ℕ). us ++ u ∷ []) c.as_slice-turns.ensures in
+    let order = status.stands.is_making.made ∙ ap (order_of m) turns ∙ order_then m g.turns u x next.1 in
     let grown = subst (λ (ns : Numbers). Grow ns kept) (status.numbers ∙ c.in_ok-names.ensures.numbers) after.keeps in
-    let cells = subst (λ r. IfSome r (λ names. (y : Statement) → statement_at m.scripts t ≡ Some (t.unit, y) → AreLookedAt m (order_of m c.as_slice-turns.result.now) t.unit y names.items)) c.in-Some.is c.in_ok-names.ensures.cells in (
+    let cells = subst (λ r. IfSome r (λ names. (y : Statement) → next_of m.scripts (order_of m c.as_slice-turns.result.now) u ≡ Some y → AreLookedAt m (order_of m c.as_slice-turns.result.now) u y names.items)) c.in-Some.is c.in_ok-names.ensures.cells in (
       order_of m g.turns,
       x,
       record {
-        next = next.next;
-        has_status = subst (λ (us : List Turn). HasStatusIn m (order_of m us) t c.in_ok-status.status) c.as_slice-turns.ensures status.status x next.there;
+        next = next.1;
+        has_status = subst (λ (us : List ℕ). HasNextStatus m (order_of m us) u c.in_ok-status.status) c.as_slice-turns.ensures status.status x next.1;
         before = number_later m c.args.walk.now.numbers kept after.number.number.kept_once grown (order_of m g.turns) g.number c.requires.numbered;
         after = subst (λ (o : List (ℕ × Statement)). IsNumberOf m kept o c.in_ok-after.after) order after.number;
         looks_at =
-            subst (λ (ns : List CellName). AreLookedAt m (order_of m g.turns) t.unit x ns) (sym c.as_slice.ensures.value)
-            (subst (λ (us : List Turn). AreLookedAt m (order_of m us) t.unit x c.in-Some.names.items) c.as_slice-turns.ensures (cells x next.there));
+            subst (λ (ns : List CellName). AreLookedAt m (order_of m g.turns) u x ns) (sym c.as_slice.ensures.value)
+            (subst (λ (us : List ℕ). AreLookedAt m (order_of m us) u x c.in-Some.names.items) c.as_slice-turns.ensures (cells x (ap (λ (us : List ℕ). next_of m.scripts (order_of m us) u) c.as_slice-turns.ensures ∙ next.1)));
       },
     )
 

@@ -1,8 +1,10 @@
-use Rattle.std.proofs.Common.{refl, sym, subst, ⊎_elim}
+use Rattle.std.proofs.Common.{ℕ, refl, sym, subst, length, ⊎_elim}
 use Rattle.std.specs.Prelude.{IfSome}
 use Rattle.dbtg_outcomes.specs.declared.transitions.Transition.{Transition}
 use Rattle.dbtg_outcomes.specs.declared.walk.Walk.{Walk}
-use Rattle.dbtg_outcomes.specs.Inside.Transitions.{AreLooks, IsKnown, WasSeen}
+use Rattle.dbtg_outcomes.specs.Results.{Meeting}
+use Rattle.dbtg_outcomes.specs.Inside.Transitions.{IsKnown, WasSeen}
+use Rattle.dbtg_outcomes.specs.Transitions.{AreLooks}
 use Rattle.dbtg_outcomes.proofs.States.Walks.{stands_noted}
 use Rattle.dbtg_outcomes.proofs.meeting.Meeting.remember.Goals as goal
 
@@ -17,7 +19,10 @@ returns-in_ok-enter-clause-stands c =
     let passed = c.requires.passed.2 in
     let new : Walk = record w { transitions = c.enter.new.self } in
     let last : Transition = record { unit = passage.unit; looks = c.in-Some.looks; status = c.args.status } in
-    let looks : AreLooks m w.numbers passage names last.looks = subst (λ found. IfSome found (AreLooks m w.numbers passage names)) c.in-Some.is c.in_ok-looks.ensures in
+    let own : IfSome c.in_ok-looks.field-0 (AreLooks m.schema m.capacity (length m.scripts) w.numbers passage names)
+    = subst (λ (k : Meeting). IfSome c.in_ok-looks.field-0 (AreLooks k.schema k.capacity (length m.scripts) w.numbers passage names)) c.self.view_is
+    (subst (λ (n : ℕ). IfSome c.in_ok-looks.field-0 (AreLooks c.self.inside.schema.now c.self.inside.capacity n w.numbers passage names)) c.units.ensures c.in_ok-looks.ensures) in
+    let looks : AreLooks m.schema m.capacity (length m.scripts) w.numbers passage names last.looks = subst (λ found. IfSome found (AreLooks m.schema m.capacity (length m.scripts) w.numbers passage names)) c.in-Some.is own in
     let seen : WasSeen m w.numbers o passage.unit x names passage.before passage.after last = record {
       next = passed.next;
       status = passed.has_status;

@@ -1,5 +1,4 @@
-use Rattle.std.proofs.Common.{arith, refl, sym, subst, List}
-use Rattle.dbtg_outcomes.specs.declared.turns.Turn.{Turn}
+use Rattle.std.proofs.Common.{arith, refl, sym, subst, ℕ, List}
 use Rattle.dbtg_outcomes.specs.declared.notes.Note.{Note}
 use Rattle.dbtg_outcomes.specs.Inside.Search.{AreNotedOf, order_alone}
 use Rattle.dbtg_outcomes.specs.Inside.Walks.{LeadTo}
@@ -14,7 +13,7 @@ returns-clause-at g c =
     let m = c.args.meeting.now in
     let script = c.args.script.now in
     at_alone m script c.requires.alone c.in_ok-search.search _ c.args.limit _ c.in_ok-walk.walk c.in_ok-search.ensures (omega (arith, c.if-limit-script.false)) refl refl
-    (subst (λ (ts : List Turn). LeadTo m ts (order_alone m script)) (sym c.of.ensures) c.in_ok-turns_alone.ensures) c.in_ok-walk.ensures.stands
+    (subst (λ (ts : List ℕ). LeadTo m ts (order_alone m script)) (sym c.of.ensures) c.in_ok-turns_alone.ensures) c.in_ok-walk.ensures.stands
     (subst (λ (ns : List Note). AreNotedOf m (order_alone m script) ns) (sym c.in_ok-walk.ensures.notes) c.in_ok-note_alone.ensures)
 
 pub returns-clause-limit : goal.returns-clause-limit

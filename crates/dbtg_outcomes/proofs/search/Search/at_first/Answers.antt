@@ -1,9 +1,8 @@
-use Rattle.std.proofs.Common.{◌∙◌, ◌+◌, ◌≤◌, ap, length, refl, sym, subst, List}
+use Rattle.std.proofs.Common.{◌∙◌, ◌+◌, ◌≤◌, ap, length, refl, sym, subst, ℕ, List}
 use Rattle.std.proofs.lemmas.Result.{IfOk-weaker}
 use Rattle.dbtg_cells.specs.CellNumbers.{cell_count}
 use Rattle.dbtg_interned.specs.Arrays.{size}
 use Rattle.dbtg_outcomes.specs.declared.notes.Note.{Note}
-use Rattle.dbtg_outcomes.specs.declared.turns.Turn.{Turn}
 use Rattle.dbtg_outcomes.specs.Inside.Numbers.{IsNumberOf}
 use Rattle.dbtg_outcomes.specs.Inside.Search.{AreNotedOf}
 use Rattle.dbtg_outcomes.specs.Inside.Walks.{have_statements, order_of}
@@ -29,7 +28,7 @@ returns-clause-at c =
     IfOk-weaker c.at_state.result _ _
     (λ search is. at_first m search _ c.args.limit c.state_number.new.walk is c.requires.allowed refl c.requires.turns state.stands
     (subst (λ (ns : List Note). AreNotedOf m (made_first m.first m.scripts) ns) (sym (state.notes ∙ there.notes ∙ c.in_ok-walk.ensures.notes)) c.requires.notes)
-    (subst (λ (ts : List Turn). IsNumberOf m c.state_number.new.walk.numbers (order_of m ts) c.in_ok-number.number) (there.turns ∙ c.as_slice.ensures) state.number))
+    (subst (λ (ts : List ℕ). IsNumberOf m c.state_number.new.walk.numbers (order_of m ts) c.in_ok-number.number) (there.turns ∙ c.as_slice.ensures) state.number))
     c.at_state.ensures
 
 pub returns-clause-limit : goal.returns-clause-limit

@@ -1,5 +1,4 @@
-use Rattle.std.proofs.Common.{arith, sym, subst, List}
-use Rattle.dbtg_outcomes.specs.declared.turns.Turn.{Turn}
+use Rattle.std.proofs.Common.{arith, sym, subst, ℕ, List}
 use Rattle.dbtg_outcomes.specs.Inside.Walks.{LeadTo}
 use Rattle.dbtg_outcomes.specs.Orders.{made_first}
 use Rattle.dbtg_outcomes.proofs.States.Searched.{first_states}
@@ -14,4 +13,4 @@ at_first-requires-clause-allowed c = omega (arith, c.if-limit-eq0.false)
 pub at_first-requires-clause-turns : goal.at_first-requires-clause-turns
 at_first-requires-clause-turns c =
     let m = c.args.meeting.now in
-    subst (λ (ts : List Turn). LeadTo m ts (made_first m.first m.scripts)) (sym c.of-turns.ensures) c.in_ok-first_turns.ensures
+    subst (λ (ts : List ℕ). LeadTo m ts (made_first m.first m.scripts)) (sym c.of-turns.ensures) c.in_ok-first_turns.ensures
