@@ -12,6 +12,7 @@ pub mod CachedLines
 pub mod LineBehind
 pub mod LineSteps
 pub mod MoveSteps
+pub mod NameSteps
 pub mod NoFault
 pub mod Numbers
 pub mod Roles

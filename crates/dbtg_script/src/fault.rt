@@ -66,7 +66,6 @@ impl Cause {
 }
 
 /// A fault of a script: what is wrong, and on which line, from 1.
-#[derive(Clone, Copy, Debug, PartialEq, Eq)]
 pub struct Fault {
     pub line: u64,
     pub cause: Cause,
@@ -100,7 +99,7 @@ impl From<AllocError> for ScriptFault {
 }
 
 /// Why a line was not read.
-#[derive(Debug, Drop)]
+#[derive(Drop)]
 pub enum LineFault {
     Refused(Cause),
     Memory,

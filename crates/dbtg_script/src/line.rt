@@ -1,7 +1,7 @@
 //! The lines of a script.
 
 ghost use Rattle.dbtg_script.specs.Lines.{ends_in_text, is_allowed, is_comment, is_printable, is_statement, lines, trimmed, without_last};
-ghost use Rattle.std.specs.Prelude.{◌≡◌, ◌==◌, ◌&&◌, ◌<◌, ◌≤◌, ◌∷◌, nat_le, ℕ, [], MatchOption, OnSome, drop, false, length, slice_index};
+ghost use Rattle.std.specs.Prelude.{◌≡◌, ◌==◌, ◌&&◌, ◌<◌, ◌≤◌, ◌∷◌, nat_le, ℕ, [], MatchOption, OnSome, drop, false, length, not, slice_index};
 ghost use Rattle.std.specs.List.{list_all};
 
 use memchr::memchr;
@@ -115,6 +115,21 @@ pub fn is_allowed(line: &[u8]) -> bool
     ensures { result ≡ is_allowed line.now }
 {
     is_printable(line) && line.len() <= 1000
+}
+
+/// Is the line allowed, and does it end outside a text literal? It goes through the line once.
+pub fn is_allowed_and_closed(line: &[u8]) -> bool
+    ensures { result ≡ (is_allowed line.now && not (ends_in_text false line.now)) }
+{
+    let mut printable = true;
+    let mut inside = false;
+    for b in line {
+        printable = printable & is_printable_byte(*b);
+        if *b == b'"' {
+            inside = !inside;
+        }
+    }
+    printable && line.len() <= 1000 && !inside
 }
 
 /// Does the line end inside a text literal?

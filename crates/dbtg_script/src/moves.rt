@@ -11,7 +11,7 @@ use std::alloc::{AllocError, AllocFailed, Global};
 use thiserror::Error;
 
 /// What is wrong with moves, by the number with which it is printed.
-#[derive(Clone, Copy, Debug, PartialEq, Eq)]
+#[derive(Clone, Copy, Debug)]
 pub enum MovesCause {
     /// 1: a word of another shape, or with a number out of range; in a text of turns a quit too
     NotAMove,

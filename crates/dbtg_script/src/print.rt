@@ -223,18 +223,24 @@ pub fn push_owner(out: &mut Vec<u8>, schema: &Schema, owner: &Owner) -> Result<(
     }
 }
 
+fn mode_text(mode: Mode) -> &'static str
+    ensures { result.now ≡ mode_text mode }
+{
+    match mode {
+        Mode::Retrieval => "RETRIEVAL",
+        Mode::Update => "UPDATE",
+        Mode::ProtectedRetrieval => "PROTECTED-RETRIEVAL",
+        Mode::ProtectedUpdate => "PROTECTED-UPDATE",
+        Mode::ExclusiveRetrieval => "EXCLUSIVE-RETRIEVAL",
+        Mode::ExclusiveUpdate => "EXCLUSIVE-UPDATE",
+    }
+}
+
 /// A usage mode as one word.
 pub fn push_mode(out: &mut Vec<u8>, mode: Mode) -> Result<(), AllocError>
     ensures { OnOk result (out.new.items ≡ out.old.items ++ mode_text mode) }
 {
-    match mode {
-        Mode::Retrieval => out.extend_from_slice(b"RETRIEVAL"),
-        Mode::Update => out.extend_from_slice(b"UPDATE"),
-        Mode::ProtectedRetrieval => out.extend_from_slice(b"PROTECTED-RETRIEVAL"),
-        Mode::ProtectedUpdate => out.extend_from_slice(b"PROTECTED-UPDATE"),
-        Mode::ExclusiveRetrieval => out.extend_from_slice(b"EXCLUSIVE-RETRIEVAL"),
-        Mode::ExclusiveUpdate => out.extend_from_slice(b"EXCLUSIVE-UPDATE"),
-    }
+    out.extend_from_slice(mode_text(mode).as_bytes())
 }
 
 /// A current; a dash for none.

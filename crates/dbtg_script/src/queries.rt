@@ -1,7 +1,7 @@
 //! What the words of a statement say, found by their roles.
 
 ghost use Rattle.dbtg_schema.specs.Texts.Spelling.{among};
-ghost use Rattle.dbtg_script.specs.Labels.{first_word, given, is, last_text, lead, named, text_of, texts};
+ghost use Rattle.dbtg_script.specs.Labels.{first_word, given, is, last_text, lead, named, number, text_of, texts};
 ghost use Rattle.dbtg_script.specs.Tokens.{view};
 ghost use Rattle.dbtg_script.specs.Inside.Views.{view_labelled, views};
 ghost use Rattle.std.specs.Prelude.{◌≡◌, ◌≤◌, length, option_map};
@@ -16,10 +16,16 @@ pub struct Labelled<'a> {
     pub token: Token<'a>,
 }
 
+pub fn number_of(role: Role) -> u8
+    ensures { result ≡ number role }
+{
+    role as u8
+}
+
 pub fn has_role(labelled: &Labelled, role: Role) -> bool
     ensures { result ≡ is role (view_labelled labelled.now) }
 {
-    labelled.role as u8 == role as u8
+    number_of(labelled.role) == number_of(role)
 }
 
 /// The role of the first word.

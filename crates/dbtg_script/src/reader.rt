@@ -202,6 +202,22 @@ fn said_again(
     }
 }
 
+// A STORE or MODIFY with a value has at least so many bytes.
+const LEAST_WITH_VALUE: usize = 11;
+
+// Does the line begin as one whose words vary, by values, keys or numbers, so that it seldom comes again? These are STORE and MODIFY,
+// and FIND with KEY, CALC, SORTED or a number.
+fn has_varied_words(line: &[u8]) -> bool {
+    if line.len() < LEAST_WITH_VALUE {
+        return false;
+    }
+    match line[0] {
+        b'S' | b'M' => true,
+        b'F' => matches!(line[5], b'K' | b'C' | b'S' | b'-' | b'0'..=b'9'),
+        _ => false,
+    }
+}
+
 /// The statement of a line that was read before or has a usual form, if there is room for one more; none for some such lines.
 fn said_at_once(
     alloc: Global,
@@ -217,10 +233,12 @@ fn said_at_once(
     if MOST_STATEMENTS <= statements.len() {
         return Ok(None);
     }
-    match said_again(alloc, cache, statements, line)? {
-        Some(again) => Ok(Some(again)),
-        None => usual_statement(alloc, schema, line),
+    if has_varied_words(line) {
+        if let Some(statement) = usual_statement(alloc, schema, line)? {
+            return Ok(Some(statement));
+        }
     }
+    said_again(alloc, cache, statements, line)
 }
 
 /// Takes a line that is read anew: its statement is appended, and the line is kept.

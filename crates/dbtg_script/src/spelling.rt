@@ -2,7 +2,7 @@
 
 ghost use Rattle.dbtg_schema.specs.Texts.Spelling.{is_digit};
 ghost use Rattle.dbtg_script.specs.Printing.Spelling.{behind, generation, has_byte, has_generation, in_front, is_key, is_number, is_signed, key_generation, key_name, key_number, number};
-ghost use Rattle.std.specs.Prelude.{◌≡◌, ◌^◌, ◌*◌, ◌+◌, ◌-◌, length, min};
+ghost use Rattle.std.specs.Prelude.{◌≡◌, ◌<◌, ◌≤◌, ◌^◌, ◌*◌, ◌+◌, ◌-◌, IfSome, length, min, true};
 ghost use Rattle.std.specs.List.{list_all};
 
 fn is_digit(b: u8) -> bool
@@ -49,6 +49,26 @@ fn number_with(n: u64, digit: u8) -> u64
     } else {
         1_000_000_000_000_000_000
     }
+}
+
+/// The number that the text spells, if it is 1 to 18 digits. It looks at each byte once.
+pub fn short_number(text: &[u8]) -> Option<u64>
+    ensures digits { IfSome result (λ _. is_number text.now ≡ true) }
+    ensures value { IfSome result (λ n. n ≡ number text.now) }
+    ensures below { IfSome result (λ n. n < 10 ^ length text.now) }
+    ensures short { IfSome result (λ _. length text.now ≤ 18) }
+{
+    if text.is_empty() || text.len() > 18 {
+        return None;
+    }
+    let mut n: u64 = 0;
+    for b in text {
+        if !is_digit(*b) {
+            return None;
+        }
+        n = 10 * n + (*b - b'0') as u64;
+    }
+    Some(n)
 }
 
 /// Is the text digits, or a minus and digits?

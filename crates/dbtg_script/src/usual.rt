@@ -5,27 +5,27 @@ ghost use Rattle.dbtg_schema.specs.Lists.{Lists};
 ghost use Rattle.dbtg_schema.specs.Structure.{calc_of, item_list};
 ghost use Rattle.dbtg_script.specs.Inside.LineCache.{Says};
 ghost use Rattle.dbtg_script.specs.Inside.Reading.{MayTakeMemory};
-ghost use Rattle.dbtg_script.specs.Lookups.{item_named};
+ghost use Rattle.dbtg_script.specs.Printing.Spelling.{is_key, is_number};
 ghost use Rattle.dbtg_script.specs.Reading.{first_word_faults};
 ghost use Rattle.dbtg_script.specs.StatementGrammar.{fits, value};
 ghost use Rattle.dbtg_script.specs.StatementFaults.{key_faults};
 ghost use Rattle.dbtg_script.specs.Statements.{key_of};
 ghost use Rattle.dbtg_schema.specs.Lookups.{first};
 ghost use Rattle.dbtg_script.specs.Tokens.{equals, plain, view};
+ghost use Rattle.dbtg_script.specs.Values.{spelled};
 ghost use Rattle.dbtg_script.specs.Inside.Usual.{AreAssigned, AreSaid, IsAssigned, IsCalcType, IsGiven, IsOfSet, IsOnlyGiven, calc_items, nothing, words_left};
 ghost use Rattle.std.specs.Prelude.{◌≡◌, ◌<◌, ◌∷◌, ℕ, [], IfOk, IfSome, OnErr, Some, None, codes, false, is_err, true};
 
-use crate::automaton::Kind;
 use crate::checks::{is_sorted, without_minus};
 use crate::left::Left;
-use crate::line::{ends_in_text, is_allowed, is_statement};
-use crate::lookups::sort_picture;
-use crate::spelling::{generation, is_key, is_signed, key_name, key_number, number};
+use crate::line::{is_allowed_and_closed, is_statement};
+use crate::lookups::{is_other_name, item_named, sort_picture, type_named};
+use crate::spelling::{behind, is_signed, key_name, number, short_number};
 use crate::statement::signed;
 use crate::token::{Token, Tokens};
 use crate::values::{blank, spelled, up_to};
-use dbtg_cells::{DbKey, LAST_GENERATION, Value};
-use dbtg_schema::{Item, ItemNo, RecordNo, Row, Schema, SetNo};
+use dbtg_cells::{DbKey, Value};
+use dbtg_schema::{Item, ItemNo, Picture, RecordNo, Row, Schema, SetNo};
 use dbtg_unit::{Change, Form, MOST_STATEMENTS, Statement, Suppress, Which};
 use std::alloc::{AllocError, Global};
 
@@ -86,21 +86,22 @@ fn of_set(schema: &Schema, left: &mut Left) -> Option<SetNo>
     schema.set(name)
 }
 
-// The key that a word spells, if it has no fault.
-fn faultless_key(schema: &Schema, text: &[u8]) -> Option<DbKey>
+// The key that a word spells, if it has no fault and names no generation.
+fn usual_key(schema: &Schema, text: &[u8]) -> Option<DbKey>
+    ensures spelled { IfSome result (λ _. is_key text.now ≡ true) }
     ensures key { IfSome result (λ k. k ≡ key_of schema.now text.now) }
     ensures faultless { IfSome result (λ _. first (key_faults schema.now text.now) ≡ None) }
 {
-    let rtype = schema.rtype(key_name(text))?;
-    let number = up_to(999_999, number(key_number(text)));
-    let generation = up_to(LAST_GENERATION as u64, generation(text));
-    if number == 0 || generation == 0 {
+    let name = key_name(text);
+    let number = short_number(behind(text, b':'))?;
+    if name.is_empty() || number == 0 || number > 999_999 {
         return None;
     }
+    let rtype = type_named(schema, name)?;
     Some(DbKey {
         rtype,
         number: number as u32,
-        generation: generation as u8,
+        generation: 1,
     })
 }
 
@@ -112,10 +113,7 @@ fn by_key(schema: &Schema, left: &mut Left) -> Option<Statement>
     if !ends(left) {
         return None;
     }
-    if !is_key(text) {
-        return None;
-    }
-    let key = faultless_key(schema, text)?;
+    let key = usual_key(schema, text)?;
     Some(find(Form::Key(key)))
 }
 
@@ -148,9 +146,6 @@ fn by_sort_key(
     let Some(token) = left.next() else {
         return Ok(None);
     };
-    if !Kind::Value.fits(token) {
-        return Ok(None);
-    }
     let Some(set) = of_set(schema, left) else {
         return Ok(None);
     };
@@ -160,7 +155,7 @@ fn by_sort_key(
     let Some(picture) = sort_picture(schema, set) else {
         return Ok(None);
     };
-    match spelled(alloc, picture, token)? {
+    match usual_value(alloc, picture, token)? {
         None => Ok(None),
         Some(value) => Ok(Some(find(Form::Sorted { set, value }))),
     }
@@ -178,7 +173,7 @@ fn only_change(
     let Some(name) = plain_word(left) else {
         return Ok(None);
     };
-    let Some(item) = schema.item(rtype, name) else {
+    let Some(item) = item_named(schema, rtype, name) else {
         return Ok(None);
     };
     let Some(picture) = schema.picture_of(rtype, item) else {
@@ -190,7 +185,7 @@ fn only_change(
     if !ends(left) {
         return Ok(None);
     }
-    match spelled(alloc, picture, token)? {
+    match usual_value(alloc, picture, token)? {
         None => Ok(None),
         Some(value) => Ok(Some(Change { item, value })),
     }
@@ -207,7 +202,7 @@ fn calc_type(schema: &Schema, left: &mut Left) -> Option<RecordNo>
     if !accept_word(left, b"USING") {
         return None;
     }
-    schema.rtype(name)
+    type_named(schema, name)
 }
 
 /// The item of a CALC clause, if it has only one.
@@ -269,20 +264,37 @@ fn usual_find(
     }
 }
 
-/// The word after `=`, if it can be a value.
+/// The word after `=`.
 fn value_word<'a>(left: &mut Left<'a>) -> Option<Token<'a>>
-    ensures words { IfSome result (λ t. words_left left.old ≡ equals ∷ view t ∷ words_left left.new) }
-    ensures fitting { IfSome result (λ t. fits value (view t) ≡ true) }
+    ensures { IfSome result (λ t. words_left left.old ≡ equals ∷ view t ∷ words_left left.new) }
 {
     match left.next() {
-        Some(Token::Equals) => {}
-        _ => return None,
+        Some(Token::Equals) => left.next(),
+        _ => None,
     }
-    let token = left.next()?;
-    if Kind::Value.fits(token) {
-        Some(token)
-    } else {
-        None
+}
+
+// The value of an item of digits, from no more digits than it has.
+fn usual_number(digits: u8, text: &[u8]) -> Option<Value>
+    ensures fitting { IfSome result (λ _. is_number text.now ≡ true) }
+    ensures value { IfSome result (λ v. spelled (Picture.Number digits) (plain text.now) ≡ Some v) }
+{
+    let number = short_number(text)?;
+    if text.len() > digits as usize {
+        return None;
+    }
+    Some(Value::Num(number))
+}
+
+/// The value that a word spells for a picture, if it can be a value and has no zeros in front that the picture has no room for.
+fn usual_value(alloc: Global, picture: Picture, token: Token) -> Result<Option<Value>, AllocError>
+    ensures fitting { IfOk result (λ found. IfSome found (λ _. fits value (view token.entry) ≡ true)) }
+    ensures value { IfOk result (λ found. IfSome found (λ v. spelled picture (view token.entry) ≡ Some v)) }
+{
+    match (picture, token) {
+        (Picture::Number(digits), Token::Plain(text)) => Ok(usual_number(digits, text)),
+        (Picture::Text(_), Token::Literal(_)) => spelled(alloc, picture, token),
+        _ => Ok(None),
     }
 }
 
@@ -295,7 +307,7 @@ fn value_behind(alloc: Global, left: &mut Left, item: &Item) -> Result<Option<Va
     }
     match value_word(left) {
         None => Ok(None),
-        Some(token) => spelled(alloc, item.picture, token),
+        Some(token) => usual_value(alloc, item.picture, token),
     }
 }
 
@@ -311,19 +323,6 @@ fn next_value(alloc: Global, left: &mut Left, item: &Item) -> Result<Option<Valu
     value_behind(alloc, left, item)
 }
 
-/// The number of an item with this name, if it is the expected one: if names are equal, the first counts.
-fn item_at(schema: &Schema, rtype: RecordNo, name: &[u8], expected: usize) -> Option<ItemNo>
-    ensures number { IfSome result (λ n. n ≡ expected) }
-    ensures named { IfSome result (λ n. item_named schema.now rtype name.now ≡ Some expected) }
-{
-    let item = schema.item(rtype, name)?;
-    if item.index() as usize == expected {
-        Some(item)
-    } else {
-        None
-    }
-}
-
 /// The values of a record of this type, if the words that are left name its items in their order.
 fn usual_values(
     alloc: Global,
@@ -336,9 +335,10 @@ fn usual_values(
     let items = schema.items(rtype);
     let mut values = Vec::with_capacity(alloc, items.len())?;
     for (i, item) in items.iter().enumerate() {
-        let Some(_) = item_at(schema, rtype, item.name.as_slice(), i) else {
+        let (earlier, _) = items.split_at(i);
+        if !is_other_name(earlier, item.name.as_slice()) {
             return Ok(None);
-        };
+        }
         match next_value(alloc, left, item)? {
             None => return Ok(None),
             Some(value) => values.push(value)?,
@@ -362,7 +362,7 @@ fn usual_store(
     let Some(name) = plain_word(left) else {
         return Ok(None);
     };
-    let Some(rtype) = schema.rtype(name) else {
+    let Some(rtype) = type_named(schema, name) else {
         return Ok(None);
     };
     // Without items the line is likely to come again, and is worth keeping.
@@ -395,7 +395,7 @@ fn usual_modify(
     let Some(name) = plain_word(left) else {
         return Ok(None);
     };
-    let Some(rtype) = schema.rtype(name) else {
+    let Some(rtype) = type_named(schema, name) else {
         return Ok(None);
     };
     match only_change(alloc, schema, rtype, left)? {
@@ -460,10 +460,7 @@ pub fn usual_statement(
     if !is_statement(line) {
         return Ok(None);
     }
-    if !is_allowed(line) {
-        return Ok(None);
-    }
-    if ends_in_text(line) {
+    if !is_allowed_and_closed(line) {
         return Ok(None);
     }
     by_words(alloc, schema, &mut Left::Line(Tokens { rest: line }))

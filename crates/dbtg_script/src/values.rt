@@ -55,13 +55,12 @@ pub fn is_spelled(picture: Picture, token: Token) -> bool
 
 /// A text, padded with spaces to this length.
 fn filled(alloc: Global, size: u8, text: &[u8]) -> Result<Value, AllocError>
+    requires { length text.now ≤ size }
     ensures { IfOk result (λ v. v ≡ Value.Text (filled size text.now)) }
 {
     let mut bytes = Vec::with_capacity(alloc, size as usize)?;
     bytes.extend_from_slice(text)?;
-    for _ in text.len()..size as usize {
-        bytes.push(b' ')?;
-    }
+    bytes.resize(size as usize, b' ')?;
     Ok(Value::Text(Row::of(bytes)))
 }
 

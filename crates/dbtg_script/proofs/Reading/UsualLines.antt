@@ -1,5 +1,5 @@
 -- Lines of usual forms say the statements that they are read as.
-use Rattle.std.proofs.Common.{◌≡◌, ℕ, suc, ◌+◌, ◌<◌, true, false, cond, List, [], ◌∷◌, map, Option, Some, None, refl, sym, ap, ◌∙◌, inl, inr, arith, codes, true≢false}
+use Rattle.std.proofs.Common.{◌≡◌, ℕ, suc, ◌+◌, ◌<◌, Bool, true, false, not, ◌&&◌, cond, List, [], ◌∷◌, map, Option, Some, None, refl, sym, ap, ◌∙◌, inl, inr, arith, codes, true≢false}
 use Rattle.std.specs.Prelude.{◌==◌, ◌^◌, Result, Ok, Err, IfOk, IfSome, min, nat_le, option_map, slice_get, unwrap_or}
 use Rattle.std.specs.List.{position_from}
 use Rattle.std.specs.Str.{bytes_eq}
@@ -53,6 +53,14 @@ line_faultless schema count line few one allowed closed none s said =
       faultless = rw (one, room, allowed) (closed_line schema line closed ∙ none);
       said = rw one (ap Some said);
     }
+
+by_parts : (allowed open_text : Bool) → (allowed && not open_text) ≡ true → (allowed ≡ true) × (open_text ≡ false)
+by_parts true false h = (refl, refl)
+by_parts true true h = absurd cc
+by_parts false open_text h = absurd cc
+
+pub allowed_and_closed : (line : List ℕ) → (is_allowed line && not (ends_in_text false line)) ≡ true → (is_allowed line ≡ true) × (ends_in_text false line ≡ false)
+allowed_and_closed line = by_parts (is_allowed line) (ends_in_text false line)
 
 pub line_says : (schema : Lists) (line : List ℕ) (s : Statement) → is_statement line ≡ true → is_allowed line ≡ true → ends_in_text false line ≡ false
     → AreSaid schema (tokens false line) s → (count : ℕ) → count < MOST_STATEMENTS → Says schema count line s

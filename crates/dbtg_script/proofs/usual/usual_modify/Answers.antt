@@ -8,4 +8,4 @@ returns-in_ok-push-in-Some-2 c =
     let change = c.in-Some-2.change in
     let given = rw c.in-Some-2.is at c.in_ok-only_change.ensures in
     let changes : c.of.result ≡ change ∷ [] = c.of.ensures ∙ c.in_ok-push-in-Some-2.ensures.items ∙ ap (λ (cs : List Change). cs ++ change ∷ []) c.in_ok-changes-in-Some-2.ensures.items in
-    rw (c.in-Some.ensures, changes) (modify_said c.args.schema.now c.in-Some.name.now _ c.in-Some-rtype.rtype change.item change.value (sym c.in-Some-rtype.ensures) given)
+    rw (c.in-Some.ensures, changes) (modify_said c.args.schema.now c.in-Some.name.now _ c.in-Some-type_named.rtype change.item change.value (sym c.in-Some-type_named.ensures) given)

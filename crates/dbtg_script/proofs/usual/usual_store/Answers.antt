@@ -5,4 +5,4 @@ use Rattle.dbtg_script.proofs.usual.usual_store.Goals as goal
 pub returns-in-Some-2 : goal.returns-in-Some-2
 returns-in-Some-2 c =
     let values = rw c.in-Some-2.is at c.in_ok-usual_values.ensures in
-    rw (c.in-Some.ensures, c.of.ensures) (store_is_said c.args.schema.now c.in-Some-rtype.rtype c.in-Some.name.now _ c.in-Some-2.values.items (sym c.in-Some-rtype.ensures) values)
+    rw (c.in-Some.ensures, c.of.ensures) (store_is_said c.args.schema.now c.in-Some-type_named.rtype c.in-Some.name.now _ c.in-Some-2.values.items (sym c.in-Some-type_named.ensures) values)
