@@ -61,11 +61,7 @@ abbrev pub last : Rule
 last = file_option (codes "then")
 
 abbrev pub limit : Rule
-limit = number_option (codes "limit") (codes "1000000")
-
--- the default number of programs that meet
-abbrev pub limit_of_programs : Rule
-limit_of_programs = number_option (codes "limit") (codes "100000")
+limit = number_option (codes "limit") (codes "5000000")
 
 abbrev pub moves : Rule
 moves = file_option (codes "moves")
@@ -157,7 +153,7 @@ rules_for named.Threads = capacity ∷ first ∷ save_turns ∷ trace_alone ∷ 
 rules_for named.Audit = capacity ∷ first ∷ units ∷ status ∷ all ∷ explain ∷ no_explain ∷ schema ∷ trace ∷ []
 rules_for named.Draw = explain ∷ no_explain ∷ schema ∷ []
 rules_for named.Run = capacity ∷ first ∷ turns_alone ∷ on_threads ∷ save_turns ∷ last ∷ echo ∷ trace_option ∷ explain ∷ no_explain ∷ schema ∷ scripts ∷ []
-rules_for named.Explore = capacity ∷ first ∷ turns_alone ∷ last ∷ limit_of_programs ∷ brief ∷ explain ∷ no_explain ∷ schema ∷ scripts ∷ []
+rules_for named.Explore = capacity ∷ first ∷ turns_alone ∷ last ∷ limit ∷ brief ∷ explain ∷ no_explain ∷ schema ∷ scripts ∷ []
 rules_for named.Explain = topic ∷ []
 rules_for named.Shell = capacity ∷ units ∷ schema ∷ []
 

@@ -1,6 +1,6 @@
 //! The arguments of commands: options, files and other words, as `clap` is given them.
 ghost use Rattle.std.specs.Prelude.{IfOk};
-ghost use Rattle.dbtg_command.specs.Commands.{all, answers, capacity, echo, explain, file_option, file_word, first, flag, last, limit, limit_of_programs, moves, no_explain, number_option, on_threads, programs, save_turns, topic, turns_file, turns_option, units, words, status, trace, trace_alone, trace_option, always, brief, never, wish_option, turns_alone};
+ghost use Rattle.dbtg_command.specs.Commands.{all, answers, capacity, echo, explain, file_option, file_word, first, flag, last, limit, moves, no_explain, number_option, on_threads, programs, save_turns, topic, turns_file, turns_option, units, words, status, trace, trace_alone, trace_option, always, brief, never, wish_option, turns_alone};
 ghost use Rattle.dbtg_command.specs.Inside.Commands.{IsArg, rule_for};
 
 use clap::{Arg, ArgAction};
@@ -20,7 +20,6 @@ pub enum Word<'a> {
     First(&'a str),
     Last,
     Limit,
-    LimitOfPrograms,
     Moves,
     Never,
     NoExplain,
@@ -205,15 +204,8 @@ fn last_option<'a>(alloc: Global) -> Arg<'a>
 fn limit_option<'a>(alloc: Global) -> Arg<'a>
     ensures { IsArg limit result }
 {
-    let help = "States to allow, 1 to 1000000000; a million can take 7 GB";
-    number_option(alloc, "limit", "1000000", help)
-}
-
-fn limit_of_programs_option<'a>(alloc: Global) -> Arg<'a>
-    ensures { IsArg limit_of_programs result }
-{
-    let help = "States to allow, 1 to 1000000000; a hundred thousand can take 500 MB";
-    number_option(alloc, "limit", "100000", help)
+    let help = "States to allow, 1 to 1000000000; as many as the default take about 1 GB";
+    number_option(alloc, "limit", "5000000", help)
 }
 
 fn moves_option<'a>(alloc: Global) -> Arg<'a>
@@ -373,7 +365,6 @@ pub fn arg_of<'a>(alloc: Global, word: Word<'a>) -> Result<Arg<'a>, AllocError>
         Word::First(help) => Ok(file_option(alloc, "first", help)),
         Word::Last => Ok(last_option(alloc)),
         Word::Limit => Ok(limit_option(alloc)),
-        Word::LimitOfPrograms => Ok(limit_of_programs_option(alloc)),
         Word::Moves => Ok(moves_option(alloc)),
         Word::Never => Ok(never_option(alloc)),
         Word::NoExplain => Ok(no_explain_option(alloc)),

@@ -299,7 +299,7 @@ fn explore_command<'a>(alloc: Global, name: &'a str) -> Result<Command<'a>, Allo
             Word::First(FIRST_PROGRAM),
             Word::TurnsBefore,
             Word::Last,
-            Word::LimitOfPrograms,
+            Word::Limit,
             Word::Brief,
             Word::Explain,
             Word::NoExplain,

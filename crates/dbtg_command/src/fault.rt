@@ -9,10 +9,11 @@ use dbtg_schema::{Cause as SchemaCause, SchemaFault};
 use dbtg_script::{Cause as ScriptCause, MovesCause, MovesFault, ScriptFault, TurnsFault};
 use dbtg_trace::{TraceCause, TraceFault};
 use std::alloc::{AllocError, AllocFailed};
+use std::fmt::{Debug, Display, Formatter, Result as FmtResult, Write};
 use thiserror::Error;
 
 /// Why a command is not carried out. Its text is the line on standard error.
-#[derive(Debug, Drop, Error)]
+#[derive(Drop, Error)]
 pub enum Fault {
     /// The first fault of the schema.
     #[error("schema fault {} line {line}", .cause.number())]
@@ -71,6 +72,12 @@ pub enum Fault {
     /// Memory was refused before a fault was met.
     #[error("want of memory")]
     Memory,
+}
+
+impl Debug for Fault {
+    fn fmt<W: Write>(&self, f: &mut Formatter<W>) -> FmtResult {
+        Display::fmt(self, f)
+    }
 }
 
 impl From<AllocError> for Fault {

@@ -142,18 +142,11 @@ fn place_of(alloc: Global, path: &str, mark: &str, number: u64) -> Result<Vec<u8
 }
 
 /// The place of a fault, and what is said of its word; if nothing is said of a word, or something of the text, the fault's meaning.
-fn told_at(
-    alloc: Global,
-    place: &[u8],
-    word: &[u8],
-    meaning: &[u8],
-    other: &str,
-) -> Result<Vec<u8>, AllocError>
-    ensures { IfOk result (λ out. out.items ≡ told_at place.now word.now meaning.now other.now) }
+fn told_at(place: Vec<u8>, word: &[u8], meaning: &[u8], other: &str) -> Result<Vec<u8>, AllocError>
+    ensures { IfOk result (λ out. out.items ≡ told_at place.items word.now meaning.now other.now) }
 {
     let is_plain = word.is_empty() || !other.is_empty();
-    let mut out = Vec::new(alloc);
-    out.extend_from_slice(place)?;
+    let mut out = place;
     out.extend_from_slice(if is_plain { meaning } else { word })?;
     out.extend_from_slice(other.as_bytes())?;
     Ok(out)
@@ -265,11 +258,15 @@ fn script_reason<F: FileReader>(
 ) -> Result<Vec<u8>, AllocError>
     ensures { IfOk result (λ out. IsToldIn text_kind.Script (SaysOfScript (F.has files.now.reader.now) (F.lacks files.now.reader.now) text_kind.Script files.now.paths.now.schema.now path.now line number) (SaysOfFile (F.has files.now.reader.now) (F.lacks files.now.reader.now) text_kind.Script path.now) path.now line number out.items) }
 {
-    let place = place_of(alloc, path, ":", line)?;
     let meaning = meaning_of(Kind::Script, number);
     let other = said_of_file(files, Kind::Script, path);
     let said = said_in_script(alloc, files, Kind::Script, path, line, number)?;
-    told_at(alloc, place.as_slice(), said.as_slice(), meaning, other)
+    told_at(
+        place_of(alloc, path, ":", line)?,
+        said.as_slice(),
+        meaning,
+        other,
+    )
 }
 
 /// What is said of the word of the schema that is at fault; nothing if no single word is, or the file is not read again.
@@ -297,11 +294,15 @@ fn schema_reason<F: FileReader>(
 ) -> Result<Vec<u8>, AllocError>
     ensures { IfOk result (λ out. IsToldIn text_kind.Schema (SaysOfSchema (F.has files.now.reader.now) (F.lacks files.now.reader.now) path.now number) (SaysOfFile (F.has files.now.reader.now) (F.lacks files.now.reader.now) text_kind.Schema path.now) path.now line number out.items) }
 {
-    let place = place_of(alloc, path, ":", line)?;
     let meaning = meaning_of(Kind::Schema, number);
     let other = said_of_file(files, Kind::Schema, path);
     let said = said_in_schema(alloc, files, path, number)?;
-    told_at(alloc, place.as_slice(), said.as_slice(), meaning, other)
+    told_at(
+        place_of(alloc, path, ":", line)?,
+        said.as_slice(),
+        meaning,
+        other,
+    )
 }
 
 /// The second line for a fault of the moves or turns.
@@ -315,7 +316,7 @@ fn order_reason(
     ensures { IfOk result (λ out. IsToldOfOrder kind path.now word number out.items) }
 {
     let place = place_of(alloc, path, ": word ", word)?;
-    told_at(alloc, place.as_slice(), &[], meaning_of(kind, number), "")
+    told_at(place, &[], meaning_of(kind, number), "")
 }
 
 /// The kind of text with a fault with this number: programs and traces also have those of scripts.
@@ -341,10 +342,14 @@ fn program_reason<F: FileReader>(
 ) -> Result<Vec<u8>, AllocError>
     ensures { IfOk result (λ out. IsToldOfProgram (SaysOfScript (F.has files.now.reader.now) (F.lacks files.now.reader.now) text_kind.Program files.now.paths.now.schema.now path.now line number) path.now line number out.items) }
 {
-    let place = place_of(alloc, path, ":", line)?;
     let meaning = meaning_of(kind_with(number), number);
     let said = said_in_script(alloc, files, Kind::Program, path, line, number)?;
-    told_at(alloc, place.as_slice(), said.as_slice(), meaning, "")
+    told_at(
+        place_of(alloc, path, ":", line)?,
+        said.as_slice(),
+        meaning,
+        "",
+    )
 }
 
 /// What is wrong with the unit of a trace's line that names none of the units.
@@ -391,10 +396,14 @@ fn trace_reason<F: FileReader>(
 ) -> Result<Vec<u8>, AllocError>
     ensures { IfOk result (λ out. IsToldOfTrace (SaysOfTrace (F.has files.now.reader.now) (F.lacks files.now.reader.now) path.now line number) path.now line number out.items) }
 {
-    let place = place_of(alloc, path, ":", line)?;
     let meaning = meaning_of(kind_with(number), number);
     let said = said_in_trace(files, path, line, number);
-    told_at(alloc, place.as_slice(), said.as_bytes(), meaning, "")
+    told_at(
+        place_of(alloc, path, ":", line)?,
+        said.as_bytes(),
+        meaning,
+        "",
+    )
 }
 
 fn order_path<'a>(paths: &Paths<'a>) -> &'a str
@@ -428,10 +437,9 @@ fn told_of<F: FileReader>(
     ensures { IfOk result (λ told. MatchOption told (HasNoReason fault.now) (λ out. IsReason (F.has files.now.reader.now) (F.lacks files.now.reader.now) files.now.paths.now.schema.now (map (λ path. path.now) files.now.paths.now.scripts.now) (order_map (λ path. path.now) files.now.paths.now.order) fault.now out.items)) }
 {
     let paths = files.paths;
-    match fault {
+    let told = match fault {
         Fault::Schema { line, cause } => {
-            let told = schema_reason(alloc, files, paths.schema, *line, cause.number())?;
-            Ok(Some(told))
+            schema_reason(alloc, files, paths.schema, *line, cause.number())
         }
         Fault::Script {
             number,
@@ -439,18 +447,15 @@ fn told_of<F: FileReader>(
             cause,
         } => {
             let path = script_path(paths, *number);
-            let told = script_reason(alloc, files, path, *line, cause.number())?;
-            Ok(Some(told))
+            script_reason(alloc, files, path, *line, cause.number())
         }
         Fault::Moves { word, cause } => {
             let path = order_path(paths);
-            let told = order_reason(alloc, path, Kind::Moves, *word, cause.number())?;
-            Ok(Some(told))
+            order_reason(alloc, path, Kind::Moves, *word, cause.number())
         }
         Fault::Turns { word, cause } => {
             let path = order_path(paths);
-            let told = order_reason(alloc, path, Kind::Turns, *word, cause.number())?;
-            Ok(Some(told))
+            order_reason(alloc, path, Kind::Turns, *word, cause.number())
         }
         Fault::Program {
             number,
@@ -458,17 +463,16 @@ fn told_of<F: FileReader>(
             cause,
         } => {
             let path = script_path(paths, *number);
-            let told = program_reason(alloc, files, path, *line, cause.number())?;
-            Ok(Some(told))
+            program_reason(alloc, files, path, *line, cause.number())
         }
         Fault::Trace { line, cause } => {
             let path = script_path(paths, 1);
-            let told = trace_reason(alloc, files, path, *line, cause.number())?;
-            Ok(Some(told))
+            trace_reason(alloc, files, path, *line, cause.number())
         }
-        Fault::Unreadable { path } => Ok(Some(unread_line(alloc, files, path.as_str())?)),
-        _ => Ok(None),
-    }
+        Fault::Unreadable { path } => unread_line(alloc, files, path.as_str()),
+        _ => return Ok(None),
+    };
+    Ok(Some(told?))
 }
 
 /// The second line of a fault, if there is one. The files are read again for it.

@@ -8,7 +8,7 @@ use Rattle.clap.specs.declared.builder.command.Command.{Command}
 use Rattle.clap.specs.declared.builder.command.Command.TheViews.{out-Command as fields_of}
 use Rattle.clap.specs.declared.parser.matches.ArgMatches.{ArgMatches}
 use Rattle.dbtg_command.specs.Calling.{IsCall}
-use Rattle.dbtg_command.specs.Commands.{all, answers, capacity, echo, explain, first, last, limit, limit_of_programs, moves, name_of, no_explain, on_threads, programs, rules_for, save_turns, schema, scripts, shape_with, svg, topic, turns_option, turns_file, units, status, trace, trace_alone, trace_option, always, brief, never, turns_alone}
+use Rattle.dbtg_command.specs.Commands.{all, answers, capacity, echo, explain, first, last, limit, moves, name_of, no_explain, on_threads, programs, rules_for, save_turns, schema, scripts, shape_with, svg, topic, turns_option, turns_file, units, status, trace, trace_alone, trace_option, always, brief, never, turns_alone}
 use Rattle.dbtg_command.specs.declared.arguments.Word.{Word}
 use Rattle.dbtg_command.specs.declared.arguments.Word.TheVariants as word
 use Rattle.dbtg_command.specs.declared.command.Named.{Named}
@@ -27,7 +27,6 @@ rule_for (word.ExplainMore help) = explain
 rule_for (word.First help) = first
 rule_for word.Last = last
 rule_for word.Limit = limit
-rule_for word.LimitOfPrograms = limit_of_programs
 rule_for word.Moves = moves
 rule_for word.Never = never
 rule_for word.NoExplain = no_explain
