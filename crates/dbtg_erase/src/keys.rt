@@ -45,10 +45,7 @@ impl Keys {
     pub fn get(&self, place: usize) -> Option<DbKey>
         ensures { result ≡ slice_get self.now place }
     {
-        match self.keys.get_index(place) {
-            Some(key) => Some(*key),
-            None => None,
-        }
+        self.keys.get_index(place).copied()
     }
 
     pub fn contains(&self, key: DbKey) -> bool

@@ -72,9 +72,6 @@ impl Names {
     {
         let place = place_of_missing(held, self.names.as_slice(), self.passed);
         self.passed = place;
-        match self.names.get(place) {
-            Some(name) => Some(*name),
-            None => None,
-        }
+        self.names.get(place).copied()
     }
 }

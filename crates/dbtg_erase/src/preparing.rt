@@ -160,7 +160,6 @@ fn planned(
 
 /// What a DELETE of the current of run-unit that needs nothing more does: its records go, with their places in lists and
 /// their own lists, and each member that stays loses the owners that go. The cells that are held stay as they are until it is done.
-#[tactic(auto, using(crate::proofs::CanFinish::delete_can_finish))]
 pub fn prepare(
     alloc: Global,
     schema: &Schema,

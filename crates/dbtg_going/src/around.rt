@@ -5,7 +5,7 @@ ghost use Rattle.std.specs.Prelude.{◌≡◌};
 
 /// Is there a program that runs before all others, and one that runs after all others have ended? The last of the programs is
 /// the one that runs last; the one before it, or the last one if no program runs last, is the one that runs first.
-#[derive(Clone, Copy, Debug, PartialEq, Eq)]
+#[derive(Clone, Copy)]
 pub struct Around {
     pub first: bool,
     pub last: bool,

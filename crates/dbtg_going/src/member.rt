@@ -13,7 +13,7 @@ use dbtg_unit::{Entry, MOST_STATEMENTS, Statement};
 use std::alloc::{AllocError, Global};
 
 /// Whether a program has ended, is spent, or goes on.
-#[derive(Clone, Copy, Debug, PartialEq, Eq)]
+#[derive(Clone, Copy)]
 pub enum Standing {
     Ended(End),
     /// its unit can make no more statements, but another is due

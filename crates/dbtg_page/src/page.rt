@@ -43,55 +43,37 @@ struct Setting<'a> {
 
 // ---- before the run
 
-fn names_of_types(alloc: Global, types: &[RecordType]) -> Result<Vec<Row<u8>>, AllocError>
-    ensures { IfOk result (λ names. names.items ≡ map (λ t. t.name) types.now) }
-{
-    let mut names = Vec::new(alloc);
-    for rtype in types {
-        names.push(rtype.name.copy(alloc)?)?;
-    }
-    Ok(names)
-}
-
-fn names_of_sets(alloc: Global, sets: &[SetType]) -> Result<Vec<Row<u8>>, AllocError>
-    ensures { IfOk result (λ names. names.items ≡ map (λ s. s.name) sets.now) }
-{
-    let mut names = Vec::new(alloc);
-    for set in sets {
-        names.push(set.name.copy(alloc)?)?;
-    }
-    Ok(names)
-}
-
-fn names_of_areas(alloc: Global, areas: &[Area]) -> Result<Vec<Row<u8>>, AllocError>
-    ensures { IfOk result (λ names. names.items ≡ map (λ a. a.name) areas.now) }
-{
-    let mut names = Vec::new(alloc);
-    for area in areas {
-        names.push(area.name.copy(alloc)?)?;
-    }
-    Ok(names)
-}
-
-fn push_types(alloc: Global, out: &mut Vec<u8>, types: &[RecordType]) -> Result<(), AllocError>
+#[tactic(auto, unfolding(crate::specs::Json::row))]
+fn push_types(out: &mut Vec<u8>, types: &[RecordType]) -> Result<(), AllocError>
     ensures { OnOk result (out.new.items ≡ out.old.items ++ row (codes "TYPES") (map (λ t. t.name) types.now)) }
 {
-    let names = names_of_types(alloc, types)?;
-    push_row(out, b"TYPES", names.as_slice())
+    push_kind(out, b"TYPES")?;
+    for rtype in types {
+        push_field(out, rtype.name.as_slice())?;
+    }
+    push_end(out)
 }
 
-fn push_sets(alloc: Global, out: &mut Vec<u8>, sets: &[SetType]) -> Result<(), AllocError>
+#[tactic(auto, unfolding(crate::specs::Json::row))]
+fn push_sets(out: &mut Vec<u8>, sets: &[SetType]) -> Result<(), AllocError>
     ensures { OnOk result (out.new.items ≡ out.old.items ++ row (codes "SETS") (map (λ s. s.name) sets.now)) }
 {
-    let names = names_of_sets(alloc, sets)?;
-    push_row(out, b"SETS", names.as_slice())
+    push_kind(out, b"SETS")?;
+    for set in sets {
+        push_field(out, set.name.as_slice())?;
+    }
+    push_end(out)
 }
 
-fn push_areas(alloc: Global, out: &mut Vec<u8>, areas: &[Area]) -> Result<(), AllocError>
+#[tactic(auto, unfolding(crate::specs::Json::row))]
+fn push_areas(out: &mut Vec<u8>, areas: &[Area]) -> Result<(), AllocError>
     ensures { OnOk result (out.new.items ≡ out.old.items ++ row (codes "AREAS") (map (λ a. a.name) areas.now)) }
 {
-    let names = names_of_areas(alloc, areas)?;
-    push_row(out, b"AREAS", names.as_slice())
+    push_kind(out, b"AREAS")?;
+    for area in areas {
+        push_field(out, area.name.as_slice())?;
+    }
+    push_end(out)
 }
 
 fn push_scripts(out: &mut Vec<u8>, scripts: &[Row<Row<u8>>]) -> Result<(), AllocError>
@@ -103,27 +85,23 @@ fn push_scripts(out: &mut Vec<u8>, scripts: &[Row<Row<u8>>]) -> Result<(), Alloc
     Ok(())
 }
 
-fn push_causes(alloc: Global, out: &mut Vec<u8>, causes: &[u8]) -> Result<(), AllocError>
+#[tactic(auto, unfolding(crate::specs::Json::row))]
+fn push_causes(out: &mut Vec<u8>, causes: &[u8]) -> Result<(), AllocError>
     ensures { OnOk result (out.new.items ≡ out.old.items ++ row (codes "CAUSES") (causes.now ∷ [])) }
 {
-    let mut fields = Vec::new(alloc);
-    fields.push(Row::of(Vec::from_slice(alloc, causes)?))?;
-    push_row(out, b"CAUSES", fields.as_slice())
+    push_kind(out, b"CAUSES")?;
+    push_field(out, causes)?;
+    push_end(out)
 }
 
 #[tactic(auto, unfolding(crate::specs::Rows::front_rows))]
-fn push_front(
-    alloc: Global,
-    out: &mut Vec<u8>,
-    schema: &Schema,
-    told: &Told<'_>,
-) -> Result<(), AllocError>
+fn push_front(out: &mut Vec<u8>, schema: &Schema, told: &Told<'_>) -> Result<(), AllocError>
     ensures { OnOk result (out.new.items ≡ out.old.items ++ front_rows schema.now told.now.causes.now told.now.scripts.now) }
 {
-    push_types(alloc, out, schema.types())?;
-    push_sets(alloc, out, schema.sets())?;
-    push_areas(alloc, out, schema.areas())?;
-    push_causes(alloc, out, told.causes)?;
+    push_types(out, schema.types())?;
+    push_sets(out, schema.sets())?;
+    push_areas(out, schema.areas())?;
+    push_causes(out, told.causes)?;
     push_scripts(out, told.scripts)
 }
 
@@ -349,7 +327,7 @@ pub fn page_text(
         units: statements.len() as u8,
     };
     let mut out = Vec::from_slice(alloc, MARKUP.as_bytes())?;
-    push_front(alloc, &mut out, schema, told)?;
+    push_front(&mut out, schema, told)?;
     push_whole_run(&mut out, &setting, capacity, statements, moves)?;
     out.extend_from_slice(SCRIPT.as_bytes())?;
     Ok(out)

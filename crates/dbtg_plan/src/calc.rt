@@ -15,7 +15,7 @@ use std::alloc::{AllocError, Global};
 fn number_of(key: Option<DbKey>) -> Option<u32>
     ensures { result ≡ option_map (λ k. k.number) key }
 {
-    key.map(|key| key.number)
+    Some(key?.number)
 }
 
 // Does a held record of this type, other than the one left out, have the items with these numbers?

@@ -9,9 +9,8 @@ ghost use Rattle.dbtg_unit.specs.Hands.EditsOf.{slot_edit};
 ghost use Rattle.dbtg_unit.specs.Hands.InHand.{items_in, in_hand};
 ghost use Rattle.dbtg_unit.specs.Hands.Local.{Agrees};
 ghost use Rattle.dbtg_unit.specs.Hands.Locality.{IsMadeOnEach, made_by, seen};
-ghost use Rattle.dbtg_unit.specs.Hands.Making.{CanFinish, CanMake, HaveNextVersions, MayPrepare, ShowsTheSame};
+ghost use Rattle.dbtg_unit.specs.Hands.Making.{CanFinish, CanMake, MayPrepare, ShowsTheSame};
 ghost use Rattle.dbtg_unit.specs.Hands.Needs.{cells_of, first_missing};
-ghost use Rattle.dbtg_unit.specs.Hands.PlanOf.{inserting};
 ghost use Rattle.dbtg_unit.specs.Database.Statements.Conditions.{joined_place};
 ghost use Rattle.dbtg_unit.specs.Hands.PlanOf.{joining_edit};
 ghost use Rattle.dbtg_plan.specs.Inside.Joining.{inserting_with};
@@ -24,8 +23,8 @@ use crate::unit_alone::done_answer;
 use dbtg_cells::{CellName, DbKey, Value};
 use dbtg_schema::{Row, Schema, SetNo};
 use dbtg_unit::{
-    Answer, Cause, CellEdit, Edit, Held, Place, Prepared, Status, Unit, UnitEdit, edit_held,
-    next_version, own_refusal, owner_in, refused,
+    Answer, Cause, CellEdit, Edit, Held, Place, Prepared, Unit, UnitEdit, edit_held, next_version,
+    own_refusal, owner_in, refused,
 };
 use std::alloc::{AllocError, Global};
 
@@ -91,28 +90,20 @@ fn inserted(
     schema: &Schema,
     unit: &Unit,
     set: SetNo,
-    held: &Held,
     key: &DbKey,
     sort_key: Option<Value>,
+    version: u64,
 ) -> Result<Prepared, AllocError>
-    requires versions { HaveNextVersions held.now.cells }
-    requires sort_key { sort_key ≡ key_item schema.now set key.now.rtype (items_in held.now key.now) }
-    ensures { IfOk result (λ plan. plan ≡ inserting schema.now (in_hand held.now) unit.now set key.now) }
+    ensures { IfOk result (λ plan. plan ≡ inserting_with schema.now unit.now set key.now sort_key version) }
 {
     let edits = edits_of(alloc, schema, unit, set, key, sort_key)?;
-    let mut versions = Vec::new(alloc);
-    versions.push((*key, next_version(held, key)))?;
-    let answer = Answer {
-        status: Status::Done,
-        key: None,
-        items: None,
-    };
+    let versions = Vec::from_slice(alloc, &[(*key, version)])?;
     let place = Place {
         owner: unit.joined_place(schema, set).owner,
         at: Some(*key),
     };
     Ok(Prepared::new(
-        answer,
+        done_answer(),
         edits,
         Row::of(versions),
         UnitEdit::Move { set, place },
@@ -142,9 +133,9 @@ pub(crate) fn prepare_insert(
     if let Some(cause) = refusal(schema, unit, set, held, &key, &sort_key) {
         return Ok(refused(alloc, cause));
     }
-    let plan = inserted(alloc, schema, unit, set, held, &key, sort_key)?;
+    let version = next_version(held, &key);
     make_room(schema, unit, set, held, &key)?;
-    Ok(plan)
+    inserted(alloc, schema, unit, set, &key, sort_key, version)
 }
 
 // MADE AT ONCE

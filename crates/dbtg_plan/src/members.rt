@@ -1,5 +1,5 @@
 //! A held record as a member of sets: its sort key, and the edits of its slot.
-ghost use Rattle.std.specs.Prelude.{◌≡◌, [], ◌∷◌, IfOk};
+ghost use Rattle.std.specs.Prelude.{◌≡◌, [], ◌∷◌, ◌++◌, IfOk, OnOk};
 ghost use Rattle.dbtg_unit.specs.Database.State.Base.{key_item};
 ghost use Rattle.dbtg_unit.specs.Hands.EditsOf.{slot_edit};
 ghost use Rattle.dbtg_unit.specs.Hands.InHand.{items_in};
@@ -7,7 +7,7 @@ ghost use Rattle.dbtg_unit.specs.Hands.Making.{AreMade, CanMake};
 
 use crate::calc::copy_item;
 use dbtg_cells::{CellName, DbKey, Value};
-use dbtg_schema::{RecordNo, Schema, SetNo};
+use dbtg_schema::{RecordNo, Row, Schema, SetNo};
 use dbtg_unit::{CellEdit, Edit, Held, edit_held, stored};
 use std::alloc::{AllocError, Global};
 
@@ -19,6 +19,19 @@ pub(crate) fn slot_edit(key: &DbKey, edit: Edit) -> CellEdit
         name: CellName::Slot(key.rtype, key.number),
         edit,
     }
+}
+
+/// Adds an edit of the slot of a key, and the one that raises the version there.
+pub(crate) fn push_slot(
+    edits: &mut Row<CellEdit>,
+    key: &DbKey,
+    edit: Edit,
+) -> Result<(), AllocError>
+    ensures { OnOk result (edits.new ≡ edits.old ++ slot_edit key.now edit ∷ slot_edit key.now Edit.RaiseVersion ∷ []) }
+{
+    edits.push(slot_edit(key, edit))?;
+    edits.push(slot_edit(key, Edit::RaiseVersion))?;
+    Ok(())
 }
 
 /// Makes an edit of the slot of a key, and raises the version there.

@@ -30,7 +30,8 @@ pub(crate) fn missing(held: &Held, name: CellName) -> Option<CellName>
 pub(crate) fn missing_slot(held: &Held, key: Option<DbKey>) -> Option<CellName>
     ensures { result ≡ first_missing held.now (slot_names key) }
 {
-    key.and_then(|key| missing(held, CellName::Slot(key.rtype, key.number)))
+    let key = key?;
+    missing(held, CellName::Slot(key.rtype, key.number))
 }
 
 /// The ring of an owner, if there is one and it is not held.

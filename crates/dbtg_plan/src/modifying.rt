@@ -8,7 +8,7 @@ ghost use Rattle.dbtg_unit.specs.declared.statement.Statement.TheVariants.{Modif
 ghost use Rattle.dbtg_unit.specs.Database.State.Base.{Database, key_item};
 ghost use Rattle.dbtg_unit.specs.Database.Statements.Checks.{modify_checks, refused_at_once};
 ghost use Rattle.dbtg_unit.specs.Database.Statements.Conditions.{calc_taken, changed_items, names_calc, refuses_equal};
-ghost use Rattle.dbtg_unit.specs.Hands.PlanOf.{calc_edits, modify_edits, modifying, replacing_edits, slot_edit};
+ghost use Rattle.dbtg_unit.specs.Hands.PlanOf.{calc_edits, modify_edits, modifying, replacing_edits};
 ghost use Rattle.dbtg_unit.specs.Inside.PlanOf.{plan_of};
 ghost use Rattle.dbtg_unit.specs.Hands.InHand.{in_hand, items_in};
 ghost use Rattle.dbtg_unit.specs.Hands.Local.{Agrees};
@@ -19,14 +19,14 @@ ghost use Rattle.dbtg_unit.specs.Database.State.Units.{place_in};
 ghost use Rattle.dbtg_plan.specs.Inside.Modifying.{is_refused, is_rekeyed};
 
 use crate::calc::{calc_taken, copy_calc};
-use crate::members::{change_slot, copy_sort_key, slot_edit};
+use crate::members::{change_slot, copy_sort_key, push_slot};
 use crate::missing::{missing, missing_ring, missing_slot};
 use crate::unit_alone;
 use crate::unit_alone::done_answer;
 use dbtg_cells::{CellName, DbKey, Owner, Value, copy_items};
 use dbtg_schema::{RecordNo, Row, Schema, SetNo};
 use dbtg_unit::{
-    Answer, Cause, CellEdit, Change, Edit, Held, Prepared, Status, Unit, UnitEdit, edit_each_cell,
+    Answer, Cause, CellEdit, Change, Edit, Held, Prepared, Unit, UnitEdit, edit_each_cell,
     is_rekeyed_in, names_calc, next_version, occurrence, own_refusal, owner_in, refused,
     refuses_equal, ring_name, set_count, stored,
 };
@@ -334,14 +334,6 @@ fn push_replacing(
     Ok(())
 }
 
-fn push_slot(edits: &mut Vec<CellEdit>, key: &DbKey, items: Row<Value>) -> Result<(), AllocError>
-    ensures { IfOk result (λ _. edits.new.items ≡ edits.old.items ++ slot_edit key.now (Edit.ChangeItems items) ∷ (slot_edit key.now Edit.RaiseVersion ∷ [])) }
-{
-    edits.push(slot_edit(key, Edit::ChangeItems { items }))?;
-    edits.push(slot_edit(key, Edit::RaiseVersion))?;
-    Ok(())
-}
-
 // The edits of all cells but its slot.
 fn edits_beside_slot(
     alloc: Global,
@@ -351,14 +343,14 @@ fn edits_beside_slot(
     held: &Held,
     key: &DbKey,
     items: &[Value],
-) -> Result<Vec<CellEdit>, AllocError>
-    ensures { IfOk result (λ edits. edits.items ≡ calc_edits schema.now changes.now key.now items.now ++ flat_map (replacing_edits schema.now (in_hand held.now) unit.now key.now items.now) (rekeyed_sets schema.now key.now.rtype (map (λ c. c.item) changes.now))) }
+) -> Result<Row<CellEdit>, AllocError>
+    ensures { IfOk result (λ edits. edits ≡ calc_edits schema.now changes.now key.now items.now ++ flat_map (replacing_edits schema.now (in_hand held.now) unit.now key.now items.now) (rekeyed_sets schema.now key.now.rtype (map (λ c. c.item) changes.now))) }
 {
     let mut edits = Vec::new(alloc);
     let calc = calc_edit(alloc, schema, changes, key, items)?;
     push_some(&mut edits, calc)?;
     push_replacing(&mut edits, alloc, schema, unit, changes, held, key, items)?;
-    Ok(edits)
+    Ok(Row::of(edits))
 }
 
 fn edits_of(
@@ -373,8 +365,8 @@ fn edits_of(
     ensures { IfOk result (λ edits. edits ≡ modify_edits schema.now (in_hand held.now) unit.now changes.now key.now items) }
 {
     let mut edits = edits_beside_slot(alloc, schema, unit, changes, held, key, items.as_slice())?;
-    push_slot(&mut edits, key, items)?;
-    Ok(Row::of(edits))
+    push_slot(&mut edits, key, Edit::ChangeItems { items })?;
+    Ok(edits)
 }
 
 fn modified(
@@ -391,14 +383,8 @@ fn modified(
     ensures { IfOk result (λ plan. plan ≡ modifying schema.now (in_hand held.now) unit.now changes.now key.now) }
 {
     let edits = edits_of(alloc, schema, unit, changes, held, key, items)?;
-    let mut versions = Vec::new(alloc);
-    versions.push((*key, next_version(held, key)))?;
-    let answer = Answer {
-        status: Status::Done,
-        key: None,
-        items: None,
-    };
-    Ok(Prepared::new(answer, edits, Row::of(versions), UnitEdit::Same))
+    let versions = Vec::from_slice(alloc, &[(*key, next_version(held, key))])?;
+    Ok(Prepared::new(done_answer(), edits, Row::of(versions), UnitEdit::Same))
 }
 
 /// What a MODIFY that needs nothing more does: the CALC values if one is named, the places in sets that are sorted by an item that is
@@ -447,7 +433,7 @@ fn modify_record(
 {
     let edits = edits_beside_slot(alloc, schema, unit, changes, held, key, items.as_slice())?;
     let version = next_version(held, key);
-    edit_each_cell(held, Row::of(edits));
+    edit_each_cell(held, edits);
     change_slot(held, key, Edit::ChangeItems { items });
     unit.renote(*key, version);
     Ok(done_answer())

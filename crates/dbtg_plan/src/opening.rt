@@ -8,11 +8,11 @@ ghost use Rattle.dbtg_unit.specs.Hands.Making.{CanFinish, MayPrepare, ShowsTheSa
 ghost use Rattle.dbtg_unit.specs.Hands.PlanOf.{mode_plan};
 ghost use Rattle.dbtg_unit.specs.Inside.PlanOf.{plan_of};
 
+use crate::unit_alone::done_answer;
 use dbtg_cells::{CellName, Mode};
 use dbtg_schema::{AreaNo, Row, Schema};
 use dbtg_unit::{
-    Answer, Cause, CellEdit, Edit, Held, Prepared, Statement, Status, Unit, UnitEdit, refused,
-    reserve_user, usage,
+    Cause, CellEdit, Edit, Held, Prepared, Statement, Unit, UnitEdit, refused, reserve_user, usage,
 };
 use std::alloc::{AllocError, Global};
 
@@ -33,18 +33,18 @@ fn set_mode(
 ) -> Result<Prepared, AllocError>
     ensures { IfOk result (λ plan. plan ≡ mode_plan area edit mode) }
 {
-    let answer = Answer {
-        status: Status::Done,
-        key: None,
-        items: None,
-    };
     let mut edits = Vec::new(alloc);
     edits.push(CellEdit {
         name: CellName::Usage(area),
         edit,
     })?;
     let change = UnitEdit::SetMode { area, mode };
-    Ok(Prepared::new(answer, Row::of(edits), Row::of(Vec::new(alloc)), change))
+    Ok(Prepared::new(
+        done_answer(),
+        Row::of(edits),
+        Row::of(Vec::new(alloc)),
+        change,
+    ))
 }
 
 /// OPEN of an area in a mode.

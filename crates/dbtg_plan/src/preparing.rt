@@ -17,7 +17,6 @@ use dbtg_unit::{Held, Prepared, Statement, Unit, refused, refused_at_once};
 use std::alloc::{AllocError, Global};
 
 // Prepares a statement that the checks without cells let through.
-#[tactic(auto, using(crate::proofs::Plans::OpenClose::close_can_finish, crate::proofs::Plans::GetKeepFree::get_finishes, crate::proofs::Plans::GetKeepFree::keep_finishes, crate::proofs::Plans::GetKeepFree::free_finishes, crate::proofs::Connect::RemoveIsEffect::remove_finishes, crate::proofs::Modify::ModifyReady::modify_finishes))]
 fn prepare_passed(
     alloc: Global,
     schema: &Schema,
@@ -62,7 +61,6 @@ fn prepare_passed(
 
 /// Prepares a statement other than DELETE that needs nothing more: makes room for what it adds to the cells that it holds, which still show
 /// the same, and fixes its answer and its changes. If no memory is found, only room was made.
-#[tactic(auto, using(crate::proofs::Plans::PartByPart::makes_if_ok))]
 pub fn prepare(
     alloc: Global,
     schema: &Schema,

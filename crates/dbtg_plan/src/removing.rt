@@ -14,14 +14,14 @@ ghost use Rattle.dbtg_unit.specs.Hands.Needs.{cells_of, first_missing};
 ghost use Rattle.dbtg_unit.specs.Hands.PlanOf.{removing};
 ghost use Rattle.dbtg_unit.specs.Inside.PlanOf.{plan_of};
 
-use crate::members::{change_slot, slot_edit};
+use crate::members::{change_slot, push_slot};
 use crate::missing::{missing_ring, missing_slot};
 use crate::unit_alone;
 use crate::unit_alone::done_answer;
 use dbtg_cells::{CellName, DbKey, Owner};
 use dbtg_schema::{Row, Schema, SetNo};
 use dbtg_unit::{
-    Answer, Cause, CellEdit, Edit, Held, Prepared, Status, Unit, UnitEdit, edit_held, next_version,
+    Answer, Cause, CellEdit, Edit, Held, Prepared, Unit, UnitEdit, edit_held, next_version,
     own_refusal, owner_in, push_taking_out, refused, ring_name,
 };
 use std::alloc::{AllocError, Global};
@@ -62,9 +62,22 @@ fn edits_of(
 {
     let mut edits = Row::of(Vec::new(alloc));
     push_taking_out(&mut edits, set, owner, key)?;
-    edits.push(slot_edit(key, Edit::ChangeOwner { set, owner: None }))?;
-    edits.push(slot_edit(key, Edit::RaiseVersion))?;
+    push_slot(&mut edits, key, Edit::ChangeOwner { set, owner: None })?;
     Ok(edits)
+}
+
+fn removed(alloc: Global, set: SetNo, held: &Held, key: &DbKey) -> Result<Prepared, AllocError>
+    requires { HaveNextVersions held.now.cells }
+    ensures { IfOk result (λ plan. plan ≡ removing (in_hand held.now) set key.now) }
+{
+    let edits = edits_of(alloc, set, owner_in(held, set, key), key)?;
+    let versions = Vec::from_slice(alloc, &[(*key, next_version(held, key))])?;
+    Ok(Prepared::new(
+        done_answer(),
+        edits,
+        Row::of(versions),
+        UnitEdit::Leave { set },
+    ))
 }
 
 /// What a REMOVE that needs nothing more does: out of the list of its owner, no owner there, the version.
@@ -86,15 +99,7 @@ pub(crate) fn remove(
     if let Some(cause) = refusal(unit, set, held, &key) {
         return Ok(refused(alloc, cause));
     }
-    let edits = edits_of(alloc, set, owner_in(held, set, &key), &key)?;
-    let mut versions = Vec::new(alloc);
-    versions.push((key, next_version(held, &key)))?;
-    let answer = Answer {
-        status: Status::Done,
-        key: None,
-        items: None,
-    };
-    Ok(Prepared::new(answer, edits, Row::of(versions), UnitEdit::Leave { set }))
+    removed(alloc, set, held, &key)
 }
 
 // MADE AT ONCE

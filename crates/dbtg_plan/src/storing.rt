@@ -110,7 +110,7 @@ fn missing_of_key(schema: &Schema, unit: &Unit, held: &Held, key: &DbKey) -> Opt
 fn new_key(held: &Held, rtype: RecordNo) -> Option<DbKey>
     ensures { result ≡ fresh_key (numbers_in held.now rtype) rtype }
 {
-    numbers(held, rtype).and_then(|extent| fresh_key(extent, rtype))
+    fresh_key(numbers(held, rtype)?, rtype)
 }
 
 fn missing_of_store(
@@ -405,9 +405,8 @@ fn plan_store(
 {
     match judged(alloc, schema, unit, held, rtype, items.as_slice())? {
         Ok(key) => {
-            let plan = stored(alloc, schema, unit, &key, items, suppress)?;
             make_places(schema, unit, held, &key)?;
-            Ok(plan)
+            stored(alloc, schema, unit, &key, items, suppress)
         }
         Err(cause) => Ok(refused(alloc, cause)),
     }
@@ -436,6 +435,36 @@ pub(crate) fn prepare_store(
 
 // MADE AT ONCE
 
+// The edits of a STORE that take memory: the number, the places in the sets, the record.
+#[derive(Drop)]
+struct Built {
+    entering: CellEdit,
+    joins: Row<CellEdit>,
+    filling: CellEdit,
+}
+
+fn build(
+    alloc: Global,
+    schema: &Schema,
+    unit: &Unit,
+    key: &DbKey,
+    items: &Row<Value>,
+    owners: &Owners,
+) -> Result<Built, AllocError>
+    requires { owners.now ≡ first_owners schema.now unit.now key.now.rtype }
+    ensures { IfOk result (λ built. built.entering ∷ (built.joins ++ (edits_of_opening schema.now key.now ++ built.filling ∷ [])) ≡ store_edits schema.now unit.now key.now items.now) }
+{
+    let mut joins = Vec::new(alloc);
+    push_each_join(alloc, schema, unit, key, items.as_slice(), &mut joins)?;
+    let entering = entering(alloc, schema, key, items.as_slice())?;
+    let filling = filling(alloc, key, items, owners)?;
+    Ok(Built {
+        entering,
+        joins: Row::of(joins),
+        filling,
+    })
+}
+
 fn open_occurrences(schema: &Schema, key: &DbKey, held: &mut Held)
     requires { CanMake (edits_of_opening schema.now key.now) held.old.cells }
     ensures made { AreMade (edits_of_opening schema.now key.now) held.old.cells held.new.cells }
@@ -447,24 +476,17 @@ fn open_occurrences(schema: &Schema, key: &DbKey, held: &mut Held)
     }
 }
 
-// Makes the edits of a STORE; those that take memory were built before.
-fn change_cells(
-    schema: &Schema,
-    key: &DbKey,
-    held: &mut Held,
-    entering: CellEdit,
-    joins: Row<CellEdit>,
-    filling: CellEdit,
-)
-    requires { CanMake (entering ∷ (joins ++ (edits_of_opening schema.now key.now ++ filling ∷ []))) held.old.cells }
-    ensures made { AreMade (entering ∷ (joins ++ (edits_of_opening schema.now key.now ++ filling ∷ []))) held.old.cells held.new.cells }
+// Makes the edits of a STORE.
+fn change_cells(schema: &Schema, key: &DbKey, held: &mut Held, built: Built)
+    requires { CanMake (built.entering ∷ (built.joins ++ (edits_of_opening schema.now key.now ++ built.filling ∷ []))) held.old.cells }
+    ensures made { AreMade (built.entering ∷ (built.joins ++ (edits_of_opening schema.now key.now ++ built.filling ∷ []))) held.old.cells held.new.cells }
     ensures areas { held.new.areas ≡ held.old.areas }
     ensures guesses { held.new.guesses ≡ held.old.guesses }
 {
-    edit_held(held, entering);
-    edit_each_cell(held, joins);
+    edit_held(held, built.entering);
+    edit_each_cell(held, built.joins);
     open_occurrences(schema, key, held);
-    edit_held(held, filling);
+    edit_held(held, built.filling);
 }
 
 // Stores a record that no check refuses, and makes it current: all memory is taken before the first change.
@@ -482,13 +504,10 @@ fn store(
     ensures unit { OnErr result (unit.new ≡ unit.old) }
     ensures shows { OnErr result (ShowsTheSame held.old held.new) }
 {
-    let entering = entering(alloc, schema, key, items.as_slice())?;
-    let mut joins = Vec::new(alloc);
-    push_each_join(alloc, schema, unit, key, items.as_slice(), &mut joins)?;
-    let owners = first_owners(schema, unit, key.rtype);
-    let filling = filling(alloc, key, items, &owners)?;
     make_places(schema, unit, held, key)?;
-    change_cells(schema, key, held, entering, Row::of(joins), filling);
+    let owners = first_owners(schema, unit, key.rtype);
+    let built = build(alloc, schema, unit, key, items, &owners)?;
+    change_cells(schema, key, held, built);
     unit.see(schema, *key, owners.as_slice(), suppress);
     held.set_guesses(owners);
     Ok(Answer {

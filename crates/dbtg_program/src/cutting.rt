@@ -13,7 +13,7 @@ use dbtg_script::{Lines, Token, Tokens, is_statement, trimmed, without_last};
 use std::alloc::{AllocError, Global};
 
 /// A line that holds a sentence, and its number. It is cut into words where they are wanted.
-#[derive(Drop)]
+#[derive(Clone, Copy)]
 pub struct Holding<'a> {
     pub number: u64,
     pub line: &'a [u8],

@@ -9,7 +9,7 @@ use dbtg_script::Cause;
 use std::alloc::{AllocError, AllocFailed};
 
 /// What is wrong with a program. Each cause has a number by which it is printed.
-#[derive(Clone, Copy, Debug, PartialEq, Eq)]
+#[derive(Clone, Copy)]
 pub enum ProgramCause {
     /// 1 to 14: as in a script
     AsInScript(Cause),
@@ -30,14 +30,14 @@ pub enum ProgramCause {
 }
 
 /// A fault of a program: what is wrong, and on which line, from 1.
-#[derive(Clone, Copy, Debug, PartialEq, Eq)]
+#[derive(Clone, Copy)]
 pub struct Fault {
     pub line: u64,
     pub cause: ProgramCause,
 }
 
 /// Why no program was read.
-#[derive(Debug, Drop)]
+#[derive(Drop)]
 pub enum ProgramFault {
     /// The first fault of the text.
     Refused { line: u64, cause: ProgramCause },

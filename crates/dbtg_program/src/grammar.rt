@@ -5,7 +5,7 @@ ghost use Rattle.dbtg_program.specs.Sentences.{spelling};
 ghost use Rattle.std.specs.Prelude.{◌≡◌};
 
 /// A word of the sentences that scripts do not have.
-#[derive(Clone, Copy, Debug, PartialEq, Eq)]
+#[derive(Clone, Copy)]
 pub enum Keyword {
     /// 01, as a level number
     Level,
@@ -24,7 +24,7 @@ pub enum Keyword {
 }
 
 /// What a word must be.
-#[derive(Clone, Copy, Debug, PartialEq, Eq)]
+#[derive(Clone, Copy)]
 pub enum Kind {
     /// this very word
     Key(Keyword),
@@ -44,7 +44,7 @@ pub enum Kind {
 }
 
 /// How a word is judged.
-#[derive(Clone, Copy, Debug, PartialEq, Eq)]
+#[derive(Clone, Copy)]
 pub enum Role {
     /// only by whether it fits
     Plain,
@@ -63,7 +63,7 @@ pub enum Role {
 }
 
 /// A place of a sentence.
-#[derive(Clone, Copy, Debug, PartialEq, Eq)]
+#[derive(Clone, Copy)]
 pub struct FormPlace {
     pub kind: Kind,
     pub role: Role,

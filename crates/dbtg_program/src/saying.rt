@@ -119,6 +119,14 @@ fn condition_of(alloc: Global, text: &Text, words: &[Token]) -> Result<Condition
     comparison(alloc, text, words)
 }
 
+/// The first value of a sentence, and the field behind the word after it.
+fn operands_of(alloc: Global, text: &Text, words: &[Token]) -> Result<(Operand, usize), AllocError>
+    ensures { IfOk result (λ o. o ≡ (operand_of text.now (word_at 1 (map view words.now)), field_in text.now (word_at 3 (map view words.now)))) }
+{
+    let value = operand_of(alloc, text, word_at(words, 1))?;
+    Ok((value, field_in(text, word_at(words, 3))))
+}
+
 /// The sentence that these words with this verb say; a counter does nothing.
 pub fn said_by(
     alloc: Global,
@@ -130,16 +138,16 @@ pub fn said_by(
 {
     match verb {
         Keyword::Move => {
-            let value = operand_of(alloc, text, word_at(words, 1))?;
-            Ok(Sentence::Move(value, field_in(text, word_at(words, 3))))
+            let (value, field) = operands_of(alloc, text, words)?;
+            Ok(Sentence::Move(value, field))
         }
         Keyword::Add => {
-            let value = operand_of(alloc, text, word_at(words, 1))?;
-            Ok(Sentence::Add(value, field_in(text, word_at(words, 3))))
+            let (value, field) = operands_of(alloc, text, words)?;
+            Ok(Sentence::Add(value, field))
         }
         Keyword::Subtract => {
-            let value = operand_of(alloc, text, word_at(words, 1))?;
-            Ok(Sentence::Subtract(value, field_in(text, word_at(words, 3))))
+            let (value, field) = operands_of(alloc, text, words)?;
+            Ok(Sentence::Subtract(value, field))
         }
         Keyword::Go => Ok(Sentence::GoTo(target_of(text, word_at(words, 2)))),
         Keyword::If => {

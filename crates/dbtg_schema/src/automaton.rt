@@ -119,7 +119,7 @@ pub struct Start {
     pub next: State,
 }
 
-#[derive(Clone, Copy, PartialEq, Eq)]
+#[derive(Clone, Copy)]
 pub enum State {
     Opening,
     SchemaNameWord,

@@ -1,7 +1,7 @@
 use std::marker::Model;
 
 /// An area, by its place in the schema, which is what contracts see.
-#[derive(Clone, Copy, Debug, PartialEq, Eq, PartialOrd, Ord, Hash)]
+#[derive(Clone, Copy, Debug, PartialEq, Eq, PartialOrd)]
 pub struct AreaNo {
     index: u8,
 }
@@ -33,7 +33,7 @@ impl AreaNo {
 }
 
 /// A record type, by its place in the schema, which is what contracts see.
-#[derive(Clone, Copy, Debug, PartialEq, Eq, PartialOrd, Ord, Hash)]
+#[derive(Clone, Copy, Debug, PartialEq, Eq, PartialOrd, Hash)]
 pub struct RecordNo {
     index: u8,
 }
@@ -65,7 +65,7 @@ impl RecordNo {
 }
 
 /// A set, by its place in the schema, which is what contracts see.
-#[derive(Clone, Copy, Debug, PartialEq, Eq, PartialOrd, Ord, Hash)]
+#[derive(Clone, Copy, Debug, PartialEq, Eq, PartialOrd)]
 pub struct SetNo {
     index: u8,
 }
@@ -97,7 +97,7 @@ impl SetNo {
 }
 
 /// An item of a record type, by its place in the schema, which is what contracts see.
-#[derive(Clone, Copy, Debug, PartialEq, Eq, PartialOrd, Ord, Hash)]
+#[derive(Clone, Copy, Debug, PartialEq, Eq)]
 pub struct ItemNo {
     index: u8,
 }

@@ -3,7 +3,7 @@
 use crate::numbers::{AreaNo, ItemNo, RecordNo, SetNo};
 use crate::row::Row;
 
-#[derive(Clone, Copy, Debug, PartialEq, Eq)]
+#[derive(Clone, Copy, PartialEq, Eq)]
 pub enum Picture {
     /// 9(n)
     Number(u8),
@@ -36,14 +36,14 @@ pub struct RecordType {
     pub calc: Option<Calc>,
 }
 
-#[derive(Clone, Copy, Debug, PartialEq, Eq)]
+#[derive(Clone, Copy, PartialEq, Eq)]
 pub enum Duplicates {
     First,
     Last,
     NotAllowed,
 }
 
-#[derive(Clone, Copy, Debug, PartialEq, Eq)]
+#[derive(Clone, Copy, PartialEq, Eq)]
 pub enum Order {
     First,
     Last,
@@ -55,7 +55,7 @@ pub enum Order {
     },
 }
 
-#[derive(Clone, Copy, Debug, PartialEq, Eq)]
+#[derive(Clone, Copy, PartialEq, Eq)]
 pub enum Class {
     MandatoryAutomatic,
     MandatoryManual,
@@ -63,7 +63,7 @@ pub enum Class {
     OptionalManual,
 }
 
-#[derive(Clone, Copy, Debug, PartialEq, Eq)]
+#[derive(Clone, Copy)]
 pub struct Member {
     pub rtype: RecordNo,
     pub class: Class,

@@ -6,7 +6,7 @@ use dbtg_schema::Row;
 use std::alloc::{AllocError, Global};
 
 /// The event that a move made, or why it made none. A ticket is shown with its number and the statement's status.
-#[derive(Clone, Copy, Debug, PartialEq, Eq)]
+#[derive(Clone, Copy)]
 pub enum Mark {
     Begin,
     TakeArea,

@@ -6,10 +6,11 @@ ghost use Rattle.std.specs.Prelude.{◌≡◌};
 
 use dbtg_script::Cause;
 use std::alloc::{AllocError, AllocFailed};
+use std::fmt::{Debug, Display, Formatter, Result as FmtResult, Write};
 use thiserror::Error;
 
 /// What is wrong with a trace. Each cause has a number by which it is printed.
-#[derive(Clone, Copy, Debug, PartialEq, Eq)]
+#[derive(Clone, Copy)]
 pub enum TraceCause {
     /// 1 to 14: as in a script, but 14 is a text of more than 67,108,864 bytes, or statement 524,281
     AsInScript(Cause),
@@ -36,14 +37,14 @@ impl TraceCause {
 }
 
 /// A fault of a trace: what is wrong, and on which line, from 1.
-#[derive(Clone, Copy, Debug, PartialEq, Eq)]
+#[derive(Clone, Copy)]
 pub struct Fault {
     pub line: u64,
     pub cause: TraceCause,
 }
 
 /// Why no trace was read.
-#[derive(Debug, Drop, Error)]
+#[derive(Drop, Error)]
 pub enum TraceFault {
     /// The first fault of the text.
     #[error("trace fault {} line {line}", .cause.number())]
@@ -51,6 +52,12 @@ pub enum TraceFault {
     /// Memory was refused before a fault was met.
     #[error("want of memory")]
     Memory,
+}
+
+impl Debug for TraceFault {
+    fn fmt<W: Write>(&self, f: &mut Formatter<W>) -> FmtResult {
+        Display::fmt(self, f)
+    }
 }
 
 /// Why a line was not read.

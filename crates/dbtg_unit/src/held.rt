@@ -233,7 +233,7 @@ impl Held {
     pub fn last_area(&self) -> Option<AreaNo>
         ensures { result ≡ slice_get self.now.areas (length self.now.areas - 1) }
     {
-        self.areas.as_slice().last().map(|area| AreaNo::new(*area))
+        Some(AreaNo::new(*self.areas.as_slice().last()?))
     }
 
     /// The name of the cell that was taken last.

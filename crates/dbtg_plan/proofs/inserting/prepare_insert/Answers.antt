@@ -1,4 +1,5 @@
 use Rattle.std.proofs.Common.{◌≡◌, sym, ◌∙◌, ap, subst, Option, Some, None}
+use Rattle.std.proofs.lemmas.Result.{IfOk-weaker}
 use Rattle.dbtg_schema.specs.Lookups.{first_cause}
 use Rattle.dbtg_cells.specs.declared.key.DbKey.{DbKey}
 use Rattle.dbtg_unit.specs.Hands.InHand.{in_hand}
@@ -10,6 +11,7 @@ use Rattle.dbtg_unit.specs.Hands.Prepared.{refusal}
 use Rattle.dbtg_unit.specs.Inside.Prepared.{unless_refusal}
 use Rattle.dbtg_unit.specs.Inside.PlanOf.{plan_of}
 use Rattle.dbtg_unit.specs.Hands.PlanOf.{planned_on_current, inserting}
+use Rattle.dbtg_plan.specs.Inside.Joining.{inserting_with}
 use Rattle.dbtg_plan.proofs.Connect.InsertIsEffect.{insert_can_finish, refused_insert_can_finish}
 use Rattle.dbtg_plan.proofs.inserting.prepare_insert.Goals as goal
 
@@ -30,7 +32,11 @@ returns-clause-prepared c =
     let schema = c.args.schema.now in
     let unit = c.args.unit.now in
     let hands = c.args.held.now in
-    let current : unit.currency.run_unit ≡ Some c.in-Some.key = cc in
-    let free : first_cause (insert_checks schema (in_hand hands) unit c.args.set c.in-Some.key) ≡ None = sym c.in_default-refusal.ensures in
-    subst (CanFinish schema c.args.capacity unit c.make_room.new.held (Insert c.args.set)) (sym c.in_ok-plan.ensures)
-    (insert_can_finish schema c.args.capacity unit hands c.make_room.new.held c.args.set c.requires.may c.requires.passes c.in_ok-make_room.ensures.same c.in-Some.key current free c.in_ok-make_room.ensures.room)
+    let s = c.args.set in
+    let k = c.in-Some.key in
+    let current : unit.currency.run_unit ≡ Some k = cc in
+    let free : first_cause (insert_checks schema (in_hand hands) unit s k) ≡ None = sym c.in_default-refusal.ensures in
+    let can = insert_can_finish schema c.args.capacity unit hands c.make_room.new.held s c.requires.may c.requires.passes c.in_ok-make_room.ensures.same k current free c.in_ok-make_room.ensures.room in
+    let plan : inserting_with schema unit s k c.in_ok-sort_key.sort_key c.next_version-version.result ≡ inserting schema (in_hand hands) unit s k = λ i. inserting_with schema unit s k (c.in_ok-sort_key.ensures i) (c.next_version-version.ensures i) in
+    let finishes = subst (CanFinish schema c.args.capacity unit c.make_room.new.held (Insert s)) (sym plan) can in
+    IfOk-weaker c.inserted.result _ _ (λ p is. subst (CanFinish schema c.args.capacity unit c.make_room.new.held (Insert s)) (sym is) finishes) c.inserted.ensures

@@ -24,10 +24,10 @@ edit_each_cell-requires c =
     let old = c.args.held.now.cells in
     let last : List CellEdit = slot_edit k (ChangeItems items) ∷ (slot_edit k RaiseVersion ∷ []) in
     let front : List Value → List CellEdit = λ items. calc_edits schema changes k items ++ flat_map (replacing_edits schema view unit k items) (rekeyed_sets schema k.rtype (map (λ c. c.item) changes)) in
-    let all : c.of.result ++ last ≡ modify_edits schema view unit changes k items =
-    ap (λ es. es ++ last) (c.of.ensures ∙ c.in_ok-edits.ensures ∙ ap front c.as_slice.ensures)
+    let all : c.in_ok-edits.edits ++ last ≡ modify_edits schema view unit changes k items =
+    ap (λ es. es ++ last) (c.in_ok-edits.ensures ∙ ap front c.as_slice.ensures)
     ∙ append_assoc (calc_edits schema changes k items) (flat_map (replacing_edits schema view unit k items) (rekeyed_sets schema k.rtype (map (λ c. c.item) changes))) last in
-    can_make_front c.of.result last old (subst (λ (es : List CellEdit). CanMake es old) (sym all) c.requires.can)
+    can_make_front c.in_ok-edits.edits last old (subst (λ (es : List CellEdit). CanMake es old) (sym all) c.requires.can)
 
 pub change_slot-requires : goal.change_slot-requires
 change_slot-requires c =
@@ -40,10 +40,10 @@ change_slot-requires c =
     let old = c.args.held.now.cells in
     let last : List CellEdit = slot_edit k (ChangeItems items) ∷ (slot_edit k RaiseVersion ∷ []) in
     let front : List Value → List CellEdit = λ items. calc_edits schema changes k items ++ flat_map (replacing_edits schema view unit k items) (rekeyed_sets schema k.rtype (map (λ c. c.item) changes)) in
-    let all : c.of.result ++ last ≡ modify_edits schema view unit changes k items =
-    ap (λ es. es ++ last) (c.of.ensures ∙ c.in_ok-edits.ensures ∙ ap front c.as_slice.ensures)
+    let all : c.in_ok-edits.edits ++ last ≡ modify_edits schema view unit changes k items =
+    ap (λ es. es ++ last) (c.in_ok-edits.ensures ∙ ap front c.as_slice.ensures)
     ∙ append_assoc (calc_edits schema changes k items) (flat_map (replacing_edits schema view unit k items) (rekeyed_sets schema k.rtype (map (λ c. c.item) changes))) last in
-    can_make_rest c.of.result last old c.edit_each_cell.new.held.cells (subst (λ (es : List CellEdit). CanMake es old) (sym all) c.requires.can) c.edit_each_cell.ensures.made
+    can_make_rest c.in_ok-edits.edits last old c.edit_each_cell.new.held.cells (subst (λ (es : List CellEdit). CanMake es old) (sym all) c.requires.can) c.edit_each_cell.ensures.made
 
 pub returns-clause-made : goal.returns-clause-made
 returns-clause-made c =
@@ -58,12 +58,12 @@ returns-clause-made c =
     let new = c.change_slot.new.held.cells in
     let last : List CellEdit = slot_edit k (ChangeItems items) ∷ (slot_edit k RaiseVersion ∷ []) in
     let front : List Value → List CellEdit = λ items. calc_edits schema changes k items ++ flat_map (replacing_edits schema view unit k items) (rekeyed_sets schema k.rtype (map (λ c. c.item) changes)) in
-    let all : c.of.result ++ last ≡ modify_edits schema view unit changes k items =
-    ap (λ es. es ++ last) (c.of.ensures ∙ c.in_ok-edits.ensures ∙ ap front c.as_slice.ensures)
+    let all : c.in_ok-edits.edits ++ last ≡ modify_edits schema view unit changes k items =
+    ap (λ es. es ++ last) (c.in_ok-edits.ensures ∙ ap front c.as_slice.ensures)
     ∙ append_assoc (calc_edits schema changes k items) (flat_map (replacing_edits schema view unit k items) (rekeyed_sets schema k.rtype (map (λ c. c.item) changes))) last in
     seen_by_plan schema unit c.renote.new.self old c.change_slot.new.held (modifying schema view unit changes k) c.done_answer.result c.done_answer.ensures
     (c.renote.ensures.change ∙ ap (λ v. record unit { kept = noted_again k v unit.kept }) c.next_version-version.ensures)
     (c.change_slot.ensures.areas ∙ c.edit_each_cell.ensures.areas)
-    (made_values (c.of.result ++ last) old.cells new (made_append c.of.result last old.cells between new c.edit_each_cell.ensures.made c.change_slot.ensures.made)
+    (made_values (c.in_ok-edits.edits ++ last) old.cells new (made_append c.in_ok-edits.edits last old.cells between new c.edit_each_cell.ensures.made c.change_slot.ensures.made)
     ∙ ap (λ (es : List CellEdit). edited_values es (values_of old.cells)) (all ∙ ap (modify_edits schema view unit changes k) c.requires.changed))
     (c.change_slot.ensures.guesses ∙ c.edit_each_cell.ensures.guesses)

@@ -1,4 +1,4 @@
-use Rattle.std.proofs.Common.{sym, ◌∙◌, subst, arith, refl}
+use Rattle.std.proofs.Common.{sym, ◌∙◌, subst, refl}
 use Rattle.dbtg_unit.specs.Hands.Making.{CanFinish}
 use Rattle.dbtg_unit.specs.Hands.Prepared.{Plan}
 use Rattle.dbtg_unit.proofs.Public.{plan_makes}
@@ -15,4 +15,6 @@ returns-in-Some-clause-made c =
     plan_makes c.args.schema.now c.args.capacity c.args.unit.now c.args.statement.now c.refused.result c.args.held.now c.args.held.now c.requires.may (record { areas = refl; cells = refl; guesses = refl }) (returns-in-Some-clause-prepared c)
 
 pub returns-in-None-clause-made : goal.returns-in-None-clause-made
-returns-in-None-clause-made c = grind (arith, makes_if_ok)
+returns-in-None-clause-made c =
+    makes_if_ok c.args.schema.now c.args.capacity c.args.unit.now c.args.held.now c.prepare_passed.new.held c.args.statement.now c.requires.may c.prepare_passed.ensures.shows
+    c.prepare_passed.result c.prepare_passed.ensures.prepared
