@@ -5,7 +5,7 @@ use Rattle.std.specs.Prelude.{◌==◌, ◌↔◌, Contains}
 use Rattle.std.specs.List.{list_any}
 use Rattle.std.proofs.lemmas.Bool.{cases_Bool, eq-eqb, eqb-true, or_parts, true≢false}
 use Rattle.std.proofs.lemmas.List.{map_push}
-use Rattle.dbtg_explore.specs.Inside.Found.{FoundOrders, IsEntered, IsPut}
+use Rattle.dbtg_explore.specs.Inside.Found.{FoundOrders, IsEntered}
 use Rattle.dbtg_explore.proofs.Searched.{contains_behind, contains_cases, contains_here, contains_none}
 
 module _ {K N : Type 0} (items : K → N) (alike : K → K → Bool) (decides : (j k : K) → (alike j k ≡ true) ↔ (items j ≡ items k)) where
@@ -44,18 +44,15 @@ module _ {K N : Type 0} (items : K → N) (alike : K → K → Bool) (decides : 
 
   module _ (ks new_ks : List K) (k : K) (is_new : Bool) (told : is_new ≡ not (is_there ks k)) (are : new_ks ≡ (if is_there ks k then ks else ks ++ k ∷ [])) (orders : List (List ℕ)) (old : FoundOrders N) (old_is : record { keys = numbers ks; orders = orders } ≡ old) (order : List ℕ) where
     -- a new key comes after the others
-    pub is_put : (new_orders : List (List ℕ)) → is_new ≡ true → new_orders ≡ orders ++ order ∷ [] → IsPut old (items k) order (record { keys = numbers new_ks; orders = new_orders })
-    is_put new_orders fresh more =
+    pub is_entered : (new_orders : List (List ℕ)) → is_new ≡ true → new_orders ≡ orders ++ order ∷ [] → IsEntered old (items k) order (record { keys = numbers new_ks; orders = new_orders })
+    is_entered new_orders fresh more =
         let gone : is_there ks k ≡ false = not_true (is_there ks k) (sym fresh ∙ told) in
-        subst (λ o. IsPut o (items k) order (record { keys = numbers new_ks; orders = new_orders })) old_is
-        (record {
+        subst (λ o. IsEntered o (items k) order (record { keys = numbers new_ks; orders = new_orders })) old_is
+        (inr (record {
           absent = absent ks k gone;
           keys_are = ap numbers (are ∙ ap (λ b. if b then ks else ks ++ k ∷ []) gone) ∙ map_push items ks k;
           orders_are = more;
-        })
-
-    pub is_entered : (new_orders : List (List ℕ)) → is_new ≡ true → new_orders ≡ orders ++ order ∷ [] → IsEntered old (items k) order (record { keys = numbers new_ks; orders = new_orders })
-    is_entered new_orders fresh more = inr (is_put new_orders fresh more)
+        }))
 
     -- a known key changes nothing
     pub is_entered_before : is_new ≡ false → IsEntered old (items k) order (record { keys = numbers new_ks; orders = orders })
@@ -75,13 +72,10 @@ same_or_not : (j k : ℕ) → ((j == k) ≡ true) ↔ (j ≡ k)
 same_or_not j k = (eqb-true j k, eq-eqb j k)
 
 module _ (ks new_ks : List ℕ) (k : ℕ) (is_new : Bool) (told : is_new ≡ not (list_any (λ j. k == j) ks)) (are : new_ks ≡ (if list_any (λ j. k == j) ks then ks else ks ++ k ∷ [])) (orders : List (List ℕ)) (old : FoundOrders ℕ) (old_is : record { keys = ks; orders = orders } ≡ old) (order : List ℕ) where
-  pub number_put : (new_orders : List (List ℕ)) → is_new ≡ true → new_orders ≡ orders ++ order ∷ [] → IsPut old k order (record { keys = new_ks; orders = new_orders })
-  number_put new_orders fresh more =
-      subst (λ ns. IsPut old k order (record { keys = ns; orders = new_orders })) (all_same new_ks)
-      (is_put (λ (n : ℕ). n) (λ i j. i == j) same_or_not ks new_ks k is_new told are orders old ((λ i. record { keys = all_same ks i; orders = orders }) ∙ old_is) order new_orders fresh more)
-
   pub number_entered : (new_orders : List (List ℕ)) → is_new ≡ true → new_orders ≡ orders ++ order ∷ [] → IsEntered old k order (record { keys = new_ks; orders = new_orders })
-  number_entered new_orders fresh more = inr (number_put new_orders fresh more)
+  number_entered new_orders fresh more =
+      subst (λ ns. IsEntered old k order (record { keys = ns; orders = new_orders })) (all_same new_ks)
+      (is_entered (λ (n : ℕ). n) (λ i j. i == j) same_or_not ks new_ks k is_new told are orders old ((λ i. record { keys = all_same ks i; orders = orders }) ∙ old_is) order new_orders fresh more)
 
   pub number_entered_before : is_new ≡ false → IsEntered old k order (record { keys = new_ks; orders = orders })
   number_entered_before stale =

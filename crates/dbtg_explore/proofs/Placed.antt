@@ -122,12 +122,6 @@ module _ (m : Meeting) where
   turn_numbered history zero can = absurd (cc (can))
   turn_numbered history (suc i) can = omega arith
 
-  pub turn_due : (history : List Entry) (u : ℕ) → can_turn m history u ≡ true → None ≡ due_of m history u → ⊥
-  turn_due history u c e = by (due_of m history u) e c where
-    by : (o : Option Statement) → None ≡ o → (is_some o && not (waits m history u)) ≡ true → ⊥
-    by None e f = absurd cc
-    by (Some x) e f = absurd cc
-
 -- WHAT COMES OF EACH
 
 module _ (m : Meeting) (history : List Entry) where

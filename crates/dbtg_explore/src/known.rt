@@ -1,7 +1,7 @@
 //! States that were found, each by the first order that leads there.
 
-ghost use Rattle.dbtg_explore.specs.Inside.Found.{IsEntered, IsPut};
-ghost use Rattle.std.specs.Prelude.{◌≡◌, ◌<◌, ◌++◌, ◌∷◌, [], true, length, slice_index_or, IfOk, OnOk};
+ghost use Rattle.dbtg_explore.specs.Inside.Found.{IsEntered};
+ghost use Rattle.std.specs.Prelude.{◌≡◌, ◌<◌, ◌++◌, ◌∷◌, [], length, slice_index_or, IfOk, OnOk};
 
 use crate::orders::Orders;
 use indexmap::IndexSet;
@@ -60,21 +60,15 @@ impl Known {
         self.orders.order(alloc, place)
     }
 
-    /// Appends the state to which one turn more leads, if its number is new. Gives its place, and whether it is new.
-    pub fn enter(
-        &mut self,
-        number: u32,
-        before: usize,
-        unit: u8,
-    ) -> Result<(usize, bool), AllocError>
+    /// Appends the state to which one turn more leads, if its number is new. Gives its place.
+    pub fn enter(&mut self, number: u32, before: usize, unit: u8) -> Result<usize, AllocError>
         requires { before < length self.old.orders }
-        ensures entered { OnOk result (IsEntered self.old number (slice_index_or self.old.orders before [] ++ unit ∷ []) self.new) }
-        ensures new { IfOk result (λ to. to.1 ≡ true → IsPut self.old number (slice_index_or self.old.orders before [] ++ unit ∷ []) self.new) }
+        ensures { OnOk result (IsEntered self.old number (slice_index_or self.old.orders before [] ++ unit ∷ []) self.new) }
     {
         let (place, is_new) = self.keys.insert_full(number)?;
         if is_new {
             self.orders.push(before, unit)?;
         }
-        Ok((place, is_new))
+        Ok(place)
     }
 }

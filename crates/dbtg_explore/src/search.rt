@@ -74,7 +74,7 @@ impl Search {
         ensures stopped { IfErr result (λ stop. stop ≡ States → HasMoreStates meeting.now self.old.limit) }
     {
         let number = self.next_state(alloc, meeting, place, walk, unit)?;
-        let (to, _is_new) = self.found.enter(number, place, unit)?;
+        let to = self.found.enter(number, place, unit)?;
         self.edges.push(Edge::new(place, unit, to)?)?;
         if self.limit < self.found.len() {
             return Err(Stop::States);
