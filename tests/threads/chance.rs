@@ -81,7 +81,7 @@ fn is_sound(alloc: Global, settled: &Settled, count: u8) -> bool {
     ends_with_ticket(settled, last) && is_audited(alloc, settled, 10, count)
 }
 
-// So many units run to their ends, each by a script of its own. Whether the history is the sequential database's; none where the
+// This many units run to their ends, each by a script of its own. Whether the history is the sequential database's; none where the
 // database is not settled.
 pub fn is_sound_run<R: Threads + Wait + Sync>(rt: &R, alloc: Global, chance: &mut Chance, count: u8) -> Option<bool> {
     let (db, units) = Database::make(alloc, Schema::read(alloc, SHOP).ok()?, 10, count).ok()?;

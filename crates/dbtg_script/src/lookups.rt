@@ -11,7 +11,7 @@ use crate::role::Role;
 use crate::words::Words;
 use dbtg_schema::{AreaNo, Item, ItemNo, Picture, RecordNo, Schema, SetNo};
 
-/// Of so many names, one is found sooner by looking at each than by an index.
+/// Up to this many names, one is found sooner by looking at each than by an index.
 const FEW: usize = 16;
 
 /// Are these the same bytes? Most names differ in their length or in their last byte.

@@ -202,7 +202,7 @@ fn said_again(
     }
 }
 
-// A STORE or MODIFY with a value has at least so many bytes.
+// The fewest bytes of a STORE or MODIFY with a value.
 const LEAST_WITH_VALUE: usize = 11;
 
 // Does the line begin as one whose words vary, by values, keys or numbers, so that it seldom comes again? These are STORE and MODIFY,

@@ -144,7 +144,7 @@ fn open_extents(
     Ok(())
 }
 
-// So many rings without an occurrence.
+// Appends this many rings without an occurrence.
 fn add_absent_rings(
     alloc: Global,
     count: u16,
@@ -201,7 +201,7 @@ fn open_rings(
     Ok(())
 }
 
-// So many slots without a record.
+// Appends this many slots without a record.
 fn add_vacant_slots(count: u16, table: &mut Vec<CellLocation>) -> Result<(), AllocError>
     ensures { OnOk result (Adds table.old.items count (SlotValue None) table.new.items) }
 {

@@ -14,7 +14,7 @@ use Rattle.dbtg_step.specs.Core.Parts.{location_of}
 abbrev pub locations_of : List CoreLocation → List (CellLocation CellValue)
 locations_of = map location_of
 
--- so many cells at home more, each of which shows the same
+-- n more cells at home, each of which shows v
 abbrev pub Adds : List CoreLocation → ℕ → CellValue → List CoreLocation → Type 0
 Adds old n v new = locations_of new ≡ locations_of old ++ replicate n (Home v)
 
