@@ -11,6 +11,7 @@ mod PlaceNumbers
 mod CalcOrder
 mod LinksWritten
 mod NumbersWritten
+mod NumbersLeftOut
 mod KeysAlike
 mod NumbersOfCells
 mod PlainLists

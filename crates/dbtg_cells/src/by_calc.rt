@@ -139,7 +139,7 @@ pub(crate) fn next_by_calc(
     values: &[Value],
     number: u32,
 ) -> Option<u32>
-    requires { IsByCalc numbers.now listed.now (length numbers.now) }
+    requires { IsByCalc numbers.now listed.now }
     ensures { result ≡ first_in (filter (nat_lt number) (numbers_where (has_values values.now) numbers.now)) }
 {
     match first_behind(listed, numbers, values, number) {
@@ -205,7 +205,7 @@ pub(crate) fn next_picked(
     items: &[Value],
     number: u32,
 ) -> Option<u32>
-    requires { IsByCalc numbers.now listed.now (length numbers.now) }
+    requires { IsByCalc numbers.now listed.now }
     ensures { result ≡ first_in (filter (nat_lt number) (numbers_where (has_values (picked item_numbers.now items.now)) numbers.now)) }
 {
     let at = place_of_picked(listed, numbers, item_numbers, items, number);
@@ -288,11 +288,14 @@ pub(crate) fn list_again(
     number: u32,
     entry: Number,
 )
-    requires listed { IsByCalc numbers.old.items listed.old.items (vec_capacity listed.old) }
+    requires listed { IsByCalc numbers.old.items listed.old.items }
+    requires room { length numbers.old.items ≤ vec_capacity listed.old }
     requires was { IsTrue (some_and is_used (entry_of number numbers.old.items)) }
     requires stays { IsTrue (is_used entry) }
     ensures written { numbers.new.items ≡ with_entry number entry numbers.old.items }
-    ensures listed { IsByCalc numbers.new.items listed.new.items (vec_capacity listed.new) }
+    ensures listed { IsByCalc numbers.new.items listed.new.items }
+    ensures capacity { vec_capacity listed.new ≡ vec_capacity listed.old }
+    ensures numbers_capacity { vec_capacity numbers.new ≡ vec_capacity numbers.old }
 {
     drop_by_calc(listed, numbers.as_slice(), number);
     set_entry(numbers, number, entry);

@@ -1,5 +1,5 @@
 //! Copies of the parts of cells. If memory is refused, the original stays as it is.
-ghost use Rattle.std.specs.Prelude.{◌≡◌, ◌≤◌, IfOk, vec_capacity};
+ghost use Rattle.std.specs.Prelude.{◌≡◌, ◌≤◌, IfOk, length, vec_capacity};
 
 use crate::extent::Number;
 use crate::key::DbKey;
@@ -19,17 +19,19 @@ pub(crate) fn copy_list(alloc: Global, list: &[u32], room: usize) -> Result<Vec<
     Ok(copy)
 }
 
-pub(crate) fn copy_numbers(alloc: Global, numbers: &[Number]) -> Result<Vec<Number>, AllocError>
-    ensures { IfOk result (λ copies. copies.items ≡ numbers.now) }
+/// The same entries, in a `Vec` with at least this room.
+pub(crate) fn copy_numbers(
+    alloc: Global,
+    numbers: &[Number],
+    room: usize,
+) -> Result<Vec<Number>, AllocError>
+    requires { length numbers.now ≤ room }
+    ensures items { IfOk result (λ copies. copies.items ≡ numbers.now) }
+    ensures room { IfOk result (λ copies. room ≤ vec_capacity copies) }
 {
-    let mut copies = Vec::with_capacity(alloc, numbers.len())?;
+    let mut copies = Vec::with_capacity(alloc, room)?;
     for number in numbers {
-        // Most numbers of a large extent are not used: nothing of them has to be copied but a byte.
-        if number.is_live() {
-            copies.push_reserved(number.copy(alloc)?);
-        } else {
-            copies.push_reserved(number.unused());
-        }
+        copies.push_reserved(number.copy(alloc)?);
     }
     Ok(copies)
 }

@@ -1,12 +1,18 @@
 -- How the lists of an extent hang together.
-use Rattle.std.specs.Prelude.{◌≡◌, ℕ, ◌<◌, ◌≤◌, ◌^◌, List, length}
+use Rattle.std.specs.Prelude.{◌≡◌, ℕ, ◌<◌, ◌≤◌, ◌^◌, List}
 use Rattle.dbtg_cells.specs.declared.extent.Number.{Number}
 use Rattle.dbtg_cells.specs.Numbers.{numbers_where, is_used, is_free}
 
--- the live and the free numbers are listed, and there is room for each of them
-pub record IsNumbered (numbers : List Number) (live free : List ℕ) (live_capacity free_capacity : ℕ) : Type 0 where
-  pub few : length numbers < 2 ^ 16
+-- of the numbers that have an entry, the live and the free ones are listed
+pub record IsNumbered (numbers : List Number) (live free : List ℕ) : Type 0 where
   pub live_is : live ≡ numbers_where is_used numbers
   pub free_is : free ≡ numbers_where is_free numbers
-  pub live_room : length numbers ≤ live_capacity
-  pub free_room : length numbers ≤ free_capacity
+
+-- no number above the capacity has an entry, and each list has room for all numbers
+pub record HasRoom (capacity entries numbers_room live_room free_room by_calc_room : ℕ) : Type 0 where
+  pub few : capacity < 2 ^ 16
+  pub within : entries ≤ capacity
+  pub of_numbers : capacity ≤ numbers_room
+  pub of_live : capacity ≤ live_room
+  pub of_free : capacity ≤ free_room
+  pub of_by_calc : capacity ≤ by_calc_room

@@ -15,12 +15,12 @@ list_by_calc-requires-clause-rising c =
     let written = c.as_slice-2.ensures.value ∙ c.set_entry.ensures.items in
     ap (λ l. is_rising (stands_before l) c.drop_by_calc.new.listed.items) written
     ∙ ap (is_rising (stands_before _)) c.drop_by_calc.ensures.items
-    ∙ resetting_rises _ _ _ c.requires.listed c.args.number c.args.entry c.requires.was
+    ∙ resetting_rises _ _ c.requires.listed c.args.number c.args.entry c.requires.was
 
 pub list_by_calc-requires-clause-room : goal.list_by_calc-requires-clause-room
 list_by_calc-requires-clause-room c =
-    let few = resetting_has_room _ _ _ c.requires.listed c.args.number c.args.entry c.requires.was c.requires.stays in
-    omega (arith, few, ap length c.drop_by_calc.ensures.items, c.drop_by_calc.ensures.capacity)
+    let few = resetting_has_room _ _ c.requires.listed c.args.number c.args.entry c.requires.was c.requires.stays in
+    omega (arith, few, c.requires.room, ap length c.drop_by_calc.ensures.items, c.drop_by_calc.ensures.capacity)
 
 pub returns-clause-listed : goal.returns-clause-listed
 returns-clause-listed c =
@@ -30,4 +30,4 @@ returns-clause-listed c =
     c.list_by_calc.ensures.items
     ∙ ap (λ l. before (stands_before l number) number c.drop_by_calc.new.listed.items) written
     ∙ ap (before (stands_before _ number) number) c.drop_by_calc.ensures.items in
-    same_by_calc _ _ _ _ _ _ c.set_entry.ensures.items listed (omega (arith, c.drop_by_calc.ensures.capacity, c.list_by_calc.ensures.capacity)) (reset_by_calc _ _ _ c.requires.listed number c.args.entry c.requires.was c.requires.stays)
+    same_by_calc _ _ _ _ c.set_entry.ensures.items listed (reset_by_calc _ _ c.requires.listed number c.args.entry c.requires.was c.requires.stays)

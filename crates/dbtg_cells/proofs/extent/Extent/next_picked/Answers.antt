@@ -1,0 +1,10 @@
+use Rattle.std.proofs.Common.{refl, rules}
+use Rattle.dbtg_cells.specs.Keys.{picked}
+use Rattle.dbtg_cells.specs.Numbers.{has_values}
+use Rattle.dbtg_cells.proofs.NumbersLeftOut.{listed_alike}
+use Rattle.dbtg_cells.proofs.extent.Extent.next_picked.Goals as goal
+
+pub returns : goal.returns
+returns c =
+    let all = listed_alike (has_values (picked c.args.item_numbers.now c.args.items.now)) c.self.inside.numbers.items c.self.inside.capacity refl in
+    search rules
