@@ -21,7 +21,7 @@ all_numbers ns capacity = ns ++ replicate (capacity - length ns) unused
 -- WHAT IS READ
 
 -- what does not tell an unused number from none is read of the entries
-pub read_alike : {X : Type 0} (f : Option Number → X) (n : ℕ) (ns : List Number) (k : ℕ) → f (Some unused) ≡ f None → f (entry_of n (ns ++ replicate k unused)) ≡ f (entry_of n ns)
+read_alike : {X : Type 0} (f : Option Number → X) (n : ℕ) (ns : List Number) (k : ℕ) → f (Some unused) ≡ f None → f (entry_of n (ns ++ replicate k unused)) ≡ f (entry_of n ns)
 read_alike f zero ns k same = refl
 read_alike f (suc i) ns k same = at i ns
   where
@@ -35,7 +35,7 @@ read_alike f (suc i) ns k same = at i ns
     at zero (x ∷ xs) = refl
     at (suc i) (x ∷ xs) = at i xs
 
-pub numbers_joined : (t : Number → Bool) (n : ℕ) (ns more : List Number) → numbers_from n t (ns ++ more) ≡ numbers_from n t ns ++ numbers_from (length ns + n) t more
+numbers_joined : (t : Number → Bool) (n : ℕ) (ns more : List Number) → numbers_from n t (ns ++ more) ≡ numbers_from n t ns ++ numbers_from (length ns + n) t more
 numbers_joined t n [] more = ap (λ m. numbers_from m t more) (zero_more n)
   where
     zero_more : (n : ℕ) → n ≡ 0 + n
@@ -63,24 +63,11 @@ append_nothing [] = refl
 append_nothing (n ∷ l) = ap (λ m. n ∷ m) (append_nothing l)
 
 -- a test that unused numbers fail
-pub numbers_alike : (t : Number → Bool) (ns : List Number) (k : ℕ) → t unused ≡ false → numbers_where t (ns ++ replicate k unused) ≡ numbers_where t ns
-numbers_alike t ns k fails =
-    numbers_joined t 1 ns (replicate k unused) ∙ ap (λ l. numbers_where t ns ++ l) (none_pass t (length ns + 1) k fails) ∙ append_nothing (numbers_where t ns)
+pub listed_alike : (t : Number → Bool) (ns : List Number) (k : ℕ) → t unused ≡ false → numbers_where t ns ≡ numbers_where t (ns ++ replicate k unused)
+listed_alike t ns k fails =
+    sym (numbers_joined t 1 ns (replicate k unused) ∙ ap (λ l. numbers_where t ns ++ l) (none_pass t (length ns + 1) k fails) ∙ append_nothing (numbers_where t ns))
 
-pub listed_alike : (t : Number → Bool) (ns : List Number) (capacity : ℕ) → t unused ≡ false → numbers_where t ns ≡ numbers_where t (all_numbers ns capacity)
-listed_alike t ns capacity fails = sym (numbers_alike t ns (capacity - length ns) fails)
-
-pub live_is_all : (ns : List Number) (live free : List ℕ) (capacity : ℕ) → IsNumbered ns live free → live ≡ numbers_where is_used (all_numbers ns capacity)
-live_is_all ns live free capacity N = N.live_is ∙ listed_alike is_used ns capacity refl
-
--- all that are left out are free
-pub free_numbers : (ns : List Number) (k : ℕ) → numbers_where is_free (ns ++ replicate k unused) ≡ numbers_where is_free ns ++ range_with_len (length ns + 1) k
-free_numbers ns k = numbers_joined is_free 1 ns (replicate k unused) ∙ ap (λ l. numbers_where is_free ns ++ l) (all_free (length ns + 1) k)
-
-pub free_is_all : (ns : List Number) (live free : List ℕ) (capacity : ℕ) → IsNumbered ns live free → free ++ range_with_len (length ns + 1) (capacity - length ns) ≡ numbers_where is_free (all_numbers ns capacity)
-free_is_all ns live free capacity N = ap (λ l. l ++ range_with_len (length ns + 1) (capacity - length ns)) N.free_is ∙ sym (free_numbers ns (capacity - length ns))
-
--- the least free number
+-- the least free number, if one is listed and if none is
 pub least_listed : (free more : List ℕ) (n : ℕ) → Some n ≡ slice_get free 0 → Some n ≡ first (free ++ more)
 least_listed [] more n h = absurd (cc)
 least_listed (m ∷ free) more n h = h
@@ -103,17 +90,24 @@ number_pushed free m n h =
     let last : n + 1 ≡ n - m + (m + 1) = omega (arith, h) in
     append_assoc free _ _ ∙ ap (λ l. free ++ l) (ap (λ k. range_with_len (m + 1) (n - m) ++ k ∷ []) last ∙ sym (range_push (m + 1) (n - m)) ∙ ap (range_with_len (m + 1)) more)
 
-pub numbered_on : (ns : List Number) (live free : List ℕ) (k : ℕ) → IsNumbered ns live free → IsNumbered (ns ++ replicate k unused) live (free ++ range_with_len (length ns + 1) k)
+-- those that get an entry are free
+numbered_on : (ns : List Number) (live free : List ℕ) (k : ℕ) → IsNumbered ns live free → IsNumbered (ns ++ replicate k unused) live (free ++ range_with_len (length ns + 1) k)
 numbered_on ns live free k N = record {
-  live_is = N.live_is ∙ sym (numbers_alike is_used ns k refl);
-  free_is = ap (λ l. l ++ range_with_len (length ns + 1) k) N.free_is ∙ sym (free_numbers ns k);
+  live_is = N.live_is ∙ listed_alike is_used ns k refl;
+  free_is =
+      ap (λ l. l ++ range_with_len (length ns + 1) k) N.free_is
+      ∙ ap (λ l. numbers_where is_free ns ++ l) (sym (all_free (length ns + 1) k))
+      ∙ sym (numbers_joined is_free 1 ns (replicate k unused));
 }
 
-pub by_calc_on : (ns : List Number) (listed : List ℕ) (k : ℕ) → IsByCalc ns listed → IsByCalc (ns ++ replicate k unused) listed
+pub all_numbered : (ns : List Number) (live free : List ℕ) (capacity : ℕ) → IsNumbered ns live free → IsNumbered (all_numbers ns capacity) live (free ++ range_with_len (length ns + 1) (capacity - length ns))
+all_numbered ns live free capacity N = numbered_on ns live free (capacity - length ns) N
+
+by_calc_on : (ns : List Number) (listed : List ℕ) (k : ℕ) → IsByCalc ns listed → IsByCalc (ns ++ replicate k unused) listed
 by_calc_on ns listed k B = record {
   members = λ n. B.members n ∙ sym (read_alike (some_and is_used) n ns k refl);
   rising = rising_same (stands_before ns) (stands_before all) listed (λ x y r s. same x y) B.rising;
-  count = B.count ∙ ap length (sym (numbers_alike is_used ns k refl));
+  count = B.count ∙ ap length (listed_alike is_used ns k refl);
 }
   where
     all : List Number
@@ -126,7 +120,7 @@ by_calc_on ns listed k B = record {
     same x y = ap (λ v. is_lt (place_cmp (v, x) (values_of all y, y))) (kept x) ∙ ap (λ v. is_lt (place_cmp (values_of ns x, x) (v, y))) (kept y)
 
 -- the same numbers as before
-pub all_alike : (ns : List Number) (n capacity : ℕ) → n ≤ capacity → all_numbers (ns ++ replicate (n - length ns) unused) capacity ≡ all_numbers ns capacity
+all_alike : (ns : List Number) (n capacity : ℕ) → n ≤ capacity → all_numbers (ns ++ replicate (n - length ns) unused) capacity ≡ all_numbers ns capacity
 all_alike ns n capacity h =
     let given = n - length ns in
     let left : given + (capacity - length (ns ++ replicate given unused)) ≡ capacity - length ns = omega (arith, h, length-append ns (replicate given unused), length-replicate given unused) in
@@ -143,7 +137,7 @@ has_entry t (suc i) ns h = within i ns h
     within zero (x ∷ xs) h = omega arith
     within (suc i) (x ∷ xs) h = let rest = within i xs h in omega (arith, rest)
 
-pub read_within : (n : ℕ) (ns more : List Number) → n ≤ length ns → entry_of n (ns ++ more) ≡ entry_of n ns
+read_within : (n : ℕ) (ns more : List Number) → n ≤ length ns → entry_of n (ns ++ more) ≡ entry_of n ns
 read_within zero ns more h = refl
 read_within (suc i) ns more h = at i ns h
   where
@@ -172,8 +166,8 @@ written_among_all n ns now all capacity last e is_all within known written =
     ∙ ap (with_entry n (e last)) is_all
     ∙ ap (λ l. with_entry n (e l) all) same
 
-pub used_of_all : (n : ℕ) (ns : List Number) (capacity : ℕ) → some_and is_used (entry_of n (all_numbers ns capacity)) ≡ true → some_and is_used (entry_of n ns) ≡ true
-used_of_all n ns capacity h = sym (read_alike (some_and is_used) n ns (capacity - length ns) refl) ∙ h
+pub used_of_all : (n : ℕ) (ns all : List Number) (capacity : ℕ) → all_numbers ns capacity ≡ all → some_and is_used (entry_of n all) ≡ true → some_and is_used (entry_of n ns) ≡ true
+used_of_all n ns all capacity is_all h = sym (read_alike (some_and is_used) n ns (capacity - length ns) refl) ∙ ap (λ l. some_and is_used (entry_of n l)) is_all ∙ h
 
 -- the room stays
 pub room_kept : (capacity entries numbers live free by_calc entries' numbers' live' free' by_calc' : ℕ) → entries' ≡ entries → numbers' ≡ numbers → live' ≡ live → free' ≡ free → by_calc' ≡ by_calc → HasRoom capacity entries numbers live free by_calc → HasRoom capacity entries' numbers' live' free' by_calc'

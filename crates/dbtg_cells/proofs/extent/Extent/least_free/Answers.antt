@@ -2,14 +2,14 @@ use Rattle.std.proofs.Common.{◌-◌, ◌+◌, ◌∙◌, ap, length, slice_get
 use Rattle.std.specs.List.{range_with_len}
 use Rattle.dbtg_schema.specs.Lookups.{first}
 use Rattle.dbtg_cells.specs.Numbers.{numbers_where, is_free}
-use Rattle.dbtg_cells.proofs.NumbersLeftOut.{least_listed, none_listed, free_is_all}
+use Rattle.dbtg_cells.proofs.NumbersLeftOut.{least_listed, none_listed, all_numbered}
 use Rattle.dbtg_cells.proofs.extent.Extent.least_free.Goals as goal
 
 pub returns-in-Some : goal.returns-in-Some
 returns-in-Some c =
     let E = c.self.inside in
     least_listed E.free.items _ c.in-Some.number.now (c.in-Some.ensures.value ∙ ap (λ l. slice_get l 0) c.deref.ensures.value)
-    ∙ ap first (free_is_all E.numbers.items E.live.items E.free.items E.capacity c.self.invariant.0)
+    ∙ ap first (all_numbered _ _ _ E.capacity c.self.invariant.0).free_is
     ∙ ap (λ e. first (numbers_where is_free e.numbers)) c.self.view_is
 
 pub returns-in-None : goal.returns-in-None
@@ -18,5 +18,5 @@ returns-in-None c =
     c.first_without_entry.ensures
     ∙ ap (λ l. first (range_with_len (length l + 1) (E.capacity - length l))) c.as_slice.ensures.value
     ∙ none_listed E.free.items _ (c.in-None.ensures.value ∙ ap (λ l. slice_get l 0) c.deref.ensures.value)
-    ∙ ap first (free_is_all E.numbers.items E.live.items E.free.items E.capacity c.self.invariant.0)
+    ∙ ap first (all_numbered _ _ _ E.capacity c.self.invariant.0).free_is
     ∙ ap (λ e. first (numbers_where is_free e.numbers)) c.self.view_is

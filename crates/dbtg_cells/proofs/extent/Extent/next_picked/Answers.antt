@@ -1,4 +1,4 @@
-use Rattle.std.proofs.Common.{refl, rules}
+use Rattle.std.proofs.Common.{◌-◌, length, refl, rules}
 use Rattle.dbtg_cells.specs.Keys.{picked}
 use Rattle.dbtg_cells.specs.Numbers.{has_values}
 use Rattle.dbtg_cells.proofs.NumbersLeftOut.{listed_alike}
@@ -6,5 +6,5 @@ use Rattle.dbtg_cells.proofs.extent.Extent.next_picked.Goals as goal
 
 pub returns : goal.returns
 returns c =
-    let all = listed_alike (has_values (picked c.args.item_numbers.now c.args.items.now)) c.self.inside.numbers.items c.self.inside.capacity refl in
+    let all = listed_alike (has_values (picked c.args.item_numbers.now c.args.items.now)) c.self.inside.numbers.items (c.self.inside.capacity - length c.self.inside.numbers.items) refl in
     search rules
