@@ -22,7 +22,7 @@ use dbtg_replay::replay::{AnswerForm, Shown, push_given, schema_for_run};
 use dbtg_replay::{behind, first_turns, moves_behind_first, read_scripts};
 use dbtg_schema::{Row, Schema};
 use dbtg_script::{MOST_MOVES, moves_words_text, push_number, push_status, turns_text};
-use dbtg_step::{Run, Turned, run_turns};
+use dbtg_step::{Run, Turned, TurnedCore};
 use dbtg_unit::Move;
 use std::alloc::{AllocError, Global};
 
@@ -211,7 +211,7 @@ fn push_made(
     Ok(())
 }
 
-// One result: the first of its orders is run, and printed.
+// One result: what the first of its orders came to is printed.
 fn push_result(
     alloc: Global,
     out: &mut Vec<u8>,
@@ -219,21 +219,14 @@ fn push_result(
     showing: &mut Showing,
     number: u64,
     one: &OneResult,
+    mut turned: Turned,
 ) -> Result<(), Fault>
     requires meeting { IsMeeting meeting.now }
     requires front { IsFront meeting.now showing.old.front }
+    requires turned { TurnedIs meeting.now.schema meeting.now.capacity meeting.now.scripts one.now.turns MOST_MOVES turned }
     ensures done { OnOk result (IsShown meeting.now number one.now out.old.items out.new.items showing.old showing.new) }
     ensures refused { IfErr result (λ fault. (fault ≡ Memory) ⊎ ((fault ≡ MovesOver) × IsLong meeting.now one.now)) }
 {
-    let copies = copy_each_script(alloc, meeting.scripts)?;
-    let mut turned = run_turns(
-        alloc,
-        meeting.schema,
-        meeting.capacity,
-        copies,
-        one.turns.as_slice(),
-        MOST_MOVES,
-    )?;
     let pushed = push_made(alloc, out, meeting, showing, number, one, &mut turned);
     turned.discard();
     pushed
@@ -259,14 +252,16 @@ fn front_of(alloc: Global, meeting: &Meeting) -> Result<Front, AllocError>
     })
 }
 
-// The summary, and then result by result.
+// The summary, and then result by result. The core takes the turns of each.
 fn outcomes_text(
     alloc: Global,
     meeting: &Meeting,
+    mut core: TurnedCore,
     showing: &mut Showing,
     all: &Outcomes,
 ) -> Result<Vec<u8>, Fault>
     requires meeting { IsMeeting meeting.now }
+    requires core { core ≡ record core { schema = meeting.now.schema; capacity = meeting.now.capacity; scripts = meeting.now.scripts; limit = MOST_MOVES } }
     requires front { IsFront meeting.now showing.old.front }
     requires short { list_all are_short all.now.answered.items ≡ true }
     ensures done { IfOk result (λ out. AreTold meeting.now showing.old.before all.now out.items) }
@@ -277,8 +272,11 @@ fn outcomes_text(
     let mut number = 0;
     for one in &all.results {
         number += 1;
-        push_result(alloc, &mut out, meeting, showing, number, one)?;
+        core = core.after(one.turns.as_slice())?;
+        let turned = core.turned()?;
+        push_result(alloc, &mut out, meeting, showing, number, one, turned)?;
     }
+    core.discard();
     Ok(out)
 }
 
@@ -297,7 +295,15 @@ fn listing_text(
     let front = front_of(alloc, meeting)?;
     let before = none_before(alloc, brief);
     let mut showing = Showing { front, before };
-    outcomes_text(alloc, meeting, &mut showing, all)
+    let copies = copy_each_script(alloc, meeting.scripts)?;
+    let core = TurnedCore::new(
+        alloc,
+        meeting.schema,
+        meeting.capacity,
+        copies,
+        MOST_MOVES,
+    )?;
+    outcomes_text(alloc, meeting, core, &mut showing, all)
 }
 
 // What `outcomes` prints of a meeting.

@@ -35,7 +35,8 @@ fn runner_at(runners: &[UnitState], index: usize) -> Option<&UnitState>
     runners.get(index)
 }
 
-fn holder(runners: &[UnitState], unit: u8) -> Option<&UnitState>
+/// The unit with this number.
+pub fn unit_numbered(runners: &[UnitState], unit: u8) -> Option<&UnitState>
     ensures { option_copied result ≡ unit_at runners.now unit }
 {
     if unit == 0 {
@@ -47,7 +48,7 @@ fn holder(runners: &[UnitState], unit: u8) -> Option<&UnitState>
 fn held_cell<'a>(runners: &'a [UnitState], unit: u8, name: &CellName) -> Option<&'a Cell>
     ensures { option_copied result ≡ option_and_then (λ r. cell_of name.now r.held.cells) (unit_at runners.now unit) }
 {
-    match holder(runners, unit) {
+    match unit_numbered(runners, unit) {
         Some(runner) => runner.held.cell(name),
         None => None,
     }

@@ -1,7 +1,8 @@
 //! The table of cells, by their numbers.
-ghost use Rattle.std.specs.Prelude.{◌≡◌, ◌<◌, length};
+ghost use Rattle.std.specs.Prelude.{◌≡◌, ℕ, ◌<◌, Some, length};
+ghost use Rattle.dbtg_cells.specs.CellNumbers.{cell_number};
 ghost use Rattle.dbtg_step.specs.Inside.Parts.{written_home};
-ghost use Rattle.dbtg_step.specs.Inside.Stands.{HasPlace, HavePlaces};
+ghost use Rattle.dbtg_step.specs.Inside.Stands.{HavePlaces};
 ghost use Rattle.dbtg_step.specs.Inside.Leaves.{IsCellGiven};
 
 use crate::parts::CellLocation;
@@ -9,7 +10,7 @@ use dbtg_cells::{Cell, CellName, cell_number};
 use dbtg_schema::Schema;
 use dbtg_unit::Held;
 
-/// Puts a cell home, in its place in the table.
+/// Puts a cell home, in its place in the table, if the schema has it.
 pub fn put_home(
     schema: &Schema,
     capacity: u16,
@@ -17,12 +18,11 @@ pub fn put_home(
     name: &CellName,
     cell: Cell,
 )
-    requires { HasPlace schema.now capacity name.now table.old.items }
+    requires { (number : ℕ) → cell_number schema.now capacity name.now ≡ Some number → number < length table.old.items }
     ensures { table.new.items ≡ written_home schema.now capacity name.now cell table.old.items }
 {
-    match cell_number(schema, capacity, name) {
-        Some(number) => table[number] = CellLocation::Home(cell),
-        None => unreachable!(),
+    if let Some(number) = cell_number(schema, capacity, name) {
+        table[number] = CellLocation::Home(cell);
     }
 }
 

@@ -7,6 +7,8 @@ use Rattle.std.proofs.lemmas.List.{map-append, take_more, nil_from_length}
 use Rattle.std.proofs.lemmas.Option.{same_Some}
 use Rattle.dbtg_schema.specs.Lists.{Lists}
 use Rattle.dbtg_schema.specs.Sound.{IsSound}
+use Rattle.dbtg_cells.specs.declared.cell.Cell.{Cell}
+use Rattle.dbtg_cells.specs.declared.name.CellName.{CellName}
 use Rattle.dbtg_unit.specs.declared.moves.Move.{Move}
 use Rattle.dbtg_unit.specs.declared.moves.Move.TheVariants.{Step}
 use Rattle.dbtg_unit.specs.declared.moves.Stepped.TheVariants.{Moved}
@@ -21,6 +23,7 @@ use Rattle.dbtg_step.specs.Machine.SequentialDatabase.{SequentialDatabase, unit_
 use Rattle.dbtg_step.specs.Machine.Machine.{HistoryEntry, SequentialState, State, UnitState}
 use Rattle.dbtg_step.specs.Inside.Step.{IfMoved}
 use Rattle.dbtg_step.specs.Machine.Step.{MovedTo, run, state_after, step, transition}
+use Rattle.dbtg_step.specs.Machine.Lawful.{Lawful}
 use Rattle.dbtg_step.specs.Machine.Network.{network}
 use Rattle.dbtg_step.specs.Machine.Headline.{entry_of, machine_after, machine_of, opening_of, units_from}
 use Rattle.dbtg_step.specs.Laws.{scripts_fit}
@@ -28,12 +31,13 @@ use Rattle.dbtg_step.specs.Core.Parts.{CoreParts, CoreState, machine, state_from
 use Rattle.dbtg_step.specs.Inside.Parts.{core_of, state_of}
 use Rattle.dbtg_step.specs.Inside.Events.{IsStepped, IsWell, opening_for}
 use Rattle.dbtg_step.specs.Core.Runs.{IsHandedOut}
-use Rattle.dbtg_step.specs.Core.Turns.{AllBetween, AreEvents, AreTurns, HaveTurned, IsBefore, IsNoted, IsRunByTurns, IsTurnOf, NotesMore, left_of, lefts_of, made_turns, turns_ahead}
-use Rattle.dbtg_step.specs.Inside.Turns.{IsDone}
+use Rattle.dbtg_step.specs.Core.Turns.{AllBetween, AreEvents, AreTurns, HaveTurned, IsBefore, IsNoted, IsRunByTurns, IsTurnOf, NotesMore, TurnsLead, left_of, lefts_of, made_turns, turns_ahead}
+use Rattle.dbtg_step.specs.Inside.Turns.{ChangesInTurn, IsDone, first_core, machine_cells, newest_untouched}
 use Rattle.dbtg_step.proofs.TheCore.Alone.{OneStep, StepsAlone, Unticketed, one_step}
 use Rattle.dbtg_step.proofs.TheCore.EventsShown.{found}
 use Rattle.dbtg_step.proofs.Runs.Headlines.{machine_is_opening, run_is_sequential}
 use Rattle.dbtg_step.proofs.Network.NetworkFacts.{network_is_sequential}
+use Rattle.dbtg_step.proofs.MadeWhole.TurnsChange.{KeepsCells, changes_in_turn, changes_nothing, keeps_more, keeps_none}
 use Rattle.dbtg_step.proofs.TheCore.QuitShown.{stepped_well}
 use Rattle.dbtg_step.proofs.TheCore.RunsShown.{handed_sequential, history_handed}
 use Rattle.dbtg_step.proofs.Runs.Serials.{run_append}
@@ -89,7 +93,8 @@ module _ (D : SequentialDatabase) (opening : SequentialState D) where
       | inr d ↦ elim b.alone.drawn [
         | inl q ↦ inr (record { x = d.x; xs = d.xs; before = d.before; after = q.1 ∙ d.after; entry = d.entry; history = q.0 ∙ d.history; unit = d.unit; statement = d.statement })
         | inr d2 ↦
-            let high = begun (b.drew d2) in
+            let from = b.drew d2 in
+            let high = begun (from.0, from.1, from.2) in
             let was = ap length d.before in
             let is = ap length d.after in
             absurd (omega (arith, few, high, was, is))
@@ -150,8 +155,8 @@ notes_append a b c ms ns p q = record { limit = q.limit ∙ p.limit; noted = λ 
 
 -- THE PARTS IN A TURN
 
--- unit u is on its way from old to now, through a statement after which it has n left
-pub record OnTheWay (schema : Lists) (capacity u n : ℕ) (old now : Parts) (before after : Noted) : Type 0 where
+-- unit u is on its way from old to now, through a statement after which it has n left; these cells are kept as they were
+pub record OnTheWay (schema : Lists) (capacity u n : ℕ) (old now : Parts) (before after : Noted) (kept : List (CellName × Cell)) : Type 0 where
   pub well : IsWell schema capacity now
   pub count : length now.runners.items ≡ length old.runners.items
   pub alone : IsAlone schema capacity u n (state_of schema capacity now)
@@ -162,15 +167,17 @@ pub record OnTheWay (schema : Lists) (capacity u n : ℕ) (old now : Parts) (bef
   pub moves : List Move
   pub events : AreEvents (network schema capacity) (opening_for schema capacity old) u (state_of schema capacity old) moves (state_of schema capacity now)
   pub noted : NotesMore before after moves
+  pub keeps : KeepsCells (network schema capacity) (opening_for schema capacity old) (state_of schema capacity old) u first (machine_cells kept) (state_of schema capacity now) steps.new
 
 module _ (schema : Lists) (capacity u n : ℕ) where
   -- before the first step
   pub sets_out : (old : Parts) (noted : Noted) (r : CoreUnit) → IsWell schema capacity old → AllBetween (network schema capacity) (state_of schema capacity old) → 0 < u → slice_get old.runners.items (u - 1) ≡ Some r →
-      length (unit_state_of schema capacity r).remaining ≡ suc n → OnTheWay schema capacity u n old old noted noted
+      length (unit_state_of schema capacity r).remaining ≡ suc n → (kept : List (CellName × Cell)) → kept ≡ [] → OnTheWay schema capacity u n old old noted noted kept
   unfolding AreEvents
-  sets_out old noted r well between numbered at left =
+  sets_out old noted r well between numbered at left kept none =
       let here = found schema capacity u old r well numbered at in
       let first = unit_state_of schema capacity r in
+      subst (λ ks. OnTheWay schema capacity u n old old noted noted ks) (sym none)
       record {
         well = well;
         count = refl;
@@ -186,9 +193,10 @@ module _ (schema : Lists) (capacity u n : ℕ) where
         moves = [];
         events = refl;
         noted = notes_none noted;
+        keeps = keeps_none (network schema capacity) (opening_for schema capacity old) (state_of schema capacity old) u first (between u first here);
       }
 
-  module _ (old now : Parts) (before after : Noted) (way : OnTheWay schema capacity u n old now before after) where
+  module _ (old now : Parts) (before after : Noted) (kept : List (CellName × Cell)) (way : OnTheWay schema capacity u n old now before after kept) where
     new_found : unit_at (state_of schema capacity now).units u ≡ Some way.steps.new
     new_found = subst (λ us. unit_at us u ≡ Some way.steps.new) (sym way.steps.units) (set_at (state_of schema capacity old).units u way.first way.steps.new way.at)
 
@@ -204,11 +212,36 @@ module _ (schema : Lists) (capacity u n : ℕ) where
       unfolding IfMoved
       one = subst (λ q. IfMoved (network schema capacity) q (OneStep (network schema capacity) (opening_for schema capacity old) (state_of schema capacity now) u way.steps.new)) moved (one_step (network schema capacity) (opening_for schema capacity old) (state_of schema capacity now) u way.steps.new new_found)
 
-      pub goes_on : (then : Noted) → NotesMore after then (Step u ∷ []) → OnTheWay schema capacity u n old new before then
-      goes_on then more =
+      -- a unit between statements has not made this one
+      fresh : way.steps.new.progress ≡ None → (state_of schema capacity now).history ≡ (state_of schema capacity old).history
+      fresh between = elim way.steps.drawn [
+        | inl p ↦ p.0
+        | inr d ↦
+            let l = way.left in
+            let more = ap length d.before in
+            let less = ap length d.after in
+            let is : unit_state_of schema capacity r ≡ way.steps.new = same_Some _ way.steps.new (sym (found schema capacity u now r way.well numbered at) ∙ new_found) in
+            absurd (busy (subst (IsDone (network schema capacity) n) (sym is) (record { between = between; few = omega (arith, l, more, less) })))
+      ]
+
+      well_after : IsWell schema capacity new
+      well_after = stepped_well schema capacity u now new way.well Moved stepped
+
+      lawful_from : (p : Parts) → IsWell schema capacity p → length p.runners.items ≡ length old.runners.items → Lawful (network schema capacity) (opening_for schema capacity old) (state_of schema capacity p)
+      lawful_from p well count = subst (λ k. Lawful (network schema capacity) (opening_of schema capacity k) (state_of schema capacity p)) count well.lawful
+
+      pub goes_on : (then : Noted) → NotesMore after then (Step u ∷ []) → (last : CoreUnit) → slice_get new.runners.items (u - 1) ≡ Some last → (more_kept : List (CellName × Cell))
+          → machine_cells more_kept ≡ machine_cells kept ++ newest_untouched (network schema capacity) (unit_state_of schema capacity last).progress → OnTheWay schema capacity u n old new before then more_kept
+      unfolding more_alone one
+      goes_on then more last here more_kept kept_is =
           let few : length way.first.remaining ≤ suc n = (let l = way.left in omega (arith, l)) in
+          let next_found : unit_at (state_of schema capacity new).units u ≡ Some one.alone.new = subst (λ us. unit_at us u ≡ Some one.alone.new) (sym one.alone.units) (set_at (state_of schema capacity now).units u way.steps.new one.alone.new new_found) in
+          let last_is : unit_state_of schema capacity last ≡ one.alone.new = same_Some _ one.alone.new (sym (found schema capacity u new last well_after numbered here) ∙ next_found) in
+          let keeps = keeps_more (network schema capacity) (opening_for schema capacity old) (state_of schema capacity old) u way.first (network_is_sequential schema capacity way.well.sound) (machine_cells kept) (state_of schema capacity now) way.steps.new way.keeps new_found (lawful_from now way.well way.count) fresh (state_of schema capacity new) one (lawful_from new well_after (stepped.count ∙ way.count)) in
           record {
-            well = stepped_well schema capacity u now new way.well Moved stepped;
+            keeps = subst (λ hs. KeepsCells (network schema capacity) (opening_for schema capacity old) (state_of schema capacity old) u way.first hs (state_of schema capacity new) one.alone.new)
+                (sym (kept_is ∙ ap (λ (x : UnitState (network schema capacity)). machine_cells kept ++ newest_untouched (network schema capacity) x.progress) last_is)) keeps;
+            well = well_after;
             count = stepped.count ∙ way.count;
             alone = parts_stay schema capacity n u now way.well way.alone r numbered at busy new stepped;
             first = way.first;
@@ -222,24 +255,39 @@ module _ (schema : Lists) (capacity u n : ℕ) where
           }
 
     -- the unit is between statements again
-    pub arrives : (r : CoreUnit) → 0 < u → slice_get now.runners.items (u - 1) ≡ Some r → IsDone (network schema capacity) n (unit_state_of schema capacity r) → HaveTurned (core_of schema capacity old) (u ∷ []) (core_of schema capacity now) before after
-    unfolding AreTurns
-    arrives r numbered at done =
-        let here = found schema capacity u now r way.well numbered at in
-        let is : unit_state_of schema capacity r ≡ way.steps.new = same_Some _ way.steps.new (sym here ∙ new_found) in
-        let next = made_next (network schema capacity) (opening_for schema capacity old) u n (state_of schema capacity old) (state_of schema capacity now) way.first way.at way.left way.steps (subst (IsDone (network schema capacity) n) is done) in
-        record {
-          reached = state_of schema capacity now;
-          is = λ i. record { schema = schema; capacity = capacity; opening = opening_of schema capacity (way.count i); state = state_of schema capacity now };
-          between = λ w other e. elim (set_found (state_of schema capacity old).units u w way.steps.new other (subst (λ us. unit_at us w ≡ Some other) way.steps.units e)) [
-            | inl p ↦ ap (λ (x : UnitState (network schema capacity)). x.progress) (sym p.1 ∙ sym is) ∙ done.between
-            | inr p ↦ way.alone.work.others w other p.0 e
-          ];
-          moves = way.moves ++ [];
-          turns_are = (way.moves, [], state_of schema capacity now, refl, subst (λ xs. IsTurnOf (network schema capacity) (opening_for schema capacity old) u xs (state_of schema capacity old) way.moves (state_of schema capacity now)) (sym (ap (left_of (network schema capacity)) way.at ∙ next.before_is)) (way.events, next.after), (refl, refl));
-          noted = subst (NotesMore before after) (sym (append-nil way.moves)) way.noted;
-          in_turn = next.ahead;
-        }
+    module _ (r : CoreUnit) (numbered : 0 < u) (at : slice_get now.runners.items (u - 1) ≡ Some r) (done : IsDone (network schema capacity) n (unit_state_of schema capacity r)) where
+      is : unit_state_of schema capacity r ≡ way.steps.new
+      is = same_Some _ way.steps.new (sym (found schema capacity u now r way.well numbered at) ∙ new_found)
+
+      all_between : AllBetween (network schema capacity) (state_of schema capacity now)
+      all_between w other e = elim (set_found (state_of schema capacity old).units u w way.steps.new other (subst (λ us. unit_at us w ≡ Some other) way.steps.units e)) [
+        | inl p ↦ ap (λ (x : UnitState (network schema capacity)). x.progress) (sym p.1 ∙ sym is) ∙ done.between
+        | inr p ↦ way.alone.work.others w other p.0 e
+      ]
+
+      pub arrives_changed : IsWell schema capacity old → AllBetween (network schema capacity) (state_of schema capacity old) → ChangesInTurn (network schema capacity) u (state_of schema capacity old) (state_of schema capacity now) (machine_cells kept)
+      arrives_changed well between =
+          changes_in_turn (network schema capacity) (opening_for schema capacity old) (state_of schema capacity old) u way.first (machine_cells kept) (state_of schema capacity now) well.lawful
+          (subst (λ k. Lawful (network schema capacity) (opening_of schema capacity k) (state_of schema capacity now)) way.count way.well.lawful) between all_between way.at way.steps way.keeps
+
+      pub arrives : HaveTurned (core_of schema capacity old) (u ∷ []) (core_of schema capacity now) before after
+      unfolding AreTurns
+      arrives =
+          let next = made_next (network schema capacity) (opening_for schema capacity old) u n (state_of schema capacity old) (state_of schema capacity now) way.first way.at way.left way.steps (subst (IsDone (network schema capacity) n) is done) in
+          record {
+            moves = way.moves ++ [];
+            lead = record {
+              reached = state_of schema capacity now;
+              is = λ i. record { schema = schema; capacity = capacity; opening = opening_of schema capacity (way.count i); state = state_of schema capacity now };
+              between = all_between;
+              turns_are = (way.moves, [], state_of schema capacity now, refl, subst (λ xs. IsTurnOf (network schema capacity) (opening_for schema capacity old) u xs (state_of schema capacity old) way.moves (state_of schema capacity now)) (sym (ap (left_of (network schema capacity)) way.at ∙ next.before_is)) (way.events, next.after), (refl, refl));
+              in_turn = next.ahead;
+            };
+            noted = subst (NotesMore before after) (sym (append-nil way.moves)) way.noted;
+          }
+
+  pub changed_nothing : (old : Parts) (kept : List (CellName × Cell)) → kept ≡ [] → ChangesInTurn (network schema capacity) u (state_of schema capacity old) (state_of schema capacity old) (machine_cells kept)
+  changed_nothing old kept none = subst (λ ks. ChangesInTurn (network schema capacity) u (state_of schema capacity old) (state_of schema capacity old) (machine_cells ks)) (sym none) (changes_nothing (network schema capacity) (opening_for schema capacity old) (state_of schema capacity old) u)
 
   -- a unit that is not there has nothing left, and one whose script is at its end neither
   pub not_there : (old : Parts) → unit_at old.runners.items u ≡ None → left_of (network schema capacity) (unit_at (state_of schema capacity old).units u) ≡ []
@@ -255,13 +303,15 @@ module _ (schema : Lists) (capacity u n : ℕ) where
   stays old noted between none =
       let s = state_of schema capacity old in
       record {
-        reached = s;
-        is = refl;
-        between = between;
         moves = [];
-        turns_are = ([], [], s, refl, subst (λ xs. IsTurnOf (network schema capacity) (opening_for schema capacity old) u xs s [] s) (sym none) (refl, refl), (refl, refl));
         noted = notes_none noted;
-        in_turn = λ more. no_turn (network schema capacity) (opening_for schema capacity old) u s more (ap (λ o. unwrap_or o 0) (map_at (λ (x : UnitState (network schema capacity)). length x.remaining) s.units u) ∙ nothing (unit_at s.units u) none);
+        lead = record {
+          reached = s;
+          is = refl;
+          between = between;
+          turns_are = ([], [], s, refl, subst (λ xs. IsTurnOf (network schema capacity) (opening_for schema capacity old) u xs s [] s) (sym none) (refl, refl), (refl, refl));
+          in_turn = λ more. no_turn (network schema capacity) (opening_for schema capacity old) u s more (ap (λ o. unwrap_or o 0) (map_at (λ (x : UnitState (network schema capacity)). length x.remaining) s.units u) ∙ nothing (unit_at s.units u) none);
+        };
       }
     where
       nothing : (o : Option (UnitState (network schema capacity))) → left_of (network schema capacity) o ≡ [] → unwrap_or (option_map (λ (x : UnitState (network schema capacity)). length x.remaining) o) 0 ≡ 0
@@ -274,25 +324,36 @@ module _ (schema : Lists) (capacity u n : ℕ) where
 abbrev pub IsBetween : CoreState → Type 0
 IsBetween c = AllBetween (network c.schema c.capacity) c.state
 
-pub before_turns : (c : CoreState) (noted : Noted) → IsBetween c → HaveTurned c [] c noted noted
+pub led_nowhere : (c : CoreState) → IsBetween c → TurnsLead c [] [] c
 unfolding AreTurns
-before_turns c noted between = record { reached = c.state; is = refl; between = between; moves = []; turns_are = (refl, refl); noted = notes_none noted; in_turn = λ more. refl }
+led_nowhere c between = record { reached = c.state; is = refl; between = between; turns_are = (refl, refl); in_turn = λ more. refl }
+
+pub before_turns : (c : CoreState) (noted : Noted) → IsBetween c → HaveTurned c [] c noted noted
+before_turns c noted between = record { moves = []; lead = led_nowhere c between; noted = notes_none noted }
+
+pub between_led : (us : List ℕ) (ms : List Move) (c d : CoreState) → TurnsLead c us ms d → IsBetween d
+between_led us ms c d p = subst IsBetween (sym p.is) p.between
 
 pub between_after : (us : List ℕ) (c d : CoreState) (a b : Noted) → HaveTurned c us d a b → IsBetween d
-between_after us c d a b p = subst IsBetween (sym p.is) p.between
+between_after us c d a b p = between_led us p.moves c d p.lead
 
-pub turned_more : (us vs : List ℕ) (c d e : CoreState) (a b k : Noted) → HaveTurned c us d a b → HaveTurned d vs e b k → HaveTurned c (us ++ vs) e a k
-turned_more us vs c d e a b k p more =
-    let q = subst (λ (x : CoreState). HaveTurned x vs e b k) p.is more in
+pub led_more : (us vs : List ℕ) (ms ns : List Move) (c d e : CoreState) → TurnsLead c us ms d → TurnsLead d vs ns e → TurnsLead c (us ++ vs) (ms ++ ns) e
+led_more us vs ms ns c d e p more =
+    let q = subst (λ (x : CoreState). TurnsLead x vs ns e) p.is more in
     record {
       reached = q.reached;
       is = q.is;
       between = q.between;
-      moves = p.moves ++ q.moves;
-      turns_are = turns_append (network c.schema c.capacity) c.opening us vs c.state p.reached q.reached p.moves q.moves p.turns_are q.turns_are;
-      noted = notes_append a b k p.moves q.moves p.noted q.noted;
-      in_turn = λ ns. ap (turns_ahead (network c.schema c.capacity) c.state) (append_assoc us vs ns) ∙ p.in_turn (vs ++ ns) ∙ q.in_turn ns;
+      turns_are = turns_append (network c.schema c.capacity) c.opening us vs c.state p.reached q.reached ms ns p.turns_are q.turns_are;
+      in_turn = λ ks. ap (turns_ahead (network c.schema c.capacity) c.state) (append_assoc us vs ks) ∙ p.in_turn (vs ++ ks) ∙ q.in_turn ks;
     }
+
+pub turned_more : (us vs : List ℕ) (c d e : CoreState) (a b k : Noted) → HaveTurned c us d a b → HaveTurned d vs e b k → HaveTurned c (us ++ vs) e a k
+turned_more us vs c d e a b k p q = record {
+  moves = p.moves ++ q.moves;
+  lead = led_more us vs p.moves q.moves c d e p.lead q.lead;
+  noted = notes_append a b k p.moves q.moves p.noted q.noted;
+}
 
 pub turned_next : (turns : List ℕ) (i u : ℕ) → i < length turns → (c d e : CoreState) (a b k : Noted) → HaveTurned c (take i turns) d a b → HaveTurned d (get_or turns i u ∷ []) e b k → HaveTurned c (take (i + 1) turns) e a k
 turned_next turns i u below c d e a b k p q = subst (λ us. HaveTurned c us e a k) (sym (take_more turns i u below)) (turned_more (take i turns) (get_or turns i u ∷ []) c d e a b k p q)
@@ -301,7 +362,7 @@ turned_next turns i u below c d e a b k p q = subst (λ us. HaveTurned c us e a 
 
 module _ (schema : Lists) (capacity : ℕ) (scripts : List (List Statement)) (sound : IsSound schema) (fit : scripts_fit schema scripts ≡ true) where
   abbrev pub opened : CoreState
-  opened = record { schema = schema; capacity = capacity; opening = opening_of schema capacity (length scripts); state = machine_of schema capacity scripts }
+  opened = first_core schema capacity scripts
 
   -- before the first turn every unit is between statements
   pub opens_between : (c : CoreState) → c ≡ opened → IsBetween c
@@ -315,13 +376,13 @@ module _ (schema : Lists) (capacity : ℕ) (scripts : List (List Statement)) (so
   units_noted [] = refl
   units_noted (e ∷ es) = ap (λ ns. e.unit ∷ ns) (units_noted es)
 
-  module _ (turns : List ℕ) (moved : CoreParts) (before after : Noted) (turned : HaveTurned opened turns (machine moved) before after) (given : Run) (handed : IsHandedOut moved [] given) where
+  module _ (turns : List ℕ) (moves : List Move) (moved : CoreParts) (turned : TurnsLead opened turns moves (machine moved)) (given : Run) (handed : IsHandedOut moved [] given) where
     abbrev last : State (network schema capacity)
-    last = machine_after schema capacity scripts turned.moves
+    last = machine_after schema capacity scripts moves
 
     last_is : turned.reached ≡ last
     unfolding machine_after
-    last_is = turns_run (network schema capacity) (opening_of schema capacity (length scripts)) turns (machine_of schema capacity scripts) turned.reached turned.moves turned.turns_are
+    last_is = turns_run (network schema capacity) (opening_of schema capacity (length scripts)) turns (machine_of schema capacity scripts) turned.reached moves turned.turns_are
 
     core_is : machine moved ≡ record { schema = schema; capacity = capacity; opening = opening_of schema capacity (length scripts); state = last }
     core_is = turned.is ∙ (λ i. record { schema = schema; capacity = capacity; opening = opening_of schema capacity (length scripts); state = last_is i })
@@ -334,14 +395,14 @@ module _ (schema : Lists) (capacity : ℕ) (scripts : List (List Statement)) (so
         ∙ ap (made_turns (lefts_of (network schema capacity) (machine_of schema capacity scripts))) (append-nil turns)
         ∙ ap (λ ns. made_turns ns turns) (lefts_open 1 scripts)
 
-    pub turns_handed : IsRunByTurns schema capacity scripts turns turned.moves given
+    pub turns_handed : IsRunByTurns schema capacity scripts turns moves given
     unfolding machine_after
     turns_handed =
-        let law = run_is_sequential schema capacity scripts (opening_is_legal schema capacity (length scripts)) fit (network_is_sequential schema capacity sound) turned.moves in
+        let law = run_is_sequential schema capacity scripts (opening_is_legal schema capacity (length scripts)) fit (network_is_sequential schema capacity sound) moves in
         let history = history_handed schema capacity scripts moved last core_is law [] given handed in
         record {
           results_are = handed.results_are;
-          moves_are = subst (AreTurns (network schema capacity) (opening_of schema capacity (length scripts)) turns (machine_of schema capacity scripts) turned.moves) last_is turned.turns_are;
+          moves_are = subst (AreTurns (network schema capacity) (opening_of schema capacity (length scripts)) turns (machine_of schema capacity scripts) moves) last_is turned.turns_are;
           between = subst (AllBetween (network schema capacity)) last_is turned.between;
           history_is = history;
           in_turn = ap (map (λ (e : Entry). e.unit)) history ∙ units_noted last.history ∙ in_turn;

@@ -20,6 +20,7 @@ use Rattle.dbtg_step.specs.Machine.Step.{updated, with_progress}
 use Rattle.dbtg_step.specs.Machine.Network.{network}
 use Rattle.dbtg_step.specs.Core.Parts.{found_location, held_cells_of, held_of, location_at, location_in, location_of, note_of, state_from, unit_state_of}
 use Rattle.dbtg_step.specs.Inside.Parts.{home_at, written_home}
+use Rattle.dbtg_step.specs.Inside.Stands.{HasPlace}
 use Rattle.dbtg_step.proofs.EachEvent.UnitLists.{map_set}
 
 module _ (schema : Lists) (capacity : ℕ) where
@@ -31,6 +32,10 @@ module _ (schema : Lists) (capacity : ℕ) where
 
   pub number_within : (c : CellName) (n : ℕ) → cell_number schema capacity c ≡ Some n → n < cell_count schema capacity
   number_within c n e = slice_get_within (cells_in_order schema capacity) n c (stands_at c (cells_in_order schema capacity) n e)
+
+  -- the number of a cell that has a place is one of the table
+  pub place_within : (c : CellName) (table : List CoreLocation) → HasPlace schema capacity c table → (n : ℕ) → cell_number schema capacity c ≡ Some n → n < length table
+  place_within c table p n e = subst (λ k. k < length table) (same_Some p.number n (sym p.is ∙ e)) p.within
 
   -- a table that is written at one cell
   pub written_is : (table : List CoreLocation) (c : CellName) (n : ℕ) (p : CoreLocation) → cell_number schema capacity c ≡ Some n → n < length table →

@@ -49,7 +49,7 @@ homes_step schema capacity old new e table after q h =
     ap (written_homes schema capacity (reverse new)) h ∙ sym (ap (λ es. written_homes schema capacity es table) (ap reverse q ∙ reverse-append new (e ∷ [])))
 
 module _ (schema : Lists) (capacity : ℕ) where
-  length_homes : (es : List (CellName × Cell)) (table : List CoreLocation) → length (written_homes schema capacity es table) ≡ length table
+  pub length_homes : (es : List (CellName × Cell)) (table : List CoreLocation) → length (written_homes schema capacity es table) ≡ length table
   length_homes [] table = refl
   length_homes (e ∷ es) table = length_homes es (written_home schema capacity e.0 e.1 table) ∙ length_home schema capacity table e.0 e.1
 
@@ -155,7 +155,7 @@ module _ (schema : Lists) (capacity u : ℕ) (old new : Parts) (well : IsWell sc
   moved_on : core_of schema capacity new ≡ with_state (core_of schema capacity old) (state_of schema capacity new)
   moved_on = λ i. record { schema = schema; capacity = capacity; opening = opening_of schema capacity (count i); state = state_of schema capacity new }
 
-  same_core : state_of schema capacity new ≡ state_of schema capacity old → core_of schema capacity new ≡ core_of schema capacity old
+  pub same_core : state_of schema capacity new ≡ state_of schema capacity old → core_of schema capacity new ≡ core_of schema capacity old
   same_core e = λ i. record { schema = schema; capacity = capacity; opening = opening_of schema capacity (count i); state = e i }
 
 module _ (schema : Lists) (capacity u : ℕ) (old new : Parts) (well : IsWell schema capacity old) where

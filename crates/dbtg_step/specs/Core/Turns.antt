@@ -102,12 +102,24 @@ pub record NotesMore (old new : Noted) (moves : List Move) : Type 0 where
   pub limit : new.limit ≡ old.limit
   pub noted : (before : List Move) → IsNoted old before → IsNoted new (before ++ moves)
 
--- by these turns the machine comes from c to d, where each unit is between statements again
-pub record HaveTurned (c : CoreState) (turns : List ℕ) (d : CoreState) (before after : Noted) : Type 0 where
+-- by these turns, which stand for these moves, the machine comes from c to d, where each unit is between statements again
+pub record TurnsLead (c : CoreState) (turns : List ℕ) (moves : List Move) (d : CoreState) : Type 0 where
   pub reached : State (network c.schema c.capacity)
   pub is : d ≡ with_state c reached
   pub between : AllBetween (network c.schema c.capacity) reached
-  pub moves : List Move
   pub turns_are : AreTurns (network c.schema c.capacity) c.opening turns c.state moves reached
-  pub noted : NotesMore before after moves
   pub in_turn : (more : List ℕ) → turns_ahead (network c.schema c.capacity) c.state (turns ++ more) ≡ turns_ahead (network c.schema c.capacity) reached more
+
+-- the same, and the moves are noted
+pub record HaveTurned (c : CoreState) (turns : List ℕ) (d : CoreState) (before after : Noted) : Type 0 where
+  pub moves : List Move
+  pub lead : TurnsLead c turns moves d
+  pub noted : NotesMore before after moves
+
+-- a core whose units have taken these turns, and nothing else, with these scripts; as many of the moves are noted as the limit allows
+pub record TurnedCore : Type 0 where
+  pub schema : Lists
+  pub capacity : ℕ
+  pub scripts : List (List Statement)
+  pub limit : ℕ
+  pub turns : List ℕ

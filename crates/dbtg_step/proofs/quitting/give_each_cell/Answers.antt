@@ -4,13 +4,14 @@ use Rattle.dbtg_cells.specs.declared.cell.Cell.{Cell}
 use Rattle.dbtg_cells.specs.declared.name.CellName.{CellName}
 use Rattle.dbtg_step.specs.Machine.SequentialDatabase.{In}
 use Rattle.dbtg_step.proofs.TheCore.NeedsShown.{in_back}
+use Rattle.dbtg_step.proofs.TheCore.PlacesOfCells.{place_within}
 use Rattle.dbtg_step.proofs.TheCore.QuitShown.{homes_step, places_left}
 use Rattle.dbtg_step.proofs.quitting.give_each_cell.Goals as goal
 
 pub put_home-requires : goal.put_home-requires
-put_home-requires c =
+put_home-requires c number is =
     let given : CellName × Cell = (c.in-Some.name, c.in-Some.cell) in
-    c.loop-name.invariant.places given (subst (In given) (sym c.in-Some.ensures.cells) (in_back given c.pop_cell.new.self.cells))
+    place_within c.args.schema.now c.args.capacity c.in-Some.name c.loop-name.table.items (c.loop-name.invariant.places given (subst (In given) (sym c.in-Some.ensures.cells) (in_back given c.pop_cell.new.self.cells))) number is
 
 pub loop-name-preserved : goal.loop-name-preserved
 loop-name-preserved c =

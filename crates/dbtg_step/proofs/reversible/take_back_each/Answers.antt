@@ -1,4 +1,4 @@
-use Rattle.std.proofs.Common.{◌-◌, ◌≡◌, ◌<◌, ap, sym, subst, ◌∙◌, arith, length}
+use Rattle.std.proofs.Common.{◌-◌, ◌<◌, ap, sym, subst, ◌∙◌, arith, length}
 use Rattle.dbtg_step.specs.Core.Reversible.{made_first}
 use Rattle.dbtg_step.specs.Core.Whole.{Making}
 use Rattle.dbtg_step.specs.Inside.Reversible.{HasWaysBack}

@@ -7,5 +7,5 @@ pub returns-in-Ok : goal.returns-in-Ok
 returns-in-Ok c =
     let went = c.in-Ok.ensures in
     IfOk-weaker c.run_with_moves.result _ _
-    (λ given handed. (c.moves_of_turns.new.core, went.0, went.1, went.2, subst (AreGiven c.args.limit went.2.moves) (sym handed.1) went.3, handed.0))
+    (λ given handed. (c.moves_of_turns.new.core, went.0, went.1, subst (AreGiven c.args.limit went.0) (sym handed.1) went.2, handed.0))
     c.run_with_moves.ensures

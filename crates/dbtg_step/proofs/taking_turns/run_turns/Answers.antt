@@ -1,9 +1,9 @@
-use Rattle.std.proofs.Common.{[], subst}
+use Rattle.std.proofs.Common.{List, [], subst}
 use Rattle.std.proofs.lemmas.Result.{IfOk-weaker}
-use Rattle.dbtg_step.specs.declared.taking_turns.Noted.{Noted}
+use Rattle.dbtg_unit.specs.declared.moves.Move.{Move}
 use Rattle.dbtg_step.specs.Core.Parts.{CoreParts, CoreState, machine}
 use Rattle.dbtg_step.specs.Core.Runs.{IsHandedOut}
-use Rattle.dbtg_step.specs.Core.Turns.{AreGiven, HaveTurned}
+use Rattle.dbtg_step.specs.Core.Turns.{AreGiven, TurnsLead}
 use Rattle.dbtg_step.proofs.MadeWhole.TurnsTaken.{opened, opens_between, turns_handed}
 use Rattle.dbtg_step.proofs.taking_turns.run_turns.Goals as goal
 
@@ -20,10 +20,9 @@ returns-in-Ok c =
     let opens = opened schema capacity scripts c.requires.sound c.requires.fit in
     IfOk-weaker c.run_from.result _ _
     (λ given went.
-    let taken = subst (λ (x : CoreState). (last : CoreParts) × (before : Noted) × (after : Noted) × (turned : HaveTurned x turns (machine last) before after) × AreGiven limit turned.moves given.moves × IsHandedOut last [] given.run) c.in-Ok.ensures went in
-    let turned : HaveTurned opens turns (machine taken.0) taken.1 taken.2 = taken.3 in
+    let taken = subst (λ (x : CoreState). (last : CoreParts) × (moves : List Move) × TurnsLead x turns moves (machine last) × AreGiven limit moves given.moves × IsHandedOut last [] given.run) c.in-Ok.ensures went in
     record {
-      moves = turned.moves;
-      run = turns_handed schema capacity scripts c.requires.sound c.requires.fit turns taken.0 taken.1 taken.2 turned given.run taken.5;
-      given_moves = taken.4;
+      moves = taken.1;
+      run = turns_handed schema capacity scripts c.requires.sound c.requires.fit turns taken.1 taken.0 taken.2 given.run taken.4;
+      given_moves = taken.3;
     }) c.run_from.ensures
