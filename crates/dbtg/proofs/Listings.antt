@@ -24,7 +24,8 @@ use Rattle.dbtg_script.specs.declared.limits.TheConstants.{MOST_MOVES}
 use Rattle.dbtg_script.specs.Statements.{script}
 use Rattle.dbtg_script.specs.Printing.WordTexts.{moves_words_text, turns_text}
 use Rattle.dbtg_step.specs.declared.results.Run.{Run}
-use Rattle.dbtg_step.specs.Core.Turns.{AreGiven, IsRunByTurns}
+use Rattle.dbtg_step.specs.declared.taking_turns.Turned.{Turned}
+use Rattle.dbtg_step.specs.Core.Turns.{AreGiven, IsRunByTurns, TurnedCore, TurnedIs}
 use Rattle.dbtg_unit.specs.declared.moves.Move.{Move}
 use Rattle.dbtg_command.specs.declared.fault.Fault.{Fault}
 use Rattle.dbtg_command.specs.declared.fault.Fault.TheVariants.{Memory, MovesOver}
@@ -35,7 +36,7 @@ use Rattle.dbtg.specs.declared.outcomes.ListingOptions.{ListingOptions}
 use Rattle.dbtg.specs.declared.wishes.Judged.{Judged}
 use Rattle.dbtg.specs.Judging.{IsJudgedAs, IsUnjudged, JudgedHeld, ToldOfJudging}
 use Rattle.dbtg.specs.Listing.{AreResultTexts, IsListing, IsLong, IsOver, IsResultText, OutcomesHeld, ToldOfOutcomes, and_told, meeting_of, result_line, result_text, shown_text, summary_text, worded}
-use Rattle.dbtg.specs.Inside.Listing.{IsFront, IsShown, IsUntold, are_short}
+use Rattle.dbtg.specs.Inside.Listing.{IsFront, IsShown, IsUntold, RunsMeeting, are_short}
 use Rattle.dbtg_replay.specs.Ordering.{first_turns}
 use Rattle.dbtg_command.specs.Refusals.{is_count}
 use Rattle.dbtg_command.specs.Sources.{ReadSchema, ReadScripts}
@@ -153,6 +154,23 @@ module _ (m : Meeting) (one : OneResult) (moves : List Move) (given : Run) (run 
   pub long_told : (said : Option (List Move)) → AreGiven MOST_MOVES moves said → (told : Fault) → (told ≡ Memory) ⊎ ((told ≡ MovesOver) × (said ≡ None)) → (told ≡ Memory) ⊎ ((told ≡ MovesOver) × IsLong m one)
   long_told said are told (inl e) = inl e
   long_told said are told (inr h) = inr (h.0, record { moves = moves; stand = (given, run); many = subst (AreGiven MOST_MOVES moves) h.1 are })
+
+-- after other turns a core is still the meeting's
+pub runs_on : (m : Meeting) (core new : TurnedCore) (turns : List ℕ) → new ≡ record core { turns = turns } → RunsMeeting m core → RunsMeeting m new
+runs_on m core new turns is runs = record {
+  schema = ap (λ (c : TurnedCore). c.schema) is ∙ runs.schema;
+  capacity = ap (λ (c : TurnedCore). c.capacity) is ∙ runs.capacity;
+  scripts = ap (λ (c : TurnedCore). c.scripts) is ∙ runs.scripts;
+  limit = ap (λ (c : TurnedCore). c.limit) is ∙ runs.limit;
+}
+
+-- what a core of the meeting gives
+pub turned_in : (m : Meeting) (core : TurnedCore) (given : Turned) → RunsMeeting m core → TurnedIs core.schema core.capacity core.scripts core.turns core.limit given → TurnedIs m.schema m.capacity m.scripts core.turns MOST_MOVES given
+turned_in m core given runs turned =
+    subst (λ limit. TurnedIs m.schema m.capacity m.scripts core.turns limit given) runs.limit
+    (subst (λ scripts. TurnedIs m.schema m.capacity scripts core.turns core.limit given) runs.scripts
+    (subst (λ capacity. TurnedIs m.schema capacity core.scripts core.turns core.limit given) runs.capacity
+    (subst (λ schema. TurnedIs schema core.capacity core.scripts core.turns core.limit given) runs.schema turned)))
 
 -- the next result
 module _ (m : Meeting) (all : Outcomes) (i : ℕ) (one : OneResult) (below : i < length all.results.items) (at : one ≡ get_or all.results.items i one) where

@@ -7,7 +7,9 @@ ghost use Rattle.dbtg_outcomes.specs.Outcomes.{IsMeeting};
 ghost use Rattle.dbtg_outcomes.specs.Brief.{none_before};
 ghost use Rattle.dbtg_script.specs.Printing.WordTexts.{moves_words_text, turns_text};
 ghost use Rattle.dbtg.specs.Listing.{AreTold, IsListing, IsLong, IsOver, OutcomesHeld, ToldOfOutcomes, and_told, count_text, differing_text, orders_text, result_line, shown_text, spaced_status, summary_text, worded};
-ghost use Rattle.dbtg.specs.Inside.Listing.{IsFront, IsShown, IsUntold, are_short};
+ghost use Rattle.dbtg.specs.Inside.Listing.{IsFront, IsShown, IsUntold, RunsMeeting, are_short};
+ghost use Rattle.dbtg_step.specs.Core.Turns.{TurnedIs};
+ghost use Rattle.dbtg_script.specs.declared.limits.TheConstants.{MOST_MOVES};
 ghost use Rattle.dbtg_command.specs.Refusals.{is_count};
 ghost use Rattle.dbtg_command.specs.Sources.{ReadSchema};
 ghost use Rattle.dbtg_command.specs.declared.fault.Fault.TheVariants.{Memory, MovesOver};
@@ -261,7 +263,7 @@ fn outcomes_text(
     all: &Outcomes,
 ) -> Result<Vec<u8>, Fault>
     requires meeting { IsMeeting meeting.now }
-    requires core { core ≡ record core { schema = meeting.now.schema; capacity = meeting.now.capacity; scripts = meeting.now.scripts; limit = MOST_MOVES } }
+    requires core { RunsMeeting meeting.now core }
     requires front { IsFront meeting.now showing.old.front }
     requires short { list_all are_short all.now.answered.items ≡ true }
     ensures done { IfOk result (λ out. AreTold meeting.now showing.old.before all.now out.items) }

@@ -7,6 +7,8 @@ use Rattle.dbtg_outcomes.specs.declared.outcomes.OneResult.{OneResult}
 use Rattle.dbtg_outcomes.specs.declared.outcomes.Outcomes.{Outcomes}
 use Rattle.dbtg_command.specs.declared.fault.Fault.{Fault}
 use Rattle.dbtg_command.specs.declared.fault.Fault.TheVariants as fault
+use Rattle.dbtg_script.specs.declared.limits.TheConstants.{MOST_MOVES}
+use Rattle.dbtg_step.specs.Core.Turns.{TurnedCore}
 use Rattle.dbtg_outcomes.specs.Results.{Meeting}
 use Rattle.dbtg.specs.declared.outcomes.Front.{Front}
 use Rattle.dbtg.specs.declared.outcomes.Showing.{Showing}
@@ -27,6 +29,13 @@ pub record IsFront (m : Meeting) (front : Front) : Type 0 where
   pub before : List Move
   pub are_first : AreFirstMoves m.first m.schema m.capacity m.scripts before
   pub moves_are : front.moves ≡ length before
+
+-- the core is that of the meeting's scripts, and notes as many moves as a text of moves may have
+pub record RunsMeeting (m : Meeting) (core : TurnedCore) : Type 0 where
+  pub schema : core.schema ≡ m.schema
+  pub capacity : core.capacity ≡ m.capacity
+  pub scripts : core.scripts ≡ m.scripts
+  pub limit : core.limit ≡ MOST_MOVES
 
 -- the text of result k is appended to others, and in brief the result to the earlier ones
 pub record IsShown (m : Meeting) (k : ℕ) (one : OneResult) (old new : List ℕ) (showing shown : Showing) : Type 0 where
