@@ -298,13 +298,7 @@ fn listing_text(
     let before = none_before(alloc, brief);
     let mut showing = Showing { front, before };
     let copies = copy_each_script(alloc, meeting.scripts)?;
-    let core = TurnedCore::new(
-        alloc,
-        meeting.schema,
-        meeting.capacity,
-        copies,
-        MOST_MOVES,
-    )?;
+    let core = TurnedCore::new(alloc, meeting.schema, meeting.capacity, copies, MOST_MOVES)?;
     outcomes_text(alloc, meeting, core, &mut showing, all)
 }
 

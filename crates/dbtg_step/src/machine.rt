@@ -136,30 +136,6 @@ impl Core {
         }
     }
 
-    /// One step of the unit with this number: the machine's step, or a refusal of memory in place of an event before its
-    /// ticket that is not a turn back. If it leaves a unit in mid-statement, some unit's next step is an event.
-    pub fn step(&mut self, unit: u8) -> Stepped
-        ensures step { IsStep (machine self.old) unit result (machine self.new) }
-        ensures never_stuck { IsNeverStuck (machine self.new) }
-    {
-        step(
-            self.alloc,
-            &self.schema,
-            self.capacity,
-            &mut self.parts,
-            unit,
-        )
-    }
-
-    /// The unit with this number gives back all that it holds, unless its statement has its ticket. It takes no memory. If
-    /// it leaves another in mid-statement, some unit's next step is an event.
-    pub fn quit(&mut self, unit: u8) -> Stepped
-        ensures quit { IsQuitStep (machine self.old) unit result (machine self.new) }
-        ensures never_stuck { IsNeverStuck (machine self.new) }
-    {
-        quit(&self.schema, self.capacity, &mut self.parts, unit)
-    }
-
     /// The units take these turns, one after another, and the moves that the turns stand for are noted.
     pub(crate) fn take_turns(&mut self, turns: &[u8], noted: &mut Noted) -> Result<(), AllocError>
         requires { AllBetween (network (machine self.old).schema (machine self.old).capacity) (machine self.old).state }
@@ -218,6 +194,30 @@ impl Core {
             history,
             units,
         })
+    }
+
+    /// One step of the unit with this number: the machine's step, or a refusal of memory in place of an event before its
+    /// ticket that is not a turn back. If it leaves a unit in mid-statement, some unit's next step is an event.
+    pub fn step(&mut self, unit: u8) -> Stepped
+        ensures step { IsStep (machine self.old) unit result (machine self.new) }
+        ensures never_stuck { IsNeverStuck (machine self.new) }
+    {
+        step(
+            self.alloc,
+            &self.schema,
+            self.capacity,
+            &mut self.parts,
+            unit,
+        )
+    }
+
+    /// The unit with this number gives back all that it holds, unless its statement has its ticket. It takes no memory. If
+    /// it leaves another in mid-statement, some unit's next step is an event.
+    pub fn quit(&mut self, unit: u8) -> Stepped
+        ensures quit { IsQuitStep (machine self.old) unit result (machine self.new) }
+        ensures never_stuck { IsNeverStuck (machine self.new) }
+    {
+        quit(&self.schema, self.capacity, &mut self.parts, unit)
     }
 
     /// What every core satisfies, also in mid-statement, for proofs about one. It does nothing.
