@@ -12,11 +12,11 @@ ghost use Rattle.dbtg_step.specs.Machine.Network.{network};
 ghost use Rattle.dbtg_step.specs.Inside.Events.{IsWell};
 ghost use Rattle.dbtg_step.specs.Inside.Parts.{core_of};
 ghost use Rattle.dbtg_step.specs.Core.Parts.{CoreState, machine};
-ghost use Rattle.dbtg_step.specs.Inside.Turns.{LeadsBackTo};
+ghost use Rattle.dbtg_step.specs.Inside.Turns.{HaveTurned, LeadsBackTo};
 ghost use Rattle.dbtg_step.specs.Core.Newest.{newest_at};
 ghost use Rattle.dbtg_step.specs.Core.Positions.{position_at};
 ghost use Rattle.dbtg_step.specs.Core.Runs.{IsHandedOut};
-ghost use Rattle.dbtg_step.specs.Core.Turns.{AllBetween, HaveTurned};
+ghost use Rattle.dbtg_step.specs.Core.Turns.{AllBetween};
 ghost use Rattle.dbtg_step.specs.Core.Waiting.{TellsOfBlocked, blocking_of};
 
 use crate::imaging::{CellSource, read_image};

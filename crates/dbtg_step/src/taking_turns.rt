@@ -13,8 +13,8 @@ ghost use Rattle.dbtg_step.specs.Machine.Network.{network};
 ghost use Rattle.dbtg_step.specs.Core.Parts.{CoreParts, machine, unit_state_of};
 ghost use Rattle.dbtg_step.specs.Inside.Parts.{core_of, state_of};
 ghost use Rattle.dbtg_step.specs.Inside.Events.{IsWell};
-ghost use Rattle.dbtg_step.specs.Core.Turns.{AllBetween, AreGiven, HaveTurned, IsNoted, NotesMore, TurnedIs, TurnsLead};
-ghost use Rattle.dbtg_step.specs.Inside.Turns.{ChangesInTurn, IsDone, machine_cells, newest_untouched};
+ghost use Rattle.dbtg_step.specs.Core.Turns.{AllBetween, AreGiven, TurnedIs};
+ghost use Rattle.dbtg_step.specs.Inside.Turns.{ChangesInTurn, HaveTurned, IsDone, IsNoted, NotesMore, TurnsLead, machine_cells, newest_untouched};
 ghost use Rattle.dbtg_cells.specs.Cells.{shown};
 
 use crate::machine::Core;
@@ -58,18 +58,6 @@ pub struct Noted {
 }
 
 impl Noted {
-    /// Nothing yet.
-    pub(crate) fn new(alloc: Global, limit: usize) -> Noted
-        ensures limit { result.limit ≡ limit }
-        ensures nothing { IsNoted result [] }
-    {
-        Noted {
-            moves: Vec::new(alloc),
-            limit,
-            over: false,
-        }
-    }
-
     // Notes one more move.
     fn note(&mut self, made: Move) -> Result<(), AllocError>
         ensures { OnOk result (NotesMore self.old self.new (made ∷ [])) }
@@ -80,6 +68,18 @@ impl Noted {
             self.over = true;
         }
         Ok(())
+    }
+
+    /// Nothing yet.
+    pub(crate) fn new(alloc: Global, limit: usize) -> Noted
+        ensures limit { result.limit ≡ limit }
+        ensures nothing { IsNoted result [] }
+    {
+        Noted {
+            moves: Vec::new(alloc),
+            limit,
+            over: false,
+        }
     }
 
     /// The moves, if no more of them were made than the limit.

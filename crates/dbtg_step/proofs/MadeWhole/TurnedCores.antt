@@ -16,9 +16,8 @@ use Rattle.dbtg_step.specs.Machine.Machine.{UnitState}
 use Rattle.dbtg_step.specs.Machine.Network.{network}
 use Rattle.dbtg_step.specs.Machine.Headline.{units_from}
 use Rattle.dbtg_step.specs.Core.Parts.{CoreParts, CoreState, machine, state_from, unit_state_of}
-use Rattle.dbtg_step.specs.Core.Turns.{HaveTurned, IsNoted, TurnsLead}
 use Rattle.dbtg_step.specs.Inside.Parts.{state_of}
-use Rattle.dbtg_step.specs.Inside.Turns.{AreTaken, IsTaken, IsTurned, LeadsBackTo, first_core, scripts_of}
+use Rattle.dbtg_step.specs.Inside.Turns.{AreTaken, HaveTurned, IsNoted, IsTaken, IsTurned, LeadsBackTo, TurnsLead, first_core, scripts_of}
 use Rattle.dbtg_step.proofs.EachEvent.UnitLists.{map_set_same}
 use Rattle.dbtg_step.proofs.MadeWhole.TurnsTaken.{IsBetween, between_led, led_more, led_nowhere, opens_between}
 

@@ -25,10 +25,10 @@ use Rattle.dbtg_step.specs.Machine.SequentialDatabase.{HeldCell, In, NotAmong, u
 use Rattle.dbtg_step.specs.Machine.Machine.{CellLocation, HistoryEntry, Home, State, UnitState, relocated}
 use Rattle.dbtg_step.specs.Machine.Network.{network}
 use Rattle.dbtg_step.specs.Core.Parts.{CoreState, found_location, held_of, location_at, location_in, note_of, progress_of, state_from, unit_state_of, with_state}
-use Rattle.dbtg_step.specs.Core.Turns.{AllBetween, AreTurns, HaveTurned, IsTurnOf}
+use Rattle.dbtg_step.specs.Core.Turns.{AllBetween, AreTurns, IsTurnOf}
 use Rattle.dbtg_step.specs.Inside.Events.{IsWell, RunnerFits, RunnersFit, opening_for}
 use Rattle.dbtg_step.specs.Inside.Parts.{core_of, home_at, state_of, written_home, written_homes}
-use Rattle.dbtg_step.specs.Inside.Turns.{ChangesInTurn, IsGoneBack, IsWayBefore, LeadsBack, LeadsBackTo, machine_cells}
+use Rattle.dbtg_step.specs.Inside.Turns.{ChangesInTurn, HaveTurned, IsGoneBack, IsWayBefore, LeadsBack, LeadsBackTo, machine_cells}
 use Rattle.dbtg_step.proofs.EachEvent.UnitLists.{map_found, map_set, set_again, set_at, set_same}
 use Rattle.dbtg_step.proofs.Runs.Waiting.{came_from}
 use Rattle.dbtg_step.proofs.TheCore.CellsFound.{numbered}

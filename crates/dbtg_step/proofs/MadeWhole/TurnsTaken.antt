@@ -31,8 +31,8 @@ use Rattle.dbtg_step.specs.Core.Parts.{CoreParts, CoreState, machine, state_from
 use Rattle.dbtg_step.specs.Inside.Parts.{core_of, state_of}
 use Rattle.dbtg_step.specs.Inside.Events.{IsStepped, IsWell, opening_for}
 use Rattle.dbtg_step.specs.Core.Runs.{IsHandedOut}
-use Rattle.dbtg_step.specs.Core.Turns.{AllBetween, AreEvents, AreTurns, HaveTurned, IsBefore, IsNoted, IsRunByTurns, IsTurnOf, NotesMore, TurnsLead, left_of, lefts_of, made_turns, turns_ahead}
-use Rattle.dbtg_step.specs.Inside.Turns.{ChangesInTurn, IsDone, first_core, machine_cells, newest_untouched}
+use Rattle.dbtg_step.specs.Core.Turns.{AllBetween, AreEvents, AreTurns, IsBefore, IsRunByTurns, IsTurnOf, left_of, made_turns}
+use Rattle.dbtg_step.specs.Inside.Turns.{ChangesInTurn, HaveTurned, IsDone, IsNoted, NotesMore, TurnsLead, first_core, lefts_of, machine_cells, newest_untouched, turns_ahead}
 use Rattle.dbtg_step.proofs.TheCore.Alone.{OneStep, StepsAlone, Unticketed, one_step}
 use Rattle.dbtg_step.proofs.TheCore.EventsShown.{found}
 use Rattle.dbtg_step.proofs.Runs.Headlines.{machine_is_opening, run_is_sequential}

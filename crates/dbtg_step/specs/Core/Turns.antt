@@ -1,19 +1,17 @@
 -- Interleavings by whole statements: the moves that the turns of units stand for, and what they give.
-use Rattle.std.specs.Prelude.{ℕ, ◌≡◌, ◌≤◌, ◌<◌, ◌-◌, cond, nat_lt, List, [], ◌∷◌, ◌++◌, Option, Some, None, length, map, take}
+use Rattle.std.specs.Prelude.{ℕ, ◌≡◌, ◌≤◌, ◌<◌, ◌-◌, cond, nat_lt, List, [], ◌∷◌, ◌++◌, Option, Some, None, length, map}
 use Rattle.std.specs.Option.{unwrap_or}
 use Rattle.dbtg_schema.specs.Lists.{Lists}
 use Rattle.dbtg_unit.specs.declared.moves.Move.{Move}
 use Rattle.dbtg_unit.specs.declared.moves.Move.TheVariants.{Step}
 use Rattle.dbtg_unit.specs.declared.statement.Statement.{Statement}
 use Rattle.dbtg_step.specs.declared.results.Run.{Run}
-use Rattle.dbtg_step.specs.declared.taking_turns.Noted.{Noted}
 use Rattle.dbtg_step.specs.declared.taking_turns.Turned.{Turned}
 use Rattle.dbtg_step.specs.Machine.SequentialDatabase.{SequentialDatabase, unit_at, with_unit_at}
 use Rattle.dbtg_step.specs.Machine.Machine.{SequentialState, State, UnitState}
 use Rattle.dbtg_step.specs.Machine.Step.{MovedTo, step}
 use Rattle.dbtg_step.specs.Machine.Network.{network}
 use Rattle.dbtg_step.specs.Machine.Headline.{IsSequential, entry_of, machine_after, machine_of, opening_of}
-use Rattle.dbtg_step.specs.Core.Parts.{CoreState, with_state}
 
 -- WHAT TURNS STAND FOR
 
@@ -80,41 +78,6 @@ pub record TurnedIs (schema : Lists) (capacity : ℕ) (scripts : List (List Stat
   pub moves : List Move
   pub run : IsRunByTurns schema capacity scripts turns moves given.run
   pub given_moves : AreGiven limit moves given.moves
-
--- HOW A TURN GOES
-
-module _ (D : SequentialDatabase) where
-  -- how many statements each unit has left
-  abbrev pub lefts_of : State D → List ℕ
-  lefts_of s = map (λ state. length state.remaining) s.units
-
-  -- whose the entries are, and will be after these turns
-  abbrev pub turns_ahead : State D → List ℕ → List ℕ
-  turns_ahead s turns = map (λ e. e.unit) s.history ++ made_turns (lefts_of s) turns
-
--- what is noted of these moves: the first of them up to the limit, and whether there are more
-pub record IsNoted (noted : Noted) (moves : List Move) : Type 0 where
-  pub moves_are : noted.moves.items ≡ take noted.limit moves
-  pub over : noted.over ≡ nat_lt noted.limit (length moves)
-
--- these moves more are noted
-pub record NotesMore (old new : Noted) (moves : List Move) : Type 0 where
-  pub limit : new.limit ≡ old.limit
-  pub noted : (before : List Move) → IsNoted old before → IsNoted new (before ++ moves)
-
--- by these turns, which stand for these moves, the machine comes from c to d, where each unit is between statements again
-pub record TurnsLead (c : CoreState) (turns : List ℕ) (moves : List Move) (d : CoreState) : Type 0 where
-  pub reached : State (network c.schema c.capacity)
-  pub is : d ≡ with_state c reached
-  pub between : AllBetween (network c.schema c.capacity) reached
-  pub turns_are : AreTurns (network c.schema c.capacity) c.opening turns c.state moves reached
-  pub in_turn : (more : List ℕ) → turns_ahead (network c.schema c.capacity) c.state (turns ++ more) ≡ turns_ahead (network c.schema c.capacity) reached more
-
--- the same, and the moves are noted
-pub record HaveTurned (c : CoreState) (turns : List ℕ) (d : CoreState) (before after : Noted) : Type 0 where
-  pub moves : List Move
-  pub lead : TurnsLead c turns moves d
-  pub noted : NotesMore before after moves
 
 -- a core whose units have taken these turns, and nothing else, with these scripts; as many of the moves are noted as the limit allows
 pub record TurnedCore : Type 0 where

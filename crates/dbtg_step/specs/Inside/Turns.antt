@@ -18,11 +18,48 @@ use Rattle.dbtg_step.specs.Machine.SequentialDatabase.{HeldCell, HeldCells, In, 
 use Rattle.dbtg_step.specs.Machine.Machine.{HistoryEntry, Home, State, StatementProgress, UnitState}
 use Rattle.dbtg_step.specs.Machine.Network.{network}
 use Rattle.dbtg_step.specs.Machine.Headline.{machine_of, opening_of}
-use Rattle.dbtg_step.specs.Core.Parts.{CoreParts, CoreState, held_of, machine}
+use Rattle.dbtg_step.specs.Core.Parts.{CoreParts, CoreState, held_of, machine, with_state}
 use Rattle.dbtg_step.specs.Laws.{scripts_fit}
-use Rattle.dbtg_step.specs.Core.Turns.{AllBetween, IsNoted, TurnsLead}
+use Rattle.dbtg_step.specs.Core.Turns.{AllBetween, AreTurns, made_turns}
 use Rattle.dbtg_step.specs.Inside.Events.{IsWell}
 use Rattle.dbtg_step.specs.Inside.Parts.{core_of, state_of, written_homes}
+
+-- HOW A TURN GOES
+
+module _ (D : SequentialDatabase) where
+  -- how many statements each unit has left
+  abbrev pub lefts_of : State D → List ℕ
+  lefts_of s = map (λ state. length state.remaining) s.units
+
+  -- whose the entries are, and will be after these turns
+  abbrev pub turns_ahead : State D → List ℕ → List ℕ
+  turns_ahead s turns = map (λ e. e.unit) s.history ++ made_turns (lefts_of s) turns
+
+-- what is noted of these moves: the first of them up to the limit, and whether there are more
+pub record IsNoted (noted : Noted) (moves : List Move) : Type 0 where
+  pub moves_are : noted.moves.items ≡ take noted.limit moves
+  pub over : noted.over ≡ nat_lt noted.limit (length moves)
+
+-- these moves more are noted
+pub record NotesMore (old new : Noted) (moves : List Move) : Type 0 where
+  pub limit : new.limit ≡ old.limit
+  pub noted : (before : List Move) → IsNoted old before → IsNoted new (before ++ moves)
+
+-- by these turns, which stand for these moves, the machine comes from c to d, where each unit is between statements again
+pub record TurnsLead (c : CoreState) (turns : List ℕ) (moves : List Move) (d : CoreState) : Type 0 where
+  pub reached : State (network c.schema c.capacity)
+  pub is : d ≡ with_state c reached
+  pub between : AllBetween (network c.schema c.capacity) reached
+  pub turns_are : AreTurns (network c.schema c.capacity) c.opening turns c.state moves reached
+  pub in_turn : (more : List ℕ) → turns_ahead (network c.schema c.capacity) c.state (turns ++ more) ≡ turns_ahead (network c.schema c.capacity) reached more
+
+-- the same, and the moves are noted
+pub record HaveTurned (c : CoreState) (turns : List ℕ) (d : CoreState) (before after : Noted) : Type 0 where
+  pub moves : List Move
+  pub lead : TurnsLead c turns moves d
+  pub noted : NotesMore before after moves
+
+-- ONE TURN, AND THE WAY BACK
 
 module _ (D : SequentialDatabase) where
   -- between statements, with at most n of them left

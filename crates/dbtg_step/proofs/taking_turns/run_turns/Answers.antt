@@ -3,7 +3,8 @@ use Rattle.std.proofs.lemmas.Result.{IfOk-weaker}
 use Rattle.dbtg_unit.specs.declared.moves.Move.{Move}
 use Rattle.dbtg_step.specs.Core.Parts.{CoreParts, CoreState, machine}
 use Rattle.dbtg_step.specs.Core.Runs.{IsHandedOut}
-use Rattle.dbtg_step.specs.Core.Turns.{AreGiven, TurnsLead}
+use Rattle.dbtg_step.specs.Core.Turns.{AreGiven}
+use Rattle.dbtg_step.specs.Inside.Turns.{TurnsLead}
 use Rattle.dbtg_step.proofs.MadeWhole.TurnsTaken.{opened, opens_between, turns_handed}
 use Rattle.dbtg_step.proofs.taking_turns.run_turns.Goals as goal
 

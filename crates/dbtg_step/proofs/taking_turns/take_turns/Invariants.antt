@@ -1,7 +1,7 @@
 use Rattle.std.proofs.Common.{take}
 use Rattle.dbtg_step.specs.Inside.Events.{IsWell}
 use Rattle.dbtg_step.specs.Inside.Parts.{core_of}
-use Rattle.dbtg_step.specs.Core.Turns.{HaveTurned}
+use Rattle.dbtg_step.specs.Inside.Turns.{HaveTurned}
 use Rattle.dbtg_step.proofs.taking_turns.take_turns.Given as goal
 
 abbrev pub invariant-loop-unit : goal.invariant-loop-unit
