@@ -24,8 +24,7 @@ use Rattle.dbtg_script.specs.declared.limits.TheConstants.{MOST_MOVES}
 use Rattle.dbtg_script.specs.Statements.{script}
 use Rattle.dbtg_script.specs.Printing.WordTexts.{moves_words_text, turns_text}
 use Rattle.dbtg_step.specs.declared.results.Run.{Run}
-use Rattle.dbtg_step.specs.declared.taking_turns.Turned.{Turned}
-use Rattle.dbtg_step.specs.Core.Turns.{AreGiven, IsRunByTurns, TurnedCore, TurnedIs}
+use Rattle.dbtg_step.specs.Core.Turns.{AreGiven, IsRunByTurns, TurnedCore}
 use Rattle.dbtg_unit.specs.declared.moves.Move.{Move}
 use Rattle.dbtg_command.specs.declared.fault.Fault.{Fault}
 use Rattle.dbtg_command.specs.declared.fault.Fault.TheVariants.{Memory, MovesOver}
@@ -163,14 +162,6 @@ runs_on m core new turns is runs = record {
   scripts = ap (λ (c : TurnedCore). c.scripts) is ∙ runs.scripts;
   limit = ap (λ (c : TurnedCore). c.limit) is ∙ runs.limit;
 }
-
--- what a core of the meeting gives
-pub turned_in : (m : Meeting) (core : TurnedCore) (given : Turned) → RunsMeeting m core → TurnedIs core.schema core.capacity core.scripts core.turns core.limit given → TurnedIs m.schema m.capacity m.scripts core.turns MOST_MOVES given
-turned_in m core given runs turned =
-    subst (λ limit. TurnedIs m.schema m.capacity m.scripts core.turns limit given) runs.limit
-    (subst (λ scripts. TurnedIs m.schema m.capacity scripts core.turns core.limit given) runs.scripts
-    (subst (λ capacity. TurnedIs m.schema capacity core.scripts core.turns core.limit given) runs.capacity
-    (subst (λ schema. TurnedIs schema core.capacity core.scripts core.turns core.limit given) runs.schema turned)))
 
 -- the next result
 module _ (m : Meeting) (all : Outcomes) (i : ℕ) (one : OneResult) (below : i < length all.results.items) (at : one ≡ get_or all.results.items i one) where

@@ -270,13 +270,27 @@ fn outcomes_text(
     ensures refused { IfErr result (λ fault. IsUntold meeting.now all.now fault) }
 {
     let mut out = Vec::new(alloc);
-    push_summary(&mut out, all)?;
+    if push_summary(&mut out, all).is_err() {
+        core.discard();
+        return Err(Fault::Memory);
+    }
     let mut number = 0;
     for one in &all.results {
         number += 1;
         core = core.after(one.turns.as_slice())?;
-        let turned = core.turned()?;
-        push_result(alloc, &mut out, meeting, showing, number, one, turned)?;
+        match core.turned() {
+            Ok(turned) => {
+                let pushed = push_result(alloc, &mut out, meeting, showing, number, one, turned);
+                if let Err(fault) = pushed {
+                    core.discard();
+                    return Err(fault);
+                }
+            }
+            Err(_) => {
+                core.discard();
+                return Err(Fault::Memory);
+            }
+        }
     }
     core.discard();
     Ok(out)
