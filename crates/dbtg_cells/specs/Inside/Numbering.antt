@@ -3,7 +3,7 @@ use Rattle.std.specs.Prelude.{◌≡◌, ℕ, ◌<◌, ◌≤◌, ◌^◌, List}
 use Rattle.dbtg_cells.specs.declared.extent.Number.{Number}
 use Rattle.dbtg_cells.specs.Numbers.{numbers_where, is_used, is_free}
 
--- of the numbers that have an entry, the live and the free ones are listed
+-- the live and the free numbers that have an entry are listed
 pub record IsNumbered (numbers : List Number) (live free : List ℕ) : Type 0 where
   pub live_is : live ≡ numbers_where is_used numbers
   pub free_is : free ≡ numbers_where is_free numbers
