@@ -3,7 +3,7 @@
 //! docs/profile/statuses.md.
 
 use cells::lets_a_cell_go;
-use dbtg_cells::{Cell, CellName, DbKey, Owner, Usage};
+use dbtg_cells::{Cell, CellName, DbKey, MaybeOwner, Owner, Usage};
 use dbtg_schema::{AreaNo, RecordNo};
 use dbtg_unit::{Cause, Form, Held, Kept, Owners, Statement, Status, Suppress};
 use std::alloc::{AllocError, Global};
@@ -23,6 +23,11 @@ fn key(number: u32, generation: u8) -> DbKey {
         number,
         generation,
     }
+}
+
+// Are these the wanted owners, set by set?
+fn are_owners(owners: &[MaybeOwner], wanted: &[Option<Owner>]) -> bool {
+    owners.len() == wanted.len() && owners.iter().zip(wanted).all(|(one, other)| one.get() == *other)
 }
 
 #[test]
@@ -104,6 +109,6 @@ fn owner_is_set_in_its_set(rt: HostRuntime) {
     owners.set(1, Some(Owner::System));
     let shown = owners.as_slice();
     assert_eq!(rt; shown.len(), 2);
-    assert_eq!(rt; shown.get(0).copied(), Some(None));
-    assert_eq!(rt; shown.get(1).copied(), Some(Some(Owner::System)));
+    assert_eq!(rt; shown.get(0).map(|owner| owner.get()), Some(None));
+    assert_eq!(rt; shown.get(1).map(|owner| owner.get()), Some(Some(Owner::System)));
 }

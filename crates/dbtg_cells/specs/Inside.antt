@@ -3,6 +3,7 @@
 pub mod ByCalc
 pub mod Chain
 pub mod Links
+pub mod MaybeOwners
 pub mod MemberLists
 pub mod Numbering
 pub mod Ordered

@@ -1,6 +1,8 @@
 -- What each kind of cell shows, and the room that is reserved in it, which is not shown.
 use Rattle.std.specs.Prelude.{ℕ, List, Option}
 use Rattle.dbtg_cells.specs.declared.key.DbKey.{DbKey}
+use Rattle.dbtg_cells.specs.declared.key.Owner.{Owner}
+use Rattle.dbtg_cells.specs.declared.key.Value.{Value}
 use Rattle.dbtg_cells.specs.declared.usage.Mode.{Mode}
 use Rattle.dbtg_cells.specs.declared.extent.Number.{Number}
 use Rattle.dbtg_cells.specs.declared.ring.Occurrence.{Occurrence}
@@ -26,3 +28,7 @@ pub data CellValue : Type 0 where
   ExtentValue : List Number → CellValue
   RingValue : Option Occurrence → CellValue
   SlotValue : Option Stored → CellValue
+
+-- a record as it is stored first
+abbrev pub first_version : ℕ → List Value → List (Option Owner) → Stored
+first_version generation items owners = record { generation = generation; version = 1; items = items; owners = owners }

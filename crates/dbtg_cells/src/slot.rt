@@ -2,8 +2,10 @@
 ghost use Rattle.std.specs.Prelude.{◌≡◌, ℕ, ◌+◌, ◌^◌, ◌<◌, List, Option, Some, None, IfOk, is_some, option_map, option_and_then, slice_set, nat_lt, ◌==◌};
 ghost use Rattle.std.specs.Option.{option_copied};
 ghost use Rattle.dbtg_schema.specs.Lookups.{at, some_and};
+ghost use Rattle.dbtg_cells.specs.Shown.{first_version};
 
 use crate::key::{Owner, Value};
+use crate::maybe_owner::{MaybeOwner, owner_at};
 use crate::value::copy_items;
 use dbtg_schema::{Row, SetNo};
 use std::alloc::{AllocError, Global};
@@ -15,7 +17,7 @@ pub struct Stored {
     pub generation: u8,
     pub version: u64,
     pub items: Row<Value>,
-    pub owners: Row<Option<Owner>>,
+    pub owners: Row<MaybeOwner>,
 }
 
 impl Stored {
@@ -34,19 +36,55 @@ impl Stored {
     }
 }
 
-/// The record of one number, or none.
+/// A record in its first version, which a slot can get without memory.
+#[derive(Drop)]
+pub struct NewRecord {
+    stored: Box<Stored>,
+}
+
+impl Model for NewRecord {
+    ghost use Rattle.dbtg_cells.specs.declared.slot.Stored.{Stored};
+
+    ghost Value = { Stored };
+
+    ghost view = { λ r. r.stored.value };
+}
+
+impl NewRecord {
+    /// The record with these items and owners, with version 1.
+    pub fn new(
+        alloc: Global,
+        generation: u8,
+        items: Row<Value>,
+        owners: Row<MaybeOwner>,
+    ) -> Result<Self, AllocError>
+        ensures { IfOk result (λ made. made ≡ first_version generation items owners) }
+    {
+        let stored = Stored {
+            generation,
+            version: 1,
+            items,
+            owners,
+        };
+        Ok(Self {
+            stored: Box::new(alloc, stored)?,
+        })
+    }
+}
+
+/// The record of one number, or none. The record lies apart, so that a vacant slot is small.
 #[derive(Drop)]
 pub struct Slot {
-    stored: Option<Stored>,
+    stored: Option<Box<Stored>>,
 }
 
 impl Model for Slot {
-    ghost use Rattle.std.specs.Prelude.{Option};
+    ghost use Rattle.std.specs.Prelude.{Option, option_map};
     ghost use Rattle.dbtg_cells.specs.declared.slot.Stored.{Stored};
 
     ghost Value = { Option Stored };
 
-    ghost view = { λ s. s.stored };
+    ghost view = { λ s. option_map (λ b. b.value) s.stored };
 }
 
 impl Slot {
@@ -62,7 +100,7 @@ impl Slot {
         ensures { IfOk result (λ slot. slot ≡ self.now) }
     {
         let stored = match &self.stored {
-            Some(stored) => Some(stored.copy(alloc)?),
+            Some(stored) => Some(Box::new(alloc, stored.copy(alloc)?)?),
             None => None,
         };
         Ok(Self { stored })
@@ -79,27 +117,24 @@ impl Slot {
     pub fn record(&self) -> Option<&Stored>
         ensures { option_copied result ≡ self.now }
     {
-        self.stored.as_ref()
+        match &self.stored {
+            Some(stored) => Some(&**stored),
+            None => None,
+        }
     }
 
     /// The owner to whose list of the set the record belongs.
     pub fn owner(&self, set: SetNo) -> Option<Owner>
         ensures { result ≡ option_and_then (λ r. at r.owners set) self.now }
     {
-        let owners = self.record()?.owners.as_slice();
-        *owners.get(set.index() as usize)?
+        owner_at(self.record()?.owners.as_slice(), set.index() as usize)
     }
 
-    /// Stores a new record, with version 1, in place of what was there.
-    pub fn fill(&mut self, generation: u8, items: Row<Value>, owners: Row<Option<Owner>>)
-        ensures { self.new ≡ Some (record { generation = generation; version = 1; items = items; owners = owners }) }
+    /// Stores a new record in place of what was there.
+    pub fn fill(&mut self, stored: NewRecord)
+        ensures { self.new ≡ Some stored }
     {
-        self.stored = Some(Stored {
-            generation,
-            version: 1,
-            items,
-            owners,
-        });
+        self.stored = Some(stored.stored);
     }
 
     /// Takes the record away.
@@ -125,7 +160,7 @@ impl Slot {
         if let Some(record) = &mut self.stored {
             let at = set.index() as usize;
             if at < record.owners.as_slice().len() {
-                record.owners.set(at, owner);
+                record.owners.set(at, MaybeOwner::of(owner));
             }
         }
     }

@@ -10,11 +10,9 @@ ghost use Rattle.dbtg_unit.specs.Hands.InHand.{owner_in};
 ghost use Rattle.dbtg_erase.specs.Inside.ErasePlan.{going_edits, lose_owner};
 
 use crate::keys::Keys;
-use dbtg_cells::{CellName, DbKey, Owner};
+use dbtg_cells::{CellName, DbKey, Owner, owner_at};
 use dbtg_schema::{Row, Schema, SetNo};
-use dbtg_unit::{
-    CellEdit, Edit, Erased, Held, entry_at, owner_in, owners_of, push_taking_out, set_count,
-};
+use dbtg_unit::{CellEdit, Edit, Erased, Held, owner_in, owners_of, push_taking_out, set_count};
 use std::alloc::{AllocError, Global};
 
 // Adds an edit of the slot of a key.
@@ -73,7 +71,7 @@ fn leave_each_list(
 {
     let owners = owners_of(held, key);
     for s in 0..set_count(schema) {
-        let owner = staying_owner(gone, entry_at(owners, s as usize));
+        let owner = staying_owner(gone, owner_at(owners, s as usize));
         push_taking_out(edits, SetNo::new(s), owner, key)?;
     }
     Ok(())

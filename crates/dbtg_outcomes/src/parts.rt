@@ -1,9 +1,9 @@
 //! The parts of a database and of its units, spelled as numbers.
-ghost use Rattle.dbtg_outcomes.specs.Spelling.{currency_numbers, kept_numbers, key_numbers, mode_numbers, owner_numbers, place_numbers, unit_numbers, value_numbers};
-ghost use Rattle.dbtg_outcomes.specs.Inside.Spelling.{currency_apart, kept_apart, key_apart, mode_apart, owner_apart, place_apart, unit_apart, value_apart};
+ghost use Rattle.dbtg_outcomes.specs.Spelling.{currency_numbers, kept_numbers, key_numbers, mode_numbers, option_numbers, owner_numbers, place_numbers, unit_numbers, value_numbers};
+ghost use Rattle.dbtg_outcomes.specs.Inside.Spelling.{currency_apart, kept_apart, key_apart, mode_apart, option_apart, owner_apart, place_apart, unit_apart, value_apart};
 
 use crate::spelled::{Spelled, spell_list};
-use dbtg_cells::{DbKey, Mode, Owner, Value};
+use dbtg_cells::{DbKey, MaybeOwner, Mode, Owner, Value};
 use dbtg_unit::{Currency, Kept, Place, Unit};
 use std::alloc::AllocError;
 
@@ -37,6 +37,16 @@ impl Spelled for Owner {
     }
 
     ghost apart = { owner_apart };
+}
+
+impl Spelled for MaybeOwner {
+    ghost numbers = { option_numbers owner_numbers };
+
+    fn spell(&self, out: &mut Vec<u64>) -> Result<(), AllocError> {
+        self.get().spell(out)
+    }
+
+    ghost apart = { option_apart owner_numbers owner_apart };
 }
 
 impl Spelled for Mode {

@@ -49,11 +49,11 @@ fn found_in(
         Form::InSet { which, rtype, set } => {
             set::find_member(schema, unit, held, *which, *rtype, *set)
         }
-        Form::Sorted { set, value } => set::find_by_sort_key(schema, unit, held, value, *set),
+        Form::Sorted { set, value } => set::find_by_sort_key(schema, unit, held, value.get(), *set),
         Form::InArea { which, rtype, area } => {
             area::find_in_area(schema, capacity, unit, held, *which, *rtype, *area)
         }
-        Form::Calc { rtype, values } => equal::find_calc(held, *rtype, values.as_slice()),
+        Form::Calc { rtype, values } => equal::find_calc(held, *rtype, values.get().as_slice()),
         Form::NextDuplicate(rtype) => equal::find_duplicate(unit, held, *rtype),
     }
 }

@@ -2,6 +2,7 @@
 ghost use Rattle.std.specs.Prelude.{◌≡◌, ℕ, ◌==◌, ◌++◌, [], ◌∷◌, false, None, is_none, if◌then◌else◌, IfOk, OnErr, OnOk};
 ghost use Rattle.std.specs.List.{flat_map, list_any};
 ghost use Rattle.dbtg_cells.specs.declared.key.DbKey.{DbKey};
+ghost use Rattle.dbtg_cells.specs.Shown.{first_version};
 ghost use Rattle.dbtg_schema.specs.Lookups.{first_cause};
 ghost use Rattle.dbtg_schema.specs.Structure.{automatic_sets, owns};
 ghost use Rattle.dbtg_unit.specs.Database.Statements.Checks.{place_checks, store_checks, refused_at_once};
@@ -23,7 +24,7 @@ use crate::joining::{current_owner, joining_edit, make_room, place_refusal};
 use crate::members::{copy_sort_key, slot_edit};
 use crate::missing::{missing, missing_ring, missing_slot};
 use crate::unit_alone;
-use dbtg_cells::{CellName, DbKey, Owner, Value, copy_items};
+use dbtg_cells::{CellName, DbKey, NewRecord, Owner, Value, copy_items};
 use dbtg_schema::{RecordNo, Row, Schema, SetNo};
 use dbtg_unit::{
     Answer, Cause, CellEdit, Edit, Held, Owners, Prepared, Status, Suppress, Unit, UnitEdit,
@@ -317,18 +318,12 @@ fn filling(
     items: &Row<Value>,
     owners: &Owners,
 ) -> Result<CellEdit, AllocError>
-    ensures { IfOk result (λ edit. edit ≡ slot_edit key.now (Edit.Fill key.now.generation items.now owners.now)) }
+    ensures { IfOk result (λ edit. edit ≡ slot_edit key.now (Edit.Fill (first_version key.now.generation items.now owners.now))) }
 {
     let owners = Row::of(Vec::from_slice(alloc, owners.as_slice())?);
     let items = copy_items(items, alloc)?;
-    Ok(slot_edit(
-        key,
-        Edit::Fill {
-            generation: key.generation,
-            items,
-            owners,
-        },
-    ))
+    let stored = NewRecord::new(alloc, key.generation, items, owners)?;
+    Ok(slot_edit(key, Edit::Fill { stored }))
 }
 
 fn edits_of(

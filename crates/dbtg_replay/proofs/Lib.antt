@@ -6,5 +6,6 @@ mod UnitsOfTurns
 mod SameRun
 mod MovesOfTurns
 mod MadeAgain
+mod Printed
 mod ReadBack
 pub mod Public

@@ -3,3 +3,4 @@ pub mod Explaining
 pub mod Replaying
 pub mod ByTurns
 pub mod Laws
+pub mod Inside

@@ -8,6 +8,7 @@ mod laws;
 mod ordering;
 pub mod replay;
 mod scripts;
+mod serial;
 mod turns;
 
 pub use explaining::said_of_run;

@@ -15,6 +15,7 @@ ghost use Rattle.dbtg_command.specs.declared.order.OrderKind.{OrderKind as Kind}
 
 use crate::ordering::{AllMoves, behind, moves_behind_first, serial_turns, turns_behind_first};
 use crate::scripts::{Scripts, read_scripts_with_texts};
+use crate::serial::answered_text;
 use dbtg_command::{Fault, OrderKind, Source, read_moves, read_schema, read_turns};
 use dbtg_refusal::said_of_history;
 use dbtg_schema::{Row, Schema};
@@ -145,7 +146,7 @@ fn text_with_moves(
     Ok(out)
 }
 
-// Runs one script after the other.
+// Runs one script after the other. The answers alone are printed as they come; any other form looks at the whole history.
 fn serial_text(
     alloc: Global,
     schema: &Schema,
@@ -158,6 +159,9 @@ fn serial_text(
     requires fit { scripts_fit schema.now scripts ≡ true }
     ensures { IfOk result (λ out. IsPrinted (SerialRunIs schema.now capacity scripts) (shown_text schema.now shown.entry.form shown.entry.texts.now) out.items) }
 {
+    if let AnswerForm::Plain = shown.form {
+        return answered_text(alloc, schema, capacity, scripts);
+    }
     let given = run_serial(alloc, schema, capacity, scripts)?;
     let text = text_of(alloc, schema, shown, &given);
     given.discard();

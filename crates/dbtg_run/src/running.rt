@@ -29,6 +29,7 @@ pub fn run_script<R: Wait, G: Gate>(
     ensures room { OnErr result (length unit.new.journal < MOST_STATEMENTS) }
     ensures whole { IfOk result (λ _. IsWhole script.now unit.old unit.new) }
 {
+    unit.make_room(script.len());
     'script: for statement in script {
         match db.insist_at(rt, alloc, unit, statement, gate) {
             Outcome::Done(_) => {}

@@ -79,14 +79,22 @@ impl RunUnit {
         &self.work.about
     }
 
-    // The unit's seat alone.
-    pub(crate) fn into_seat(self) -> Chair
-        ensures table { result.table_id ≡ self.table }
+    // The unit's seat and its journal alone.
+    pub(crate) fn into_parts(self) -> (Chair, Vec<Entry>)
+        ensures table { result.0.table_id ≡ self.table }
         ensures numbered { 0 < self.unit.number }
-        ensures seat { (x : Bool) × (result.me ≡ (lone self.about (resting (self, x)), [])) }
+        ensures seat { (x : Bool) × (result.0.me ≡ (lone self.about (resting (self, x)), [])) }
+        ensures journal { result.1.items ≡ self.journal }
     {
         let Self { work } = self;
-        let Work { seat, .. } = Box::into_inner(work);
-        seat
+        let Work { seat, journal, .. } = Box::into_inner(work);
+        (seat, journal)
+    }
+
+    // Takes room for this many more entries, if it can be had.
+    pub(crate) fn make_room(&mut self, entries: usize)
+        ensures { self.new ≡ self.old }
+    {
+        drop(self.work.journal.reserve(entries));
     }
 }

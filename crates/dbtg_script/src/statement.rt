@@ -294,10 +294,7 @@ fn by_calc(alloc: Global, words: &Words) -> Result<Form, AllocError>
 {
     let rtype = words.type_in();
     let values = calc_values(alloc, words.schema(), rtype, words.list())?;
-    Ok(Form::Calc {
-        rtype,
-        values: Row::of(values),
-    })
+    Form::by_calc(alloc, rtype, Row::of(values))
 }
 
 fn by_sort_key(alloc: Global, words: &Words) -> Result<Form, AllocError>
@@ -306,7 +303,7 @@ fn by_sort_key(alloc: Global, words: &Words) -> Result<Form, AllocError>
     let set = set_in(words);
     let picture = picture_or_none(sort_picture(words.schema(), set));
     let value = value_for(alloc, picture, first_word(words.list(), Role::SortedValue))?;
-    Ok(Form::Sorted { set, value })
+    Form::by_sort_key(alloc, set, value)
 }
 
 fn form_of(alloc: Global, words: &Words) -> Result<Form, AllocError>

@@ -157,7 +157,10 @@ fn by_sort_key(
     };
     match usual_value(alloc, picture, token)? {
         None => Ok(None),
-        Some(value) => Ok(Some(find(Form::Sorted { set, value }))),
+        Some(value) => {
+            let form = Form::by_sort_key(alloc, set, value)?;
+            Ok(Some(find(form)))
+        }
     }
 }
 
@@ -234,10 +237,8 @@ fn by_calc(alloc: Global, schema: &Schema, left: &mut Left) -> Result<Option<Sta
             }
             let mut values = Vec::with_capacity(alloc, 1)?;
             values.push(change.value)?;
-            Ok(Some(find(Form::Calc {
-                rtype,
-                values: Row::of(values),
-            })))
+            let form = Form::by_calc(alloc, rtype, Row::of(values))?;
+            Ok(Some(find(form)))
         }
     }
 }

@@ -132,6 +132,12 @@ pub use Rattle.dbtg_step.proofs.TheCore.PlacesOfCells.{held_behind}
 pub use Rattle.dbtg_step.proofs.TheCore.PlacesOfCells.{number_within}
 -- STATEMENTS MADE WHOLE
 
+-- a database stands where it stood if nothing is made
+pub use Rattle.dbtg_step.proofs.MadeWhole.Bares.{continues_nothing}
+-- entries that continue a history, and entries that continue it then
+pub use Rattle.dbtg_step.proofs.MadeWhole.Bares.{continues_on}
+-- the statements of all scripts, one script after another, are a serial run, with what they lead to
+pub use Rattle.dbtg_step.proofs.MadeWhole.SerialShown.{serial_led}
 -- where all entries fit, they do with one more that fits
 pub use Rattle.dbtg_step.proofs.MadeWhole.Audits.{fits_more}
 -- what a test decides, where it passes

@@ -4,6 +4,7 @@
 -- Promises: `Core` is a page that a caller can rely on; `CoreSteps`, `Runs`, `Serial`, `Turns`, `Audit` are what the calls
 -- ensure.
 pub mod Audit
+pub mod Bare
 pub mod Core
 pub mod CoreSteps
 pub mod Courses

@@ -1,17 +1,18 @@
 //! The audit of a history: the statement of each entry is made again, and its answer compared.
-ghost use Rattle.std.specs.Prelude.{◌≡◌, ◌<◌, ◌-◌, ◌==◌, ◌&&◌, [], nat_lt, nat_le, length, slice_get, Some, IfOk, OnErr};
+ghost use Rattle.std.specs.Prelude.{◌≡◌, ◌==◌, ◌&&◌, [], ◌∷◌, List, nat_lt, nat_le, length, IfOk, OnErr};
 ghost use Rattle.std.specs.Bool.{Decides, MatchBool};
 ghost use Rattle.dbtg_schema.specs.Sound.{IsSound};
 ghost use Rattle.dbtg_unit.specs.declared.unit.Entry.{Entry};
 ghost use Rattle.dbtg_unit.specs.Database.Statements.Fits.{fits};
 ghost use Rattle.dbtg_unit.specs.Database.Laws.Replay.{IsHistoryOf};
-ghost use Rattle.dbtg_step.specs.Inside.Audit.{GoesOn, HasJoined, MayStand};
-ghost use Rattle.dbtg_step.specs.Core.Audit.{IsAudited, MayBeHistory};
+ghost use Rattle.dbtg_step.specs.Core.Audit.{IsAudited, MayBeHistory, entries_at};
+ghost use Rattle.dbtg_step.specs.Core.Bare.{Continues, StandsAfter};
+ghost use Rattle.dbtg_step.specs.Inside.Audit.{GoesOn, MayStand, with_history};
 
+use crate::bare::BareDatabase;
 use crate::comparing::same_answer;
-use crate::whole::WholeDatabase;
 use dbtg_schema::{Row, Schema};
-use dbtg_unit::{Answer, Entry, Image, Unit};
+use dbtg_unit::{Entry, Image, Unit};
 use std::alloc::{AllocError, Global};
 
 // Whether the entry may be at this place of a history: by its ticket, its unit, and whether its statement fits.
@@ -36,63 +37,64 @@ fn may_be_history(schema: &Schema, units: u8, history: &[Entry]) -> bool
     true
 }
 
-// Whether the newest entry has this answer.
-fn newest_has(history: &[Entry], answer: &Answer) -> bool
-    requires { 0 < length history.now }
-    ensures { (e : Entry) → slice_get history.now (length history.now - 1) ≡ Some e → Decides result (e.answer ≡ answer.now) }
+// The same of a list whose entries stand elsewhere.
+fn each_may_stand(schema: &Schema, units: u8, history: &[&Entry]) -> bool
+    ensures { Decides result (MayBeHistory schema.now units (entries_at history.now)) }
 {
-    same_answer(&history[history.len() - 1].answer, answer)
+    for (place, entry) in history.iter().enumerate() {
+        if !may_stand(schema, units, place, *entry) {
+            return false;
+        }
+    }
+    true
+}
+
+// Where each entry of a list stands.
+fn each_of(alloc: Global, history: &[Entry]) -> Result<Vec<&Entry>, AllocError>
+    ensures { IfOk result (λ entries. entries_at entries.items ≡ history.now) }
+{
+    let mut entries = Vec::with_capacity(alloc, history.len())?;
+    for entry in history {
+        entries.push(entry)?;
+    }
+    Ok(entries)
 }
 
 // Makes the statement of the next entry; whether its answer is then the entry's.
-fn takes(alloc: Global, database: &mut WholeDatabase<'_>, entry: &Entry) -> Result<bool, AllocError>
-    requires { MayStand database.old.schema database.old.units (length database.old.history) entry.now }
-    ensures { IfOk result (λ follows. MatchBool follows (HasJoined entry.now database.old database.new) (GoesOn database.old entry.now → ⊥)) }
+fn takes(database: &mut BareDatabase<'_>, entry: &Entry) -> Result<bool, AllocError>
+    requires may { MayStand database.old.schema (length database.old.units) database.old.count entry.now }
+    requires stands { (history : List Entry) × StandsAfter database.old history }
+    ensures { IfOk result (λ follows. MatchBool follows (Continues database.old (entry.now ∷ []) database.new) ((history : List Entry) → StandsAfter database.old history → GoesOn (with_history database.old history) entry.now → ⊥)) }
 {
-    database.make(entry.unit, entry.statement.copy(alloc)?)?;
-    Ok(newest_has(database.history(), &entry.answer))
+    let answer = database.answer(entry.unit, &entry.statement)?;
+    Ok(same_answer(&entry.answer, &answer))
 }
 
 // Makes the statements of the entries, one after another, as long as each has its entry's answer; whether all of them do.
-fn takes_all(
-    alloc: Global,
-    database: &mut WholeDatabase<'_>,
-    history: &[Entry],
-) -> Result<bool, AllocError>
-    requires may { MayBeHistory database.old.schema database.old.units history.now }
-    requires fresh { database.old.history ≡ [] }
-    ensures { IfOk result (λ all. MatchBool all (database.new ≡ record database.old { history = history.now }) (IsHistoryOf database.old.schema database.old.capacity database.old.units history.now → ⊥)) }
+fn takes_all(database: &mut BareDatabase<'_>, history: &[&Entry]) -> Result<bool, AllocError>
+    requires may { MayBeHistory database.old.schema (length database.old.units) (entries_at history.now) }
+    requires fresh { StandsAfter database.old [] }
+    ensures { IfOk result (λ all. MatchBool all (Continues database.old (entries_at history.now) database.new) (IsHistoryOf database.old.schema database.old.capacity (length database.old.units) (entries_at history.now) → ⊥)) }
 {
     for entry in history {
-        if !takes(alloc, database, entry)? {
+        if !takes(database, *entry)? {
             return Ok(false);
         }
     }
     Ok(true)
 }
 
-// The image and the units of a database.
-fn image_and_units(database: WholeDatabase<'_>) -> Result<Option<(Image, Row<Unit>)>, AllocError>
-    ensures { IfOk result (λ found. IsAudited database.entry.schema database.entry.capacity database.entry.units database.entry.history found) }
-{
-    match database.into_run() {
-        Ok(run) => Ok(Some((run.image, run.units))),
-        Err(error) => Err(error),
-    }
-}
-
 // The audit of a history by a database on which nothing was made yet.
 fn audit_from(
-    alloc: Global,
-    mut database: WholeDatabase<'_>,
-    history: &[Entry],
+    mut database: BareDatabase<'_>,
+    history: &[&Entry],
 ) -> Result<Option<(Image, Row<Unit>)>, AllocError>
-    requires may { MayBeHistory database.schema database.units history.now }
-    requires fresh { database.history ≡ [] }
-    ensures { IfOk result (λ found. IsAudited database.entry.schema database.entry.capacity database.entry.units history.now found) }
+    requires may { MayBeHistory database.schema (length database.units) (entries_at history.now) }
+    requires fresh { StandsAfter database [] }
+    ensures { IfOk result (λ found. IsAudited database.entry.schema database.entry.capacity (length database.entry.units) (entries_at history.now) found) }
 {
-    match takes_all(alloc, &mut database, history) {
-        Ok(true) => image_and_units(database),
+    match takes_all(&mut database, history) {
+        Ok(true) => Ok(Some(database.into_image_and_units()?)),
         Ok(false) => {
             drop(database);
             Ok(None)
@@ -101,6 +103,24 @@ fn audit_from(
             drop(database);
             Err(error)
         }
+    }
+}
+
+// The audit of a list that may be a history.
+fn audit_judged(
+    alloc: Global,
+    schema: &Schema,
+    capacity: u16,
+    units: u8,
+    history: &[&Entry],
+) -> Result<Option<(Image, Row<Unit>)>, AllocError>
+    requires sound { IsSound schema.now }
+    requires may { MayBeHistory schema.now units (entries_at history.now) }
+    ensures { IfOk result (λ found. IsAudited schema.now capacity units (entries_at history.now) found) }
+{
+    match BareDatabase::opening(alloc, schema, capacity, units) {
+        Ok(database) => audit_from(database, history),
+        Err(error) => Err(error),
     }
 }
 
@@ -122,8 +142,24 @@ pub fn audit(
     if !may_be_history(schema, units, history) {
         return Ok(None);
     }
-    match WholeDatabase::opening(alloc, schema, capacity, units) {
-        Ok(database) => audit_from(alloc, database, history),
-        Err(error) => Err(error),
+    let entries = each_of(alloc, history)?;
+    audit_judged(alloc, schema, capacity, units, entries.as_slice())
+}
+
+/// The audit of a list whose entries stand elsewhere. They are judged first too, as far as they can be without a database.
+pub fn audit_each(
+    alloc: Global,
+    schema: &Schema,
+    capacity: u16,
+    units: u8,
+    history: &[&Entry],
+) -> Result<Option<(Image, Row<Unit>)>, AllocError>
+    requires sound { IsSound schema.now }
+    ensures audited { IfOk result (λ found. IsAudited schema.now capacity units (entries_at history.now) found) }
+    ensures memory { OnErr result (MayBeHistory schema.now units (entries_at history.now)) }
+{
+    if !each_may_stand(schema, units, history) {
+        return Ok(None);
     }
+    audit_judged(alloc, schema, capacity, units, history)
 }

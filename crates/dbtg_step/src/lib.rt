@@ -2,6 +2,7 @@
 #![tactic(auto)]
 
 mod auditing;
+mod bare;
 mod comparing;
 mod course;
 mod drawing;
@@ -26,7 +27,8 @@ mod watching;
 mod way_back;
 mod whole;
 
-pub use auditing::audit;
+pub use auditing::{audit, audit_each};
+pub use bare::BareDatabase;
 pub use course::Course;
 pub use laws::{
     each_event_keeps_lawful, every_core_is_sequential, every_image_is_of_its_history,
@@ -36,7 +38,7 @@ pub use laws::{
 };
 pub use machine::Core;
 pub use opening_parts::{opening_cells, opening_unit};
-pub use results::Run;
+pub use results::{Run, discard_entry};
 pub use reversible::ReversibleDatabase;
 pub use running::{make_move, run, run_serial};
 pub use statements::{next_need, prepare, true_guesses};

@@ -1,6 +1,6 @@
 //! The core before its first step: all cells at home as in the opening database, each unit before its script.
-ghost use Rattle.std.specs.Prelude.{◌≡◌, ◌≤◌, ◌++◌, ◌∷◌, [], None, Some, true, map, length, replicate, IfOk, OnOk};
-ghost use Rattle.std.specs.List.{flat_map, list_all, range_with_len};
+ghost use Rattle.std.specs.Prelude.{◌≡◌, ◌≤◌, ◌++◌, ◌∷◌, [], None, Some, map, length, replicate, IfOk, OnOk};
+ghost use Rattle.std.specs.List.{flat_map, range_with_len};
 ghost use Rattle.dbtg_schema.specs.Structure.{set_numbers};
 ghost use Rattle.dbtg_cells.specs.Shown.{RingValue, SlotValue, UsageValue};
 ghost use Rattle.dbtg_cells.specs.CellNumbers.{cells_in_order, rings_of, slots_of};
@@ -8,7 +8,8 @@ ghost use Rattle.dbtg_unit.specs.Database.State.Base.{opening};
 ghost use Rattle.dbtg_unit.specs.Database.State.Units.{opening_unit};
 ghost use Rattle.dbtg_unit.specs.Hands.Local.{AllAgree, names_of};
 ghost use Rattle.dbtg_step.specs.Core.Openings.{homes_of, homes_shown};
-ghost use Rattle.dbtg_step.specs.Inside.Openings.{Adds, is_home, locations_of, opening_runner, runners_from, unused_extent};
+ghost use Rattle.dbtg_step.specs.Core.Parts.{location_of};
+ghost use Rattle.dbtg_step.specs.Inside.Openings.{Adds, opening_runner, runners_from, unused_extent};
 
 use crate::parts::{CellLocation, UnitState};
 use dbtg_cells::{Cell, CellName, Extent, Layout, Owner, Ring, Slot, Usage, cell_count};
@@ -116,15 +117,11 @@ pub fn cell_names(
     Ok(names)
 }
 
-fn open_usages(
-    alloc: Global,
-    schema: &Schema,
-    table: &mut Vec<CellLocation>,
-) -> Result<(), AllocError>
-    ensures { OnOk result (Adds table.old.items (length schema.now.areas) (UsageValue []) table.new.items) }
+fn open_usages(alloc: Global, schema: &Schema, cells: &mut Vec<Cell>) -> Result<(), AllocError>
+    ensures { OnOk result (Adds cells.old.items (length schema.now.areas) (UsageValue []) cells.new.items) }
 {
     for _area in 0..schema.areas().len() {
-        table.push(CellLocation::Home(Cell::Usage(Usage::new(alloc))))?;
+        cells.push(Cell::Usage(Usage::new(alloc)))?;
     }
     Ok(())
 }
@@ -133,28 +130,24 @@ fn open_extents(
     alloc: Global,
     schema: &Schema,
     capacity: u16,
-    table: &mut Vec<CellLocation>,
+    cells: &mut Vec<Cell>,
 ) -> Result<(), AllocError>
-    ensures { OnOk result (Adds table.old.items (length schema.now.types) (unused_extent capacity) table.new.items) }
+    ensures { OnOk result (Adds cells.old.items (length schema.now.types) (unused_extent capacity) cells.new.items) }
 {
     for _rtype in 0..schema.types().len() {
         let extent = Extent::new(alloc, capacity)?;
-        table.push(CellLocation::Home(Cell::Extent(extent)))?;
+        cells.push(Cell::Extent(extent))?;
     }
     Ok(())
 }
 
 // Appends this many rings without an occurrence.
-fn add_absent_rings(
-    alloc: Global,
-    count: u16,
-    table: &mut Vec<CellLocation>,
-) -> Result<(), AllocError>
-    ensures { OnOk result (Adds table.old.items count (RingValue None) table.new.items) }
+fn add_absent_rings(alloc: Global, count: u16, cells: &mut Vec<Cell>) -> Result<(), AllocError>
+    ensures { OnOk result (Adds cells.old.items count (RingValue None) cells.new.items) }
 {
-    table.reserve(count as usize)?;
+    cells.reserve(count as usize)?;
     for _turn in 0..count {
-        table.push_reserved(CellLocation::Home(Cell::Ring(Ring::absent(alloc))));
+        cells.push_reserved(Cell::Ring(Ring::absent(alloc)));
     }
     Ok(())
 }
@@ -173,16 +166,16 @@ fn open_rings_of(
     schema: &Schema,
     capacity: u16,
     set: SetNo,
-    table: &mut Vec<CellLocation>,
+    cells: &mut Vec<Cell>,
 ) -> Result<(), AllocError>
-    ensures { OnOk result (locations_of table.new.items ≡ locations_of table.old.items ++ homes_of schema.now capacity (rings_of schema.now capacity set)) }
+    ensures { OnOk result (homes_shown cells.new.items ≡ homes_shown cells.old.items ++ homes_of schema.now capacity (rings_of schema.now capacity set)) }
 {
     if schema.is_system(set) {
-        table.push(CellLocation::Home(Cell::Ring(system_ring(alloc))))?;
+        cells.push(Cell::Ring(system_ring(alloc)))?;
         return Ok(());
     }
     match schema.owner_type(set) {
-        Some(_) => add_absent_rings(alloc, capacity, table),
+        Some(_) => add_absent_rings(alloc, capacity, cells),
         None => Ok(()),
     }
 }
@@ -191,38 +184,57 @@ fn open_rings(
     alloc: Global,
     schema: &Schema,
     capacity: u16,
-    table: &mut Vec<CellLocation>,
+    cells: &mut Vec<Cell>,
 ) -> Result<(), AllocError>
-    ensures { OnOk result (locations_of table.new.items ≡ locations_of table.old.items ++ flat_map (λ s. homes_of schema.now capacity (rings_of schema.now capacity s)) (set_numbers schema.now)) }
+    ensures { OnOk result (homes_shown cells.new.items ≡ homes_shown cells.old.items ++ flat_map (λ s. homes_of schema.now capacity (rings_of schema.now capacity s)) (set_numbers schema.now)) }
 {
     for set in 0..schema.sets().len() as u8 {
-        open_rings_of(alloc, schema, capacity, SetNo::new(set), table)?;
+        open_rings_of(alloc, schema, capacity, SetNo::new(set), cells)?;
     }
     Ok(())
 }
 
 // Appends this many slots without a record.
-fn add_vacant_slots(count: u16, table: &mut Vec<CellLocation>) -> Result<(), AllocError>
-    ensures { OnOk result (Adds table.old.items count (SlotValue None) table.new.items) }
+fn add_vacant_slots(count: u16, cells: &mut Vec<Cell>) -> Result<(), AllocError>
+    ensures { OnOk result (Adds cells.old.items count (SlotValue None) cells.new.items) }
 {
-    table.reserve(count as usize)?;
+    cells.reserve(count as usize)?;
     for _turn in 0..count {
-        table.push_reserved(CellLocation::Home(Cell::Slot(Slot::vacant())));
+        cells.push_reserved(Cell::Slot(Slot::vacant()));
     }
     Ok(())
 }
 
-fn open_slots(
-    schema: &Schema,
-    capacity: u16,
-    table: &mut Vec<CellLocation>,
-) -> Result<(), AllocError>
-    ensures { OnOk result (locations_of table.new.items ≡ locations_of table.old.items ++ flat_map (λ t. homes_of schema.now capacity (slots_of capacity t)) (range_with_len 0 (length schema.now.types))) }
+fn open_slots(schema: &Schema, capacity: u16, cells: &mut Vec<Cell>) -> Result<(), AllocError>
+    ensures { OnOk result (homes_shown cells.new.items ≡ homes_shown cells.old.items ++ flat_map (λ t. homes_of schema.now capacity (slots_of capacity t)) (range_with_len 0 (length schema.now.types))) }
 {
     for _rtype in 0..schema.types().len() {
-        add_vacant_slots(capacity, table)?;
+        add_vacant_slots(capacity, cells)?;
     }
     Ok(())
+}
+
+/// All cells of the schema at this capacity in the order of their numbers, as the opening database has them.
+pub fn opening_cells(alloc: Global, schema: &Schema, capacity: u16) -> Result<Vec<Cell>, AllocError>
+    ensures { IfOk result (λ cells. homes_shown cells.items ≡ homes_of schema.now capacity (cells_in_order schema.now capacity)) }
+{
+    let mut cells = Vec::with_capacity(alloc, cell_count(schema, capacity))?;
+    open_usages(alloc, schema, &mut cells)?;
+    open_extents(alloc, schema, capacity, &mut cells)?;
+    open_rings(alloc, schema, capacity, &mut cells)?;
+    open_slots(schema, capacity, &mut cells)?;
+    Ok(cells)
+}
+
+// A table that has these cells at home.
+fn at_home(alloc: Global, cells: Vec<Cell>) -> Result<Vec<CellLocation>, AllocError>
+    ensures { IfOk result (λ table. map location_of table.items ≡ homes_shown cells.items) }
+{
+    let mut table = Vec::with_capacity(alloc, cells.len())?;
+    for cell in cells {
+        table.push_reserved(CellLocation::Home(cell));
+    }
+    Ok(table)
 }
 
 /// All cells of the schema at this capacity, at home as in the opening database.
@@ -231,35 +243,9 @@ pub fn opening_table(
     schema: &Schema,
     capacity: u16,
 ) -> Result<Vec<CellLocation>, AllocError>
-    ensures { IfOk result (λ table. locations_of table.items ≡ homes_of schema.now capacity (cells_in_order schema.now capacity)) }
+    ensures { IfOk result (λ table. map location_of table.items ≡ homes_of schema.now capacity (cells_in_order schema.now capacity)) }
 {
-    let mut table = Vec::with_capacity(alloc, cell_count(schema, capacity))?;
-    open_usages(alloc, schema, &mut table)?;
-    open_extents(alloc, schema, capacity, &mut table)?;
-    open_rings(alloc, schema, capacity, &mut table)?;
-    open_slots(schema, capacity, &mut table)?;
-    Ok(table)
-}
-
-// The cells of a table that has all of them at home.
-fn cells_of(alloc: Global, table: Vec<CellLocation>) -> Result<Vec<Cell>, AllocError>
-    requires { list_all is_home table.items ≡ true }
-    ensures { IfOk result (λ cells. homes_shown cells.items ≡ locations_of table.items) }
-{
-    let mut cells = Vec::with_capacity(alloc, table.len())?;
-    for place in table {
-        if let CellLocation::Home(cell) = place {
-            cells.push_reserved(cell);
-        }
-    }
-    Ok(cells)
-}
-
-/// All cells of the schema at this capacity in the order of their numbers, as the opening database has them.
-pub fn opening_cells(alloc: Global, schema: &Schema, capacity: u16) -> Result<Vec<Cell>, AllocError>
-    ensures { IfOk result (λ cells. homes_shown cells.items ≡ homes_of schema.now capacity (cells_in_order schema.now capacity)) }
-{
-    cells_of(alloc, opening_table(alloc, schema, capacity)?)
+    at_home(alloc, opening_cells(alloc, schema, capacity)?)
 }
 
 /// Hands with all cells of the schema at this capacity, each at its number and as the opening database has it.

@@ -18,7 +18,8 @@ ghost use Rattle.dbtg_unit.specs.Database.State.Units.{opening_unit};
 ghost use Rattle.dbtg_step.specs.Core.Reversible.{made_first};
 ghost use Rattle.dbtg_step.specs.Core.Whole.{HasMade, IsMadeRun, state_now};
 ghost use Rattle.dbtg_step.specs.Inside.Reversible.{IsWayBack, LeadsOver};
-ghost use Rattle.dbtg_step.specs.Inside.Whole.{HoldsAll, IsEffect, IsGuessed, IsWhole, goes_by_guesses};
+ghost use Rattle.dbtg_step.specs.Core.Bare.{HoldsAll, IsWhole};
+ghost use Rattle.dbtg_step.specs.Inside.Whole.{IsEffect, IsGuessed, goes_by_guesses};
 
 use crate::drawing::{enter, make, make_room};
 use crate::imaging::{CellSource, read_image};
@@ -42,8 +43,8 @@ fn hold_areas(schema: &Schema, held: &mut Held) -> Result<(), AllocError>
     Ok(())
 }
 
-// Hands with all areas and cells of the opening database.
-fn opening_hands(alloc: Global, schema: &Schema, capacity: u16) -> Result<Held, AllocError>
+/// Hands with all areas and cells of the opening database.
+pub fn opening_hands(alloc: Global, schema: &Schema, capacity: u16) -> Result<Held, AllocError>
     ensures all { IfOk result (λ held. HoldsAll schema.now capacity held) }
     ensures cells { IfOk result (λ held. AllAgree schema.now capacity (opening schema.now) held.cells) }
 {
@@ -52,8 +53,8 @@ fn opening_hands(alloc: Global, schema: &Schema, capacity: u16) -> Result<Held, 
     Ok(held)
 }
 
-// The units before their first statements, numbered from 1.
-fn opening_units(alloc: Global, schema: &Schema, count: u8) -> Result<Vec<Unit>, AllocError>
+/// The units before their first statements, numbered from 1.
+pub fn opening_units(alloc: Global, schema: &Schema, count: u8) -> Result<Vec<Unit>, AllocError>
     ensures { IfOk result (λ units. units.items ≡ map (opening_unit schema.now) (range_with_len 1 count)) }
 {
     let mut units = Vec::new(alloc);
@@ -140,8 +141,8 @@ fn guess_owners(
     Ok(())
 }
 
-// Carries out the statement on the unit and the cells that are held. If memory is refused, nothing visible changes.
-fn make_effect(
+/// Carries out the statement on the unit and the cells that are held. If memory is refused, nothing visible changes.
+pub fn make_effect(
     alloc: Global,
     schema: &Schema,
     capacity: u16,
@@ -204,7 +205,7 @@ pub struct WholeDatabase<'a> {
 
 impl<'a> Model for WholeDatabase<'a> {
     ghost use Rattle.std.specs.Prelude.{length};
-    ghost use Rattle.dbtg_step.specs.Inside.Whole.{IsWhole};
+    ghost use Rattle.dbtg_step.specs.Core.Bare.{IsWhole};
     ghost use Rattle.dbtg_step.specs.Core.Whole.{Making};
 
     ghost Value = { Making };

@@ -101,11 +101,7 @@ fn edit_slot(slot: &mut Slot, edit: Edit)
     ensures { SlotValue slot.new ≡ edited edit (SlotValue slot.old) }
 {
     match edit {
-        Edit::Fill {
-            generation,
-            items,
-            owners,
-        } => slot.fill(generation, items, owners),
+        Edit::Fill { stored } => slot.fill(stored),
         Edit::Vacate => slot.vacate(),
         Edit::ChangeItems { items } => slot.set_items(items),
         Edit::ChangeOwner { set, owner } => slot.set_owner(set, owner),

@@ -55,16 +55,13 @@ impl Form {
             }
             Form::OwnerOf(set) => Ok(Form::OwnerOf(*set)),
             Form::Calc { rtype, values } => {
-                let values = copy_items(values, alloc)?;
-                Ok(Form::Calc {
-                    rtype: *rtype,
-                    values,
-                })
+                let values = copy_items(values.get(), alloc)?;
+                Form::by_calc(alloc, *rtype, values)
             }
             Form::NextDuplicate(rtype) => Ok(Form::NextDuplicate(*rtype)),
             Form::Sorted { set, value } => {
-                let value = value.copy(alloc)?;
-                Ok(Form::Sorted { set: *set, value })
+                let value = value.get().copy(alloc)?;
+                Form::by_sort_key(alloc, *set, value)
             }
         }
     }

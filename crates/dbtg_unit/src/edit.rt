@@ -7,7 +7,7 @@ use crate::kept::Kept;
 use crate::owners::Owners;
 use crate::statement::Suppress;
 use crate::unit::Place;
-use dbtg_cells::{CellName, DbKey, Mode, Owner, Value};
+use dbtg_cells::{CellName, DbKey, Mode, NewRecord, Owner, Value};
 use dbtg_schema::{AreaNo, Order, Row, SetNo};
 use std::alloc::AllocError;
 
@@ -63,9 +63,7 @@ pub enum Edit {
     },
     /// A slot gets a record, in its first version.
     Fill {
-        generation: u8,
-        items: Row<Value>,
-        owners: Row<Option<Owner>>,
+        stored: NewRecord,
     },
     /// A slot becomes vacant.
     Vacate,

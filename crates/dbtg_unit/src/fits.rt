@@ -254,9 +254,13 @@ impl Form {
                     & is_in_area_or_none(schema, *area, *rtype)
             }
             Form::OwnerOf(set) => is_set(schema, *set) & !schema.is_system(*set),
-            Form::Calc { rtype, values } => are_calc_values(schema, *rtype, values.as_slice()),
+            Form::Calc { rtype, values } => are_calc_values(
+                schema,
+                *rtype,
+                values.get().as_slice(),
+            ),
             Form::NextDuplicate(rtype) => schema.calc_of(*rtype).is_some(),
-            Form::Sorted { set, value } => key_fits(schema, *set, value),
+            Form::Sorted { set, value } => key_fits(schema, *set, value.get()),
         }
     }
 }

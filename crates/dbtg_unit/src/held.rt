@@ -13,11 +13,10 @@ ghost use Rattle.indexmap.specs.IndexMap.{get};
 ghost use Rattle.dbtg_schema.specs.declared.limits.TheConstants.{MOST_SETS};
 ghost use Rattle.dbtg_unit.specs.Hands.Lends.{LendsCell};
 
-use crate::entries::entry_at;
 use crate::in_hand::stored_of;
 use crate::names::{FirstNames, NameKey, enter, find_place, leave};
 use crate::owners::Owners;
-use dbtg_cells::{Cell, CellName, DbKey, Layout, Owner};
+use dbtg_cells::{Cell, CellName, DbKey, Layout, MaybeOwner, Owner, owner_at};
 use dbtg_schema::{AreaNo, SetNo};
 use indexmap::IndexMap;
 use smallvec::SmallVec;
@@ -265,11 +264,11 @@ impl Held {
     pub fn guess(&self, set: SetNo) -> Option<Owner>
         ensures { result ≡ at self.now.guesses set }
     {
-        entry_at(self.guesses.as_slice(), set.index() as usize)
+        owner_at(self.guesses.as_slice(), set.index() as usize)
     }
 
     /// All guesses, by set.
-    pub fn guesses(&self) -> &[Option<Owner>]
+    pub fn guesses(&self) -> &[MaybeOwner]
         ensures { result.now ≡ self.now.guesses }
     {
         self.guesses.as_slice()

@@ -2,14 +2,14 @@
 ghost use Rattle.std.specs.Prelude.{◌≡◌, ◌≤◌, ◌<◌, slice_set, length, replicate, take, None};
 ghost use Rattle.dbtg_unit.specs.Hands.Guesses.{with_owners};
 
-use dbtg_cells::Owner;
+use dbtg_cells::{MaybeOwner, Owner};
 use dbtg_schema::MOST_SETS;
 use std::marker::Model;
 
 /// For each set of a schema, at most MOST_SETS, an owner or none; contracts see the list.
 #[derive(Drop)]
 pub struct Owners {
-    entries: [Option<Owner>; MOST_SETS],
+    entries: [MaybeOwner; MOST_SETS],
     len: usize,
 }
 
@@ -25,7 +25,7 @@ impl Model for Owners {
     ghost invariant = { λ o. o.len ≤ MOST_SETS };
 }
 
-fn set_entry(entries: &mut [Option<Owner>; MOST_SETS], set: usize, owner: Option<Owner>)
+fn set_entry(entries: &mut [MaybeOwner; MOST_SETS], set: usize, owner: MaybeOwner)
     requires { set < MOST_SETS }
     ensures { entries.new ≡ slice_set entries.old set owner }
 {
@@ -39,23 +39,23 @@ impl Owners {
         ensures { result ≡ replicate sets None }
     {
         Self {
-            entries: [None; MOST_SETS],
+            entries: [MaybeOwner::of(None); MOST_SETS],
             len: sets,
         }
     }
 
     /// These owners; if there are more than MOST_SETS, the first of them.
-    pub fn of(owners: &[Option<Owner>]) -> Self
+    pub fn of(owners: &[MaybeOwner]) -> Self
         ensures { result ≡ take MOST_SETS owners.now }
     {
         let len = owners.len().min(MOST_SETS);
-        let mut entries = [None; MOST_SETS];
+        let mut entries = [MaybeOwner::of(None); MOST_SETS];
         entries[..len].copy_from_slice(&owners[..len]);
         Self { entries, len }
     }
 
     /// Puts these owners in the place of the old ones; if there are more than MOST_SETS, the first of them.
-    pub(crate) fn put(&mut self, owners: &[Option<Owner>])
+    pub(crate) fn put(&mut self, owners: &[MaybeOwner])
         ensures { self.new ≡ take MOST_SETS owners.now }
     {
         let len = owners.len().min(MOST_SETS);
@@ -63,7 +63,7 @@ impl Owners {
         self.len = len;
     }
 
-    pub fn as_slice(&self) -> &[Option<Owner>]
+    pub fn as_slice(&self) -> &[MaybeOwner]
         ensures { result.now ≡ self.now }
     {
         &self.entries[..self.len]
@@ -74,18 +74,18 @@ impl Owners {
         ensures { self.new ≡ slice_set self.old set owner }
     {
         if set < self.len {
-            set_entry(&mut self.entries, set, owner);
+            set_entry(&mut self.entries, set, MaybeOwner::of(owner));
         }
     }
 }
 
 /// These guesses with the true owners: where there is a true owner it becomes the guess, elsewhere the guess stays.
-pub fn with_owners(guesses: &[Option<Owner>], mut owners: Owners) -> Owners
+pub fn with_owners(guesses: &[MaybeOwner], mut owners: Owners) -> Owners
     requires { length guesses.now ≡ length owners }
     ensures { result ≡ with_owners guesses.now owners }
 {
     for set in 0..guesses.len() {
-        let owner = owners.as_slice()[set].or(guesses[set]);
+        let owner = owners.as_slice()[set].get().or(guesses[set].get());
         owners.set(set, owner);
     }
     owners

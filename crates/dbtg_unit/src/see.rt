@@ -6,10 +6,10 @@ ghost use Rattle.dbtg_schema.specs.Structure.{area_of};
 ghost use Rattle.dbtg_unit.specs.Inside.Seen.{seen_as_owner, seen_in_list, seen_in_each_set};
 ghost use Rattle.dbtg_unit.specs.Database.State.Units.{seen_with, suppresses};
 
-use crate::entries::{entry_at, set_entry};
+use crate::entries::set_entry;
 use crate::statement::Suppress;
 use crate::unit::{Place, Unit};
-use dbtg_cells::{DbKey, Owner};
+use dbtg_cells::{DbKey, MaybeOwner, Owner, owner_at};
 use dbtg_schema::{MOST_SETS, Row, Schema};
 
 impl Suppress {
@@ -26,14 +26,14 @@ impl Suppress {
 fn see_list(
     sets: &mut Row<Option<Place>>,
     key: &DbKey,
-    owners: &[Option<Owner>],
+    owners: &[MaybeOwner],
     suppress: &Suppress,
     set: usize,
 )
     requires { set < length sets.old }
     ensures { sets.new ≡ slice_set sets.old set (seen_in_list key.now owners.now suppress.now (set, at sets.old set)) }
 {
-    if let Some(owner) = entry_at(owners, set) {
+    if let Some(owner) = owner_at(owners, set) {
         if suppress.has_set(set) {
             return;
         }
@@ -48,7 +48,7 @@ fn see_list(
 fn see_each_list(
     sets: &mut Row<Option<Place>>,
     key: &DbKey,
-    owners: &[Option<Owner>],
+    owners: &[MaybeOwner],
     suppress: &Suppress,
 )
     ensures { sets.new ≡ map (seen_in_list key.now owners.now suppress.now) (enumerate_from 0 sets.old) }
@@ -78,7 +78,7 @@ fn see_sets(
     sets: &mut Row<Option<Place>>,
     schema: &Schema,
     key: &DbKey,
-    owners: &[Option<Owner>],
+    owners: &[MaybeOwner],
     suppress: &Suppress,
 )
     ensures { sets.new ≡ seen_in_each_set schema.now key.now owners.now suppress.now sets.old }
@@ -90,13 +90,7 @@ fn see_sets(
 impl Unit {
     /// Makes a record that was found or stored current: of the run-unit, of its record type, of its area, and of each
     /// set that its type owns or in which it has an owner, except for what is suppressed.
-    pub fn see(
-        &mut self,
-        schema: &Schema,
-        key: DbKey,
-        owners: &[Option<Owner>],
-        suppress: &Suppress,
-    )
+    pub fn see(&mut self, schema: &Schema, key: DbKey, owners: &[MaybeOwner], suppress: &Suppress)
         ensures { self.new ≡ seen_with schema.now self.old key owners.now suppress.now }
     {
         self.currency.run_unit = Some(key);

@@ -57,10 +57,7 @@ pub fn find(alloc: Global, code: u16) -> Result<Statement, AllocError>
         areas: false,
         sets: 0,
     };
-    let form = Form::Calc {
-        rtype: RecordNo::new(WARE),
-        values: Row::of(values),
-    };
+    let form = Form::by_calc(alloc, RecordNo::new(WARE), Row::of(values))?;
     Ok(Statement::Find(suppress, form))
 }
 

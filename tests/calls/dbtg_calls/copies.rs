@@ -84,9 +84,18 @@ fn form_in_set(rt: HostRuntime) -> Result<(), Fail> {
 fn form_by_values(rt: HostRuntime) -> Result<(), Fail> {
     let rtype = RecordNo::new(2);
     let values = one_value(rt.alloc(), Value::Num(7))?;
-    let form = Form::Calc { rtype, values }.copy(rt.alloc())?;
+    let form = Form::by_calc(rt.alloc(), rtype, values)?.copy(rt.alloc())?;
     assert!(rt;
-        matches!(&form, Form::Calc { rtype: t, values } if *t == rtype && matches!(values.as_slice(), [Value::Num(7)]))
+        matches!(&form, Form::Calc { rtype: t, values } if *t == rtype && matches!(values.get().as_slice(), [Value::Num(7)]))
+    );
+    Ok(())
+}
+
+#[test]
+fn form_by_sort_key(rt: HostRuntime) -> Result<(), Fail> {
+    let form = Form::by_sort_key(rt.alloc(), SetNo::new(4), Value::Num(7))?.copy(rt.alloc())?;
+    assert!(rt;
+        matches!(&form, Form::Sorted { set, value } if set.index() == 4 && matches!(value.get(), Value::Num(7)))
     );
     Ok(())
 }

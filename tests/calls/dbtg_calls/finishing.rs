@@ -1,7 +1,7 @@
 //! What a finished statement changes of its unit and of the guesses, by docs/profile/currency.md and keeping.md.
 
 use super::shop::{customer, item, opened, order, place, shop};
-use dbtg_cells::{DbKey, Mode, Owner};
+use dbtg_cells::{DbKey, MaybeOwner, Mode, Owner};
 use dbtg_schema::{AreaNo, Row, Schema, SetNo};
 use dbtg_unit::{Answer, Held, Kept, Owners, Prepared, Status, Suppress, Unit, UnitEdit, finish};
 use std::alloc::{AllocError, Global};
@@ -42,10 +42,9 @@ fn keeping(alloc: Global) -> Result<Unit, AllocError> {
 
 // The owners of its order.
 fn holding(alloc: Global) -> Held {
-    Held::new(
-        alloc,
-        Owners::of(&[Some(Owner::Rec(customer(1))), None, None]),
-    )
+    let none = MaybeOwner::of(None);
+    let has = MaybeOwner::of(Some(Owner::Rec(customer(1))));
+    Held::new(alloc, Owners::of(&[has, none, none]))
 }
 
 fn has_guesses(held: &Held, has: Option<Owner>, lines: Option<Owner>) -> bool {
@@ -60,9 +59,11 @@ fn sees(alloc: Global, shop: &Schema) -> Result<bool, AllocError> {
         areas: false,
         sets: 0,
     };
+    let none = MaybeOwner::of(None);
+    let lines = MaybeOwner::of(Some(Owner::Rec(order(1))));
     let see = UnitEdit::See {
         key: item(3),
-        owners: Owners::of(&[None, Some(Owner::Rec(order(1))), None]),
+        owners: Owners::of(&[none, lines, none]),
         suppress,
     };
     Ok(

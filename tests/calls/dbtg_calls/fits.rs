@@ -126,10 +126,7 @@ fn counts(rt: HostRuntime) -> Result<(), Fail> {
 fn part_fits(alloc: Global, shop: &Schema, part: &[u8]) -> Result<bool, AllocError> {
     let mut values = Vec::new(alloc);
     values.push(Value::Text(Row::of(Vec::from_slice(alloc, part)?)))?;
-    let calc = Form::Calc {
-        rtype: RecordNo::new(2),
-        values: Row::of(values),
-    };
+    let calc = Form::by_calc(alloc, RecordNo::new(2), Row::of(values))?;
     Ok(find_fits(shop, calc))
 }
 

@@ -1,7 +1,7 @@
 //! What a record that was found makes current, by docs/profile/currency.md, and where a unit stands in a set.
 
 use super::shop::{beginning, customer, item, opened, order, place, shop};
-use dbtg_cells::{DbKey, Owner};
+use dbtg_cells::{DbKey, MaybeOwner, Owner};
 use dbtg_schema::{Schema, SetNo};
 use dbtg_unit::{Place, Suppress, Unit};
 use std::alloc::Global;
@@ -27,13 +27,15 @@ fn stands(
 
 // An item of the first order, in no other list.
 fn sees_item(shop: &Schema, unit: &mut Unit, number: u32, suppress: &Suppress) {
-    let owners = [None, Some(Owner::Rec(order(1))), None];
+    let none = MaybeOwner::of(None);
+    let owners = [none, MaybeOwner::of(Some(Owner::Rec(order(1)))), none];
     unit.see(shop, item(number), owners.as_slice(), suppress);
 }
 
 // An order of the first customer.
 fn sees_order(shop: &Schema, unit: &mut Unit, number: u32) {
-    let owners = [Some(Owner::Rec(customer(1))), None, None];
+    let none = MaybeOwner::of(None);
+    let owners = [MaybeOwner::of(Some(Owner::Rec(customer(1)))), none, none];
     let all = suppress(false, false, 0);
     unit.see(shop, order(number), owners.as_slice(), &all);
 }

@@ -32,7 +32,8 @@ fn a_slot_is_filled_changed_and_left(rt: HostRuntime) -> Result<(), Fail> {
     let mut slot = Slot::vacant();
     assert!(rt; !slot.is_live(3));
     let items = row(&rt, 7)?;
-    slot.fill(3, items, Row::of(vec![in rt.alloc(); None, None]?));
+    let owners = Row::of(vec![in rt.alloc(); MaybeOwner::of(None), MaybeOwner::of(None)]?);
+    slot.fill(NewRecord::new(rt.alloc(), 3, items, owners)?);
     assert!(rt; slot.is_live(3));
     assert!(rt; !slot.is_live(2));
     assert!(rt; version(&slot) == Some(1));
@@ -53,7 +54,8 @@ fn a_slot_is_filled_changed_and_left(rt: HostRuntime) -> Result<(), Fail> {
 fn a_slot_knows_its_owner_in_each_set(rt: HostRuntime) -> Result<(), Fail> {
     let mut slot = Slot::vacant();
     let items = row(&rt, 7)?;
-    slot.fill(1, items, Row::of(vec![in rt.alloc(); None, None]?));
+    let owners = Row::of(vec![in rt.alloc(); MaybeOwner::of(None), MaybeOwner::of(None)]?);
+    slot.fill(NewRecord::new(rt.alloc(), 1, items, owners)?);
     slot.set_owner(SetNo::new(1), Some(Owner::System));
     assert!(rt; slot.owner(SetNo::new(1)) == Some(Owner::System));
     assert!(rt; slot.owner(SetNo::new(0)) == None);

@@ -1,6 +1,6 @@
 //! What is in hand: guesses, and more areas and cells than are held in place.
 
-use super::key;
+use super::{are_owners, key};
 use dbtg_cells::{Cell, CellName, Owner, Ring};
 use dbtg_schema::{AreaNo, RecordNo, SetNo};
 use dbtg_unit::{Held, Owners};
@@ -15,7 +15,7 @@ fn guesses(rt: HostRuntime) {
     assert_eq!(rt; held.guess(SetNo::new(0)), Some(Owner::System));
     held.set_guess(SetNo::new(1), Some(Owner::Rec(key(7, 2))));
     let wanted = [Some(Owner::System), Some(Owner::Rec(key(7, 2)))];
-    assert_eq!(rt; held.guesses(), wanted.as_slice());
+    assert!(rt; are_owners(held.guesses(), wanted.as_slice()));
 }
 
 fn takes_twelve_areas(held: &mut Held) -> Result<bool, AllocError> {

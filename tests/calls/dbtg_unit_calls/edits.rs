@@ -1,7 +1,7 @@
 //! Edits of usage lists, extents, slots and of rings as a whole, each made of a cell of its kind, by docs/profile/statements.md.
 
 use super::key;
-use dbtg_cells::{Cell, DbKey, Extent, Mode, Owner, Ring, Slot, Stored, Usage, Value};
+use dbtg_cells::{Cell, DbKey, Extent, MaybeOwner, Mode, NewRecord, Owner, Ring, Slot, Stored, Usage, Value};
 use dbtg_schema::{RecordNo, Row, SetNo};
 use dbtg_unit::{Edit, edit_cell};
 use std::alloc::{AllocError, Global};
@@ -144,8 +144,8 @@ fn rings(rt: HostRuntime) -> Result<(), Fail> {
 // A record of generation 2 without items, in one set, that has no owner there.
 fn filled(alloc: Global) -> Result<Slot, AllocError> {
     let mut slot = Slot::vacant();
-    let owners = Row::of(Vec::from_slice(alloc, &[None])?);
-    slot.fill(2, Row::of(Vec::new(alloc)), owners);
+    let owners = Row::of(Vec::from_slice(alloc, &[MaybeOwner::of(None)])?);
+    slot.fill(NewRecord::new(alloc, 2, Row::of(Vec::new(alloc)), owners)?);
     Ok(slot)
 }
 
@@ -165,12 +165,8 @@ fn version(cell: &Cell) -> Option<u64> {
 
 fn fills_slot(alloc: Global) -> Result<bool, AllocError> {
     let mut cell = Cell::Slot(Slot::vacant());
-    let fill = Edit::Fill {
-        generation: 2,
-        items: calc(alloc, 7)?,
-        owners: Row::of(Vec::new(alloc)),
-    };
-    edit_cell(&mut cell, fill);
+    let stored = NewRecord::new(alloc, 2, calc(alloc, 7)?, Row::of(Vec::new(alloc)))?;
+    edit_cell(&mut cell, Edit::Fill { stored });
     Ok(version(&cell) == Some(1))
 }
 

@@ -2,7 +2,7 @@
 
 use super::key;
 use super::units::opening;
-use dbtg_cells::{Cell, CellName, DbKey, Extent, Owner, Ring, Slot, Usage};
+use dbtg_cells::{Cell, CellName, DbKey, Extent, NewRecord, Owner, Ring, Slot, Usage};
 use dbtg_schema::{AreaNo, RecordNo, Row, SetNo};
 use dbtg_unit::{Cause, Held, Owners, Unit, numbers, occurrence, own_refusal, stored, usage};
 use std::alloc::{AllocError, Global};
@@ -13,10 +13,11 @@ fn takes(held: &mut Held, name: &CellName, cell: Cell) -> bool {
 }
 
 // A record of number 7 in its second generation.
-fn slot(alloc: Global) -> Slot {
+fn slot(alloc: Global) -> Result<Slot, AllocError> {
     let mut slot = Slot::vacant();
-    slot.fill(2, Row::of(Vec::new(alloc)), Row::of(Vec::new(alloc)));
-    slot
+    let (items, owners) = (Row::of(Vec::new(alloc)), Row::of(Vec::new(alloc)));
+    slot.fill(NewRecord::new(alloc, 2, items, owners)?);
+    Ok(slot)
 }
 
 fn ring(alloc: Global) -> Ring {
@@ -37,7 +38,7 @@ fn takes_cells(alloc: Global, held: &mut Held) -> Result<bool, AllocError> {
             Cell::Usage(Usage::new(alloc)),
         ) && takes(held, &CellName::Extent(rtype), Cell::Extent(extent))
             && takes(held, &ring_name, Cell::Ring(ring(alloc)))
-            && takes(held, &CellName::Slot(rtype, 7), Cell::Slot(slot(alloc))),
+            && takes(held, &CellName::Slot(rtype, 7), Cell::Slot(slot(alloc)?)),
     )
 }
 

@@ -23,7 +23,7 @@ use Rattle.dbtg_cells.specs.Keys.{is_member}
 use Rattle.dbtg_cells.specs.Members.{keys_in}
 use Rattle.dbtg_cells.specs.Names.{name_eq, place_eq}
 use Rattle.dbtg_cells.specs.Numbers.{entry_of, is_free}
-use Rattle.dbtg_cells.specs.Shown.{RingValue}
+use Rattle.dbtg_cells.specs.Shown.{RingValue, first_version}
 use Rattle.dbtg_cells.proofs.Public.{place_eq_refl, same_place}
 use Rattle.dbtg_unit.specs.Database.Statements.StoredFacts.{whole}
 use Rattle.dbtg_unit.specs.declared.edit.CellEdit.{CellEdit}
@@ -103,7 +103,7 @@ module _ (schema : Lists) (unit : Unit) (k : DbKey) (items : List Value) where
   owned = filter (λ s. owns schema s k.rtype) (set_numbers schema)
 
   abbrev filling : List CellEdit
-  filling = slot_edit k (Fill k.generation items (first_owners schema unit k.rtype)) ∷ []
+  filling = slot_edit k (Fill (first_version k.generation items (first_owners schema unit k.rtype))) ∷ []
 
   -- a joining is of the ring of the current owner
   joining_name : (s : ℕ) (e : CellEdit) → In e (joining s) → (place : Place) × (place_in schema unit s ≡ Some place) × (e.name ≡ Ring s (place_of place.owner))

@@ -16,6 +16,7 @@ use Rattle.dbtg_cells.specs.declared.key.Value.{Value}
 use Rattle.dbtg_cells.specs.declared.name.CellName.{CellName}
 use Rattle.dbtg_cells.specs.declared.name.CellName.TheVariants.{Ring}
 use Rattle.dbtg_cells.specs.Names.{place_eq}
+use Rattle.dbtg_cells.specs.Shown.{first_version}
 use Rattle.dbtg_cells.proofs.Public.{index_within}
 use Rattle.dbtg_unit.specs.declared.edit.CellEdit.{CellEdit}
 use Rattle.dbtg_unit.specs.declared.edit.Edit.TheVariants.{Fill}
@@ -85,12 +86,12 @@ pub edits_pushed : (schema : Lists) (unit : Unit) (k : DbKey) (items : List Valu
     → entered ≡ [] ++ entering_edit schema k items ∷ []
     → joined ≡ entered ++ flat_map (λ s. joining_edits schema unit s k (key_item schema s k.rtype items)) (automatic_sets schema k.rtype)
     → opened ≡ joined ++ edits_of_opening schema k
-    → filled ≡ opened ++ slot_edit k (Fill k.generation items (first_owners schema unit k.rtype)) ∷ []
+    → filled ≡ opened ++ slot_edit k (Fill (first_version k.generation items (first_owners schema unit k.rtype))) ∷ []
     → filled ≡ store_edits schema unit k items
 edits_pushed schema unit k items entered joined opened filled enters joins opens fills =
     let joining = flat_map (λ s. joining_edits schema unit s k (key_item schema s k.rtype items)) (automatic_sets schema k.rtype) in
     let opening = edits_of_opening schema k in
-    let last = slot_edit k (Fill k.generation items (first_owners schema unit k.rtype)) ∷ [] in
+    let last = slot_edit k (Fill (first_version k.generation items (first_owners schema unit k.rtype))) ∷ [] in
     fills ∙ ap (λ es. es ++ last) (opens ∙ ap (λ es. es ++ opening) (joins ∙ ap (λ es. es ++ joining) enters))
     ∙ append_assoc (entering_edit schema k items ∷ joining) opening last
 
@@ -98,7 +99,7 @@ edits_pushed schema unit k items entered joined opened filled enters joins opens
 pub edits_made : (schema : Lists) (unit : Unit) (k : DbKey) (items : List Value) (enter fill : CellEdit) (joins : List CellEdit)
     → enter ≡ entering_edit schema k items
     → joins ≡ flat_map (λ s. joining_edits schema unit s k (key_item schema s k.rtype items)) (automatic_sets schema k.rtype)
-    → fill ≡ slot_edit k (Fill k.generation items (first_owners schema unit k.rtype))
+    → fill ≡ slot_edit k (Fill (first_version k.generation items (first_owners schema unit k.rtype)))
     → enter ∷ (joins ++ (edits_of_opening schema k ++ fill ∷ [])) ≡ store_edits schema unit k items
 edits_made schema unit k items enter fill joins enters are_joins fills = λ i. enters i ∷ (are_joins i ++ (edits_of_opening schema k ++ fills i ∷ []))
 

@@ -10,17 +10,13 @@ use Rattle.dbtg_step.specs.Core.Audit.{IsAudited, LeadsTo}
 use Rattle.dbtg_run.specs.declared.view.About.{About}
 use Rattle.dbtg_run.specs.Views.{Has}
 use Rattle.dbtg_run.specs.UnitView.{UnitView}
-use Rattle.dbtg_run.specs.Inside.Settling.{AreAll, all_entries, by_ticket}
-use Rattle.dbtg_run.proofs.Together.Merged.{merged_is_history}
+use Rattle.dbtg_run.specs.Inside.Settling.{AreAll}
 
 at_number : (state : State) (n : ℕ) → 0 < n → unit_of state n ≡ slice_get state.units (n - 1)
 at_number state zero l = absurd (omega arith)
 at_number state (suc n) l = let e : n ≡ suc n - 1 = omega arith in ap (slice_get state.units) e
 
-module _ (about : About) (schema : Lists) (same : about.schema.value ≡ schema) (us : List UnitView) (A : AreAll about us) (history : List Entry) (is : history ≡ by_ticket (all_entries us)) where
-  history_is : history ≡ A.log
-  history_is = is ∙ merged_is_history about us A
-
+module _ (about : About) (schema : Lists) (same : about.schema.value ≡ schema) (us : List UnitView) (A : AreAll about us) (history : List Entry) (history_is : history ≡ A.log) where
   is_history : IsHistoryOf schema about.capacity about.units history
   is_history = subst (λ (s : Lists). IsHistoryOf s about.capacity about.units history) same (subst (IsHistoryOf about.schema.value about.capacity about.units) (sym history_is) A.history)
 

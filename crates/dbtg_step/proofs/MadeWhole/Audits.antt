@@ -1,23 +1,25 @@
 -- An audit takes one entry after another: what it finds of each, and of the whole.
-use Rattle.std.proofs.Common.{ℕ, zero, suc, ◌+◌, ◌-◌, ◌<◌, ◌≤◌, ◌≡◌, Bool, true, false, ◌&&◌, List, [], ◌∷◌, ◌++◌, length, take, drop, Option, Some, None, slice_get, refl, sym, ap, ◌∙◌, subst, arith, length-append}
+use Rattle.std.proofs.Common.{Bor, ℕ, zero, suc, ◌+◌, ◌-◌, ◌<◌, ◌≡◌, Bool, true, false, ◌&&◌, List, [], ◌∷◌, ◌++◌, length, take, drop, Some, slice_get, get_or, refl, sym, ap, ◌∙◌, subst, arith, length-append}
 use Rattle.std.specs.Prelude.{nat_lt, nat_le, option_map, ◌==◌, OnErr, Result, Ok, Err}
 use Rattle.std.specs.Bool.{Decides, MatchBool}
 use Rattle.std.specs.List.{list_all}
 use Rattle.std.proofs.lemmas.Bool.{and_parts, and_from, false≢true, eq-eqb, eqb-true, lt-ltb, le-leb, ltb-true, leb-true}
 use Rattle.std.proofs.lemmas.List.Folds.{list_all-append}
-use Rattle.std.proofs.lemmas.Option.{same_Some, slice_get-map}
+use Rattle.std.proofs.lemmas.List.{length-map}
+use Rattle.std.proofs.lemmas.Option.{same_Some, slice_get-map, slice_get_read}
 use Rattle.dbtg_schema.specs.Lists.{Lists}
 use Rattle.dbtg_cells.proofs.Public.{get_behind}
 use Rattle.dbtg_unit.specs.declared.unit.Entry.{Entry}
-use Rattle.dbtg_unit.specs.Database.Statements.Effect.{StatementEffect}
 use Rattle.dbtg_unit.specs.Database.Statements.Fits.{fits}
-use Rattle.dbtg_unit.specs.Database.State.Image.{image_of}
-use Rattle.dbtg_unit.specs.Database.Laws.Replay.{State, AnswersHold, IsHistoryOf, TicketsInOrder, opening_state, replay}
+use Rattle.dbtg_unit.specs.Database.State.Image.{Image}
+use Rattle.dbtg_unit.specs.declared.unit.Unit.{Unit}
+use Rattle.dbtg_unit.specs.Database.Laws.Replay.{AnswersHold, IsHistoryOf, TicketsInOrder, opening_state}
 use Rattle.dbtg_unit.proofs.Public.{answers_behind, opening_length, replays_one_more, slice_get_range, units_are_there}
-use Rattle.dbtg_step.specs.declared.results.Run.{Run}
-use Rattle.dbtg_step.specs.Inside.Audit.{GoesOn, HasJoined, MayStand}
-use Rattle.dbtg_step.specs.Core.Audit.{LeadsTo, MayBeHistory}
-use Rattle.dbtg_step.specs.Core.Whole.{HasMade, IsMadeRun, Making}
+use Rattle.dbtg_unit.specs.declared.unit.Answer.{Answer}
+use Rattle.dbtg_step.specs.Core.Audit.{LeadsTo, MayBeHistory, entries_at}
+use Rattle.dbtg_step.specs.Core.Bare.{Bare, Continues, OpensAt, StandsAfter}
+use Rattle.dbtg_step.specs.Core.Whole.{Making}
+use Rattle.dbtg_step.specs.Inside.Audit.{GoesOn, MayStand, with_history}
 
 -- LISTS
 
@@ -41,24 +43,34 @@ pub on_err : {A E : Type 0} (r : Result A E) (P : Type 0) → P → OnErr r P
 on_err (Ok x) P p = tt
 on_err (Err e) P p = p
 
+-- ENTRIES THAT STAND ELSEWHERE
+
+pub entry_there : (history : List (Bor Entry)) (index : ℕ) (entry : Bor Entry) → index < length history → entry ≡ get_or history index entry → slice_get (entries_at history) index ≡ Some entry.now
+entry_there history index entry below read = slice_get-map (λ (e : Bor Entry). e.now) history index ∙ ap (option_map (λ (e : Bor Entry). e.now)) (slice_get_read history _ index entry refl below read)
+
+pub entries_counted : (history : List (Bor Entry)) → length (entries_at history) ≡ length history
+entries_counted history = length-map history _
+
 -- AN ENTRY
 
-module _ (entry : Entry) (old new : Making) (has : HasMade old entry.unit entry.statement new) where
+-- an entry of the statement and the answer is the database's next one, or does not go on
+module _ (old new : Bare) (entry : Entry) (answer : Answer) where
   abbrev pub made_entry : Entry
-  made_entry = record { ticket = length old.history; unit = entry.unit; statement = entry.statement; answer = has.outcome.answer }
+  made_entry = record { ticket = old.count; unit = entry.unit; statement = entry.statement; answer = answer }
 
-  pub history_made : new.history ≡ old.history ++ made_entry ∷ []
-  history_made = ap (λ (k : Making). k.history) has.new_is
+  module _ (made : Continues old (made_entry ∷ []) new) where
+    same_answer : (history : List Entry) → StandsAfter old history → GoesOn (with_history old history) entry → entry.answer ≡ answer
+    same_answer history stands goes =
+        let after = made.stands history stands in
+        let answers = subst (λ n. IsHistoryOf old.schema old.capacity n (history ++ made_entry ∷ [])) made.units_are
+        (subst (λ schema. IsHistoryOf schema old.capacity (length new.units) (history ++ made_entry ∷ [])) made.schema_is
+        (subst (λ capacity. IsHistoryOf new.schema capacity (length new.units) (history ++ made_entry ∷ [])) made.capacity_is after.whole.history_of)) in
+        same_Some entry.answer answer (sym goes.answer ∙ (replays_one_more old.schema old.capacity (opening_state old.schema (length old.units)) history made_entry).answer_is answers.answers_hold)
 
-  joined : entry.ticket ≡ length old.history → has.outcome.answer ≡ entry.answer → HasJoined entry old new
-  joined t e = has.new_is ∙ (λ i. record old { history = old.history ++ record { ticket = sym t i; unit = entry.unit; statement = entry.statement; answer = e i } ∷ [] })
-
-  same_answer : GoesOn old entry → has.outcome.answer ≡ entry.answer
-  same_answer g = same_Some has.outcome.answer entry.answer (sym (ap (option_map (λ (o : StatementEffect). o.answer)) has.outcome_is) ∙ g.answer)
-
-  pub decided : entry.ticket ≡ length old.history → (follows : Bool) → Decides follows (has.outcome.answer ≡ entry.answer) → MatchBool follows (HasJoined entry old new) (GoesOn old entry → ⊥)
-  decided t true d = joined t (d.0 refl)
-  decided t false d = λ g. false≢true (d.1 (same_answer g))
+    pub decided : entry.ticket ≡ old.count → (follows : Bool) → Decides follows (entry.answer ≡ answer)
+        → MatchBool follows (Continues old (entry ∷ []) new) ((history : List Entry) → StandsAfter old history → GoesOn (with_history old history) entry → ⊥)
+    decided ticket true d = subst (λ (e : Entry). Continues old (e ∷ []) new) (λ i. record { ticket = sym ticket i; unit = entry.unit; statement = entry.statement; answer = sym (d.0 refl) i }) made
+    decided ticket false d = λ history stands goes. false≢true (d.1 (same_answer history stands goes))
 
 -- WITHOUT A DATABASE
 
@@ -121,18 +133,7 @@ shows_so schema capacity units history h = record {
 abbrev pub stands : Lists → ℕ → ℕ → List Entry → Making
 stands schema capacity units past = record { schema = schema; capacity = capacity; units = units; history = past }
 
--- with one entry more
-pub joins : (schema : Lists) (capacity units : ℕ) (old new : Making) (past : List Entry) (entry : Entry) → old ≡ stands schema capacity units past → HasJoined entry old new → new ≡ stands schema capacity units (past ++ entry ∷ [])
-joins schema capacity units old new past entry e h = h ∙ (λ i. record { schema = (e i).schema; capacity = (e i).capacity; units = (e i).units; history = (e i).history ++ entry ∷ [] })
-
 module _ (schema : Lists) (capacity units : ℕ) (history : List Entry) where
-  pub led : (past : List Entry) (given : Run) → past ≡ history → IsMadeRun (stands schema capacity units past) given → LeadsTo schema capacity units history given.image given.units
-  led past given is m = record {
-    history_of = subst (IsHistoryOf schema capacity units) is m.history_of;
-    image_is = m.image_is ∙ ap (λ (es : List Entry). image_of schema capacity (replay schema capacity (opening_state schema units) es).database) is;
-    units_are = m.units_are ∙ ap (λ (es : List Entry). (replay schema capacity (opening_state schema units) es).units) is;
-  }
-
   -- each entry of a history goes on
   goes_on : (past rest : List Entry) (entry : Entry) → past ++ entry ∷ rest ≡ history → IsHistoryOf schema capacity units history → GoesOn (stands schema capacity units past) entry
   unfolding AnswersHold
@@ -147,6 +148,36 @@ module _ (schema : Lists) (capacity units : ℕ) (history : List Entry) where
 
   pub not_led : (past rest : List Entry) (entry : Entry) → past ++ entry ∷ rest ≡ history → (GoesOn (stands schema capacity units past) entry → ⊥) → IsHistoryOf schema capacity units history → ⊥
   not_led past rest entry e n h = n (goes_on past rest entry e h)
+
+-- the next entry of a list that may be a history
+module _ (opened m : Bare) (history past rest : List Entry) (entry : Entry) (split : past ++ entry ∷ rest ≡ history) (on : Continues opened past m) (fresh : StandsAfter opened []) where
+  pub may_stand_next : MayBeHistory opened.schema (length opened.units) history → MayStand m.schema (length m.units) m.count entry
+  may_stand_next may =
+      subst (λ schema. MayStand schema (length m.units) m.count entry) (sym on.schema_is)
+      (subst (λ n. MayStand opened.schema n m.count entry) (sym on.units_are)
+      (subst (λ place. MayStand opened.schema (length opened.units) place entry) (sym (on.stands [] fresh).count_is) (stands_at opened.schema (length opened.units) history past rest entry split may)))
+
+  same_making : stands opened.schema opened.capacity (length opened.units) past ≡ with_history m past
+  same_making = λ i. record { schema = sym on.schema_is i; capacity = sym on.capacity_is i; units = sym on.units_are i; history = past }
+
+  pub not_led_on : ((h : List Entry) → StandsAfter m h → GoesOn (with_history m h) entry → ⊥) → IsHistoryOf opened.schema opened.capacity (length opened.units) history → ⊥
+  not_led_on refused = not_led opened.schema opened.capacity (length opened.units) history past rest entry split (λ g. refused past (on.stands [] fresh) (subst (λ (k : Making). GoesOn k entry) same_making g))
+
+-- what holds of the schema, the capacity and the number of units of a database that was opened with these
+module _ (P : Lists → ℕ → ℕ → Type 0) (schema : Lists) (capacity units : ℕ) (m : Bare) (opened : OpensAt schema capacity units m) where
+  pub of_opened : P m.schema m.capacity (length m.units) → P schema capacity units
+  of_opened p = subst (λ s. P s capacity units) opened.schema_is (subst (λ n. P m.schema n units) opened.capacity_is (subst (P m.schema m.capacity) opened.units_are p))
+
+  pub as_opened : P schema capacity units → P m.schema m.capacity (length m.units)
+  as_opened p = subst (P m.schema m.capacity) (sym opened.units_are) (subst (λ n. P m.schema n units) (sym opened.capacity_is) (subst (λ s. P s capacity units) (sym opened.schema_is) p))
+
+-- what the last database leads to, the first does
+pub led_on : (opened m : Bare) (history : List Entry) (image : Image) (units : List Unit) → Continues opened history m → StandsAfter opened [] → ((h : List Entry) → StandsAfter m h → LeadsTo m.schema m.capacity (length m.units) h image units)
+    → LeadsTo opened.schema opened.capacity (length opened.units) history image units
+led_on opened m history image units on fresh leads =
+    subst (λ schema. LeadsTo schema opened.capacity (length opened.units) history image units) on.schema_is
+    (subst (λ capacity. LeadsTo m.schema capacity (length opened.units) history image units) on.capacity_is
+    (subst (λ n. LeadsTo m.schema m.capacity n history image units) on.units_are (leads history (on.stands [] fresh))))
 
 pub refused_at : (b : Bool) (P Q : Type 0) → b ≡ false → MatchBool b P Q → Q
 refused_at true P Q e h = absurd (false≢true (sym e))

@@ -25,7 +25,7 @@ use Rattle.dbtg_step.specs.declared.way_back.WayBack.{WayBack}
 use Rattle.dbtg_step.specs.Core.Reversible.{OnlyChanged, OnlyLastChanged, made_first}
 use Rattle.dbtg_step.specs.Core.Whole.{HasMade, Making, state_now}
 use Rattle.dbtg_step.specs.Inside.Reversible.{HasWaysBack, IsWayBack, LeadBack, LeadsOver, with_copies}
-use Rattle.dbtg_step.specs.Inside.Whole.{HoldsAll, IsWhole}
+use Rattle.dbtg_step.specs.Core.Bare.{HoldsAll, IsWhole}
 use Rattle.dbtg_step.proofs.EachEvent.UnitLists.{set_same_at}
 use Rattle.dbtg_step.proofs.MadeWhole.Audits.{newest_of}
 use Rattle.dbtg_step.proofs.MadeWhole.WaysBack.{names_put_back, put_back_agree}

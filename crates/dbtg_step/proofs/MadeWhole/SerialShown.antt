@@ -7,11 +7,13 @@ use Rattle.std.proofs.lemmas.List.Elements.{filter-append}
 use Rattle.dbtg_schema.specs.Lists.{Lists}
 use Rattle.dbtg_unit.specs.declared.statement.Statement.{Statement}
 use Rattle.dbtg_unit.specs.declared.unit.Entry.{Entry}
-use Rattle.dbtg_unit.specs.Database.State.Image.{image_of}
+use Rattle.dbtg_unit.specs.declared.unit.Unit.{Unit}
+use Rattle.dbtg_unit.specs.Database.State.Image.{Image, image_of}
 use Rattle.dbtg_unit.specs.Database.Laws.Replay.{AnswersHold, TicketsInOrder, entries_of, opening_state, replay}
 use Rattle.dbtg_unit.specs.Database.Laws.Replaying.{statements_of}
 use Rattle.dbtg_step.specs.declared.results.Run.{Run}
 use Rattle.dbtg_step.specs.Machine.SequentialDatabase.{unit_at}
+use Rattle.dbtg_step.specs.Core.Audit.{LeadsTo}
 use Rattle.dbtg_step.specs.Core.Serial.{SerialRunIs, in_turn_from}
 use Rattle.dbtg_step.specs.Core.Whole.{HasMade, IsMadeRun, Making}
 use Rattle.dbtg_step.specs.Inside.Whole.{HasMadeAll}
@@ -98,3 +100,10 @@ serial_made schema capacity scripts m given all run =
         };
       },
     )
+
+-- so are statements of which no history was kept, with what they lead to
+pub serial_led : (schema : Lists) (capacity : ℕ) (scripts : List (List Statement)) (entries : List Entry) (image : Image) (units : List Unit) → statements_of entries ≡ in_turn_from 1 scripts → LeadsTo schema capacity (length scripts) entries image units
+    → SerialRunIs schema capacity scripts (record { results = []; image = image; history = entries; units = units })
+serial_led schema capacity scripts entries image units made led =
+    serial_made schema capacity scripts (making schema capacity (length scripts) entries) (record { results = []; image = image; history = entries; units = units }) (record { new_is = refl; statements_are = made })
+    (record { results_are = refl; history_is = refl; history_of = led.history_of; image_is = led.image_is; units_are = led.units_are })

@@ -45,7 +45,8 @@ use Rattle.dbtg_unit.specs.Database.Laws.Replay.{State, AnswersHold, IsHistoryOf
 use Rattle.dbtg_unit.proofs.Public.{In, all_agree_same, all_at, any_in, any_mapped, find_element, held_cell_agrees, holds_any, holds_there, of_filter, opening_is_legal, replay_keeps_legal, replays_one_more, versions_are_bounded}
 use Rattle.dbtg_step.specs.Inside.Imaging.{image_from}
 use Rattle.dbtg_step.specs.Core.Whole.{HasMade, Making}
-use Rattle.dbtg_step.specs.Inside.Whole.{HoldsAll, IsEffect, IsGuessed, IsWhole, goes_by_guesses}
+use Rattle.dbtg_step.specs.Core.Bare.{HoldsAll, IsWhole}
+use Rattle.dbtg_step.specs.Inside.Whole.{IsEffect, IsGuessed, goes_by_guesses}
 use Rattle.dbtg_step.proofs.MadeWhole.Audits.{fits_more}
 use Rattle.dbtg_step.proofs.Network.CellsExist.{cells_exist, has_ring}
 use Rattle.dbtg_step.proofs.TheCore.DrawnShown.{versions_next}

@@ -1,7 +1,7 @@
 -- The core before its first step is the machine before its scripts.
 use Rattle.std.proofs.Common.{ℕ, zero, suc, ◌≡◌, ◌+◌, Bool, true, false, cond, ◌&&◌, List, [], ◌∷◌, ◌++◌, Option, Some, None, map, length, replicate, slice_get, refl, sym, ap, ◌∙◌, subst, arith, append_assoc}
 use Rattle.std.specs.Prelude.{option_map, unwrap_or, if◌then◌else◌}
-use Rattle.std.specs.List.{flat_map, list_all, range_with_len, zip}
+use Rattle.std.specs.List.{flat_map, range_with_len, zip}
 use Rattle.std.proofs.lemmas.List.{length-map, length-replicate, map-append, replicate_more}
 use Rattle.std.proofs.lemmas.Option.{slice_get-map}
 use Rattle.dbtg_schema.specs.Lists.{Lists}
@@ -24,7 +24,6 @@ use Rattle.dbtg_unit.specs.Database.State.Cells.{cell, number_of, ring_of}
 use Rattle.dbtg_unit.specs.Hands.Local.{AllAgree, names_of}
 use Rattle.dbtg_step.specs.declared.parts.Parts.{Parts}
 use Rattle.dbtg_step.specs.declared.parts.CellLocation.{CellLocation}
-use Rattle.dbtg_step.specs.declared.parts.CellLocation.TheVariants.{Home as AtHome, HeldBy as WithUnit}
 use Rattle.dbtg_step.specs.Machine.Machine.{CellLocation as Location, Home}
 use Rattle.dbtg_step.specs.Machine.Network.{network}
 use Rattle.dbtg_step.specs.Machine.Headline.{machine_of, opening_of, units_from}
@@ -35,7 +34,7 @@ use Rattle.dbtg_step.specs.Inside.Parts.{core_of, state_of}
 use Rattle.dbtg_step.specs.Core.Parts.{found_location, location_at, location_in, location_of, note_of, state_from, unit_state_of}
 use Rattle.dbtg_step.specs.Inside.Events.{HaveRings, IsWell, RunnerFits, RunnersFit}
 use Rattle.dbtg_step.specs.Core.Openings.{homes_of, homes_shown}
-use Rattle.dbtg_step.specs.Inside.Openings.{Adds, is_home, locations_of, opening_runner, runners_from, unused_extent}
+use Rattle.dbtg_step.specs.Inside.Openings.{Adds, opening_runner, runners_from, unused_extent}
 use Rattle.dbtg_step.proofs.Runs.Headlines.{machine_is_opening}
 use Rattle.dbtg_step.proofs.Runs.EveryRun.{start_in_turn}
 use Rattle.dbtg_step.proofs.Runs.GuessesFit.{AllGuesses}
@@ -53,9 +52,9 @@ none_numbers schema t a zero = refl
 none_numbers schema t a (suc n) = ap (λ (xs : List Number). record { last = 0; calc = None } ∷ xs) (none_numbers schema t (a + 1) n)
 
 -- one more cell that shows the same
-pub one_more_same : (v : CellValue) (n : ℕ) (x : Cell) → shown x ≡ v → (before old new : List CellLocation) → Adds before n v old → new ≡ old ++ AtHome x ∷ [] → Adds before (n + 1) v new
+pub one_more_same : (v : CellValue) (n : ℕ) (x : Cell) → shown x ≡ v → (before old new : List Cell) → Adds before n v old → new ≡ old ++ x ∷ [] → Adds before (n + 1) v new
 one_more_same v n x is before old new e g =
-    ap locations_of g ∙ map-append location_of old (AtHome x ∷ []) ∙ (λ i. e i ++ Home (is i) ∷ []) ∙ append_assoc (locations_of before) (replicate n (Home v)) (Home v ∷ []) ∙ ap (λ ys. locations_of before ++ ys) (replicate_more n (Home v))
+    ap homes_shown g ∙ map-append (λ y. Home (shown y)) old (x ∷ []) ∙ (λ i. e i ++ Home (is i) ∷ []) ∙ append_assoc (homes_shown before) (replicate n (Home v)) (Home v ∷ []) ∙ ap (λ ys. homes_shown before ++ ys) (replicate_more n (Home v))
 
 module _ (schema : Lists) (capacity : ℕ) where
   usage_opens : (a : ℕ) → UsageValue [] ≡ cell schema capacity (opening schema) (Usage a)
@@ -115,30 +114,22 @@ module _ (schema : Lists) (capacity : ℕ) where
       ∙ sym (λ i. homes_of schema capacity (cond (e i) (Ring s None ∷ []) (unwrap_or (option_map (λ t. map (λ n. Ring s (Some (t, n))) (range_with_len 1 capacity)) (o i)) [])))
 
   -- the four kinds of cells one after another
-  pub all_homes : (none usages extents rings slots : List CellLocation) → none ≡ [] → Adds none (length schema.areas) (UsageValue []) usages → Adds usages (length schema.types) (unused_extent capacity) extents
-      → locations_of rings ≡ locations_of extents ++ flat_map (λ s. homes_of schema capacity (rings_of schema capacity s)) (set_numbers schema)
-      → locations_of slots ≡ locations_of rings ++ flat_map (λ t. homes_of schema capacity (slots_of capacity t)) (range_with_len 0 (length schema.types))
-      → locations_of slots ≡ homes_of schema capacity (cells_in_order schema capacity)
+  pub all_homes : (none usages extents rings slots : List Cell) → none ≡ [] → Adds none (length schema.areas) (UsageValue []) usages → Adds usages (length schema.types) (unused_extent capacity) extents
+      → homes_shown rings ≡ homes_shown extents ++ flat_map (λ s. homes_of schema capacity (rings_of schema capacity s)) (set_numbers schema)
+      → homes_shown slots ≡ homes_shown rings ++ flat_map (λ t. homes_of schema capacity (slots_of capacity t)) (range_with_len 0 (length schema.types))
+      → homes_shown slots ≡ homes_of schema capacity (cells_in_order schema capacity)
   all_homes none usages extents rings slots is a b c d =
       let h : CellName → Location CellValue = λ n. Home (cell schema capacity (opening schema) n) in
       let u : List CellName = map Usage (range_with_len 0 (length schema.areas)) in
       let e : List CellName = map Extent (range_with_len 0 (length schema.types)) in
       let r : List CellName = flat_map (rings_of schema capacity) (set_numbers schema) in
       let s : List CellName = flat_map (slots_of capacity) (range_with_len 0 (length schema.types)) in
-      let first : locations_of usages ≡ map h u = a ∙ (λ i. locations_of (is i) ++ usages_open (length schema.areas) i) in
-      let second : locations_of extents ≡ map h u ++ map h e = b ∙ (λ i. first i ++ extents_open (length schema.types) i) in
-      let third : locations_of rings ≡ (map h u ++ map h e) ++ map h r = c ∙ (λ i. second i ++ sym (map_flat h (rings_of schema capacity) (set_numbers schema)) i) in
+      let first : homes_shown usages ≡ map h u = a ∙ (λ i. homes_shown (is i) ++ usages_open (length schema.areas) i) in
+      let second : homes_shown extents ≡ map h u ++ map h e = b ∙ (λ i. first i ++ extents_open (length schema.types) i) in
+      let third : homes_shown rings ≡ (map h u ++ map h e) ++ map h r = c ∙ (λ i. second i ++ sym (map_flat h (rings_of schema capacity) (set_numbers schema)) i) in
       d ∙ (λ i. third i ++ sym (map_flat h (slots_of capacity) (range_with_len 0 (length schema.types))) i)
       ∙ append_assoc (map h u ++ map h e) (map h r) (map h s) ∙ append_assoc (map h u) (map h e) (map h r ++ map h s)
       ∙ sym (map-append h u (e ++ (r ++ s)) ∙ ap (λ ys. map h u ++ ys) (map-append h e (r ++ s) ∙ ap (λ ys. map h e ++ ys) (map-append h r s)))
-
-  -- the cells of the opening database are at home
-  pub all_home : (names : List CellName) (table : List CellLocation) → locations_of table ≡ homes_of schema capacity names → list_all is_home table ≡ true
-  all_home [] [] e = refl
-  all_home [] (p ∷ table) e = absurd (cc (e))
-  all_home (n ∷ names) [] e = absurd (cc (e))
-  all_home (n ∷ names) (AtHome x ∷ table) e = all_home names table (cc (e))
-  all_home (n ∷ names) (WithUnit u ∷ table) e = absurd (cc (e))
 
   -- cells beside their names, as the opening database has them
   pub agree_beside : (names : List CellName) (cells : List Cell) → homes_shown cells ≡ homes_of schema capacity names → AllAgree schema capacity (opening schema) (zip names cells)
@@ -168,7 +159,7 @@ module _ (schema : Lists) (capacity : ℕ) where
   get_of_map None c e = refl
   get_of_map (Some p) c e = cc (e)
 
-  pub table_opens : (table : List CellLocation) → locations_of table ≡ homes_of schema capacity (cells_in_order schema capacity) → (c : CellName) → location_at schema capacity table c ≡ Home (cell schema capacity (opening schema) c)
+  pub table_opens : (table : List CellLocation) → map location_of table ≡ homes_of schema capacity (cells_in_order schema capacity) → (c : CellName) → location_at schema capacity table c ≡ Home (cell schema capacity (opening schema) c)
   unfolding location_at
   table_opens table e c = by (cell_number schema capacity c) refl
     where
@@ -179,7 +170,7 @@ module _ (schema : Lists) (capacity : ℕ) where
           (sym (slice_get-map location_of table n) ∙ ap (λ l. slice_get l n) e ∙ slice_get-map (λ d. Home (cell schema capacity (opening schema) d)) (cells_in_order schema capacity) n
           ∙ ap (option_map (λ d. Home (cell schema capacity (opening schema) d))) (stands_at c (cells_in_order schema capacity) n f))
 
-  pub table_count : (table : List CellLocation) → locations_of table ≡ homes_of schema capacity (cells_in_order schema capacity) → length table ≡ cell_count schema capacity
+  pub table_count : (table : List CellLocation) → map location_of table ≡ homes_of schema capacity (cells_in_order schema capacity) → length table ≡ cell_count schema capacity
   table_count table e = sym (length-map table location_of) ∙ ap length e ∙ length-map (cells_in_order schema capacity) (λ d. Home (cell schema capacity (opening schema) d))
 
   units_open : (n : ℕ) (scripts : List (List Statement)) → map (unit_state_of schema capacity) (runners_from schema n scripts) ≡ units_from schema capacity n scripts
@@ -197,7 +188,7 @@ module _ (schema : Lists) (capacity : ℕ) where
       subst (RunnerFits schema capacity) same (record { settled = λ q. (refl, refl); guesses = length-replicate (length schema.sets) None; course = λ w q. absurd (cc (q)) })
   runners_fit n (script ∷ scripts) (suc i) r e = runners_fit (suc n) scripts i r e
 
-  module _ (parts : Parts) (scripts : List (List Statement)) (table : locations_of parts.table.items ≡ homes_of schema capacity (cells_in_order schema capacity)) (history : parts.history.items ≡ []) (runners : parts.runners.items ≡ runners_from schema 1 scripts) where
+  module _ (parts : Parts) (scripts : List (List Statement)) (table : map location_of parts.table.items ≡ homes_of schema capacity (cells_in_order schema capacity)) (history : parts.history.items ≡ []) (runners : parts.runners.items ≡ runners_from schema 1 scripts) where
     pub opens_state : state_of schema capacity parts ≡ machine_of schema capacity scripts
     unfolding state_from
     opens_state =

@@ -1,5 +1,6 @@
 -- What an audit of a history says.
-use Rattle.std.specs.Prelude.{ℕ, ◌≡◌, ◌&&◌, true, nat_lt, nat_le, List, Option, Some, None}
+use Rattle.std.specs.Prelude.{ℕ, ◌≡◌, ◌&&◌, true, nat_lt, nat_le, List, Option, Some, None, map}
+use Rattle.std.specs.Borrow.{Bor}
 use Rattle.std.specs.List.{list_all}
 use Rattle.dbtg_schema.specs.Lists.{Lists}
 use Rattle.dbtg_unit.specs.declared.unit.Entry.{Entry}
@@ -7,6 +8,10 @@ use Rattle.dbtg_unit.specs.declared.unit.Unit.{Unit}
 use Rattle.dbtg_unit.specs.Database.State.Image.{Image, image_of}
 use Rattle.dbtg_unit.specs.Database.Statements.Fits.{fits}
 use Rattle.dbtg_unit.specs.Database.Laws.Replay.{IsHistoryOf, TicketsInOrder, opening_state, replay}
+
+-- the entries to which these lead
+abbrev pub entries_at : List (Bor Entry) → List Entry
+entries_at = map (λ entry. entry.now)
 
 -- WHAT IT SAYS
 

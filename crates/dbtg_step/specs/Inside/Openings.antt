@@ -1,27 +1,17 @@
 -- What a core keeps when it is opened.
-use Rattle.std.specs.Prelude.{◌≡◌, ℕ, suc, Bool, true, false, List, [], ◌∷◌, ◌++◌, None, map, length, replicate}
+use Rattle.std.specs.Prelude.{◌≡◌, ℕ, suc, List, [], ◌∷◌, ◌++◌, None, length, replicate}
 use Rattle.dbtg_schema.specs.Lists.{Lists}
+use Rattle.dbtg_cells.specs.declared.cell.Cell.{Cell}
 use Rattle.dbtg_cells.specs.Shown.{CellValue, ExtentValue}
 use Rattle.dbtg_unit.specs.declared.statement.Statement.{Statement}
 use Rattle.dbtg_unit.specs.Database.State.Units.{opening_unit}
-use Rattle.dbtg_step.specs.declared.parts.CellLocation.{CellLocation as CoreLocation}
-use Rattle.dbtg_step.specs.declared.parts.CellLocation.TheVariants.{Home as AtHome, HeldBy as WithUnit}
 use Rattle.dbtg_step.specs.declared.parts.UnitState.{UnitState}
-use Rattle.dbtg_step.specs.Machine.Machine.{CellLocation, Home}
-use Rattle.dbtg_step.specs.Core.Parts.{location_of}
+use Rattle.dbtg_step.specs.Machine.Machine.{Home}
+use Rattle.dbtg_step.specs.Core.Openings.{homes_shown}
 
--- where the cells of a table are
-abbrev pub locations_of : List CoreLocation → List (CellLocation CellValue)
-locations_of = map location_of
-
--- n more cells at home, each of which shows v
-abbrev pub Adds : List CoreLocation → ℕ → CellValue → List CoreLocation → Type 0
-Adds old n v new = locations_of new ≡ locations_of old ++ replicate n (Home v)
-
--- the cell is at home
-abbrev pub is_home : CoreLocation → Bool
-is_home (AtHome x) = true
-is_home (WithUnit u) = false
+-- n more cells, each of which shows v
+abbrev pub Adds : List Cell → ℕ → CellValue → List Cell → Type 0
+Adds old n v new = homes_shown new ≡ homes_shown old ++ replicate n (Home v)
 
 -- an extent none of whose numbers is used
 abbrev pub unused_extent : ℕ → CellValue

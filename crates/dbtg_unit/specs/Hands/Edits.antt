@@ -88,7 +88,7 @@ edited (PlaceMember order position key sort_key) (RingValue ring) =
 edited (ReplaceMember order position key sort_key) (RingValue ring) =
     RingValue (option_map (with_members (placed (member_spot order position sort_key) (key, sort_key))) (option_map (with_members (members_without key)) ring))
 edited (TakeOut key) (RingValue ring) = RingValue (option_map (with_members (members_without key)) ring)
-edited (Fill generation items owners) (SlotValue slot) = SlotValue (Some (record { generation = generation; version = 1; items = items; owners = owners }))
+edited (Fill stored) (SlotValue slot) = SlotValue (Some stored)
 edited Vacate (SlotValue slot) = SlotValue None
 edited (ChangeItems items) (SlotValue slot) = SlotValue (option_map (with_stored_items items) slot)
 edited (ChangeOwner s owner) (SlotValue slot) = SlotValue (option_map (with_owner s owner) slot)

@@ -12,6 +12,7 @@ use Rattle.dbtg_cells.specs.declared.key.Owner.TheVariants.{Rec}
 use Rattle.dbtg_cells.specs.declared.key.Value.{Value}
 use Rattle.dbtg_cells.specs.declared.name.CellName.TheVariants.{Usage, Extent, Ring}
 use Rattle.dbtg_cells.specs.declared.usage.Mode.{Mode}
+use Rattle.dbtg_cells.specs.Shown.{first_version}
 use Rattle.dbtg_unit.specs.declared.edit.CellEdit.{CellEdit}
 use Rattle.dbtg_unit.specs.declared.edit.Edit.{Edit}
 use Rattle.dbtg_unit.specs.declared.edit.Edit.TheVariants.{EnterUser, LeaveUser, EnterNumber, ChangeNumber, OpenRing, PlaceMember, ReplaceMember, TakeOut, Fill, ChangeItems, ChangeOwner, RaiseVersion}
@@ -80,7 +81,7 @@ store_edits schema unit k items =
     record { name = Extent k.rtype; edit = EnterNumber k.number (calc_items schema k.rtype items) }
     ∷ (flat_map (λ s. joining_edits schema unit s k (key_item schema s k.rtype items)) (automatic_sets schema k.rtype)
     ++ (flat_map (λ s. record { name = Ring s (Some (k.rtype, k.number)); edit = OpenRing (Rec k) } ∷ []) (filter (λ s. owns schema s k.rtype) (set_numbers schema))
-    ++ slot_edit k (Fill k.generation items (first_owners schema unit k.rtype)) ∷ []))
+    ++ slot_edit k (Fill (first_version k.generation items (first_owners schema unit k.rtype))) ∷ []))
 
 -- STORE of k: it is stored, and becomes current
 abbrev pub storing : Lists → Unit → List Value → Suppress → DbKey → Plan

@@ -11,7 +11,7 @@ loop-s-preserved c =
     let below : c.loop-s.s < length c.args.schema.now.sets = subst (λ n. c.loop-s.s < n) c.set_count-s-end.ensures c.loop-s-test.true in
     let leave = TakeOut c.args.key.now ∷ [] in
     let owner_is : c.staying_owner-owner.result ≡ staying_owner c.args.gone.now (owner_in c.args.held.now c.loop-s.s c.args.key.now) =
-    c.staying_owner-owner.ensures ∙ ap (staying_owner c.args.gone.now) (c.entry_at.ensures ∙ c.owners_of-owners.ensures c.loop-s.s) in
+    c.staying_owner-owner.ensures ∙ ap (staying_owner c.args.gone.now) (c.owner_at.ensures ∙ c.owners_of-owners.ensures c.loop-s.s) in
     edits_of_each c.loop-s.edits c.push_taking_out.new.edits _ (λ s. ring_edits s (staying_owner c.args.gone.now (owner_in c.args.held.now s c.args.key.now)) leave)
     (length c.args.schema.now.sets) c.loop-s.s below
     (c.in_ok-push_taking_out.ensures ∙ ap (λ s. c.loop-s.edits ++ ring_edits s c.staying_owner-owner.result leave) c.new.ensures ∙ ap (λ o. c.loop-s.edits ++ ring_edits c.loop-s.s o leave) owner_is)

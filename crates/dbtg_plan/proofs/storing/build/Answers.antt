@@ -2,6 +2,7 @@ use Rattle.std.proofs.Common.{◌++◌, ◌∙◌, ap, List, Option}
 use Rattle.std.specs.List.{flat_map}
 use Rattle.dbtg_schema.specs.Structure.{automatic_sets}
 use Rattle.dbtg_cells.specs.declared.key.Owner.{Owner}
+use Rattle.dbtg_cells.specs.Shown.{first_version}
 use Rattle.dbtg_unit.specs.declared.edit.Edit.TheVariants.{Fill}
 use Rattle.dbtg_unit.specs.Database.State.Base.{key_item}
 use Rattle.dbtg_unit.specs.Hands.EditsOf.{joining_edits, slot_edit}
@@ -19,4 +20,4 @@ returns c =
     (c.in_ok-entering.ensures ∙ ap (entering_edit schema k) c.as_slice-2.ensures)
     (c.of.ensures ∙ c.in_ok-push_each_join.ensures
     ∙ (λ i. c.new-joins.ensures.items i ++ flat_map (λ s. joining_edits schema unit s k (key_item schema s k.rtype (c.as_slice.ensures i))) (automatic_sets schema k.rtype)))
-    (c.in_ok-filling.ensures ∙ ap (λ (owners : List (Option Owner)). slot_edit k (Fill k.generation items owners)) c.requires)
+    (c.in_ok-filling.ensures ∙ ap (λ (owners : List (Option Owner)). slot_edit k (Fill (first_version k.generation items owners))) c.requires)

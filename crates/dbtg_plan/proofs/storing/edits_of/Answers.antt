@@ -3,6 +3,7 @@ use Rattle.std.specs.List.{flat_map}
 use Rattle.dbtg_schema.specs.Structure.{automatic_sets}
 use Rattle.dbtg_cells.specs.declared.key.Owner.{Owner}
 use Rattle.dbtg_cells.specs.declared.key.Value.{Value}
+use Rattle.dbtg_cells.specs.Shown.{first_version}
 use Rattle.dbtg_unit.specs.declared.edit.CellEdit.{CellEdit}
 use Rattle.dbtg_unit.specs.declared.edit.Edit.TheVariants.{Fill}
 use Rattle.dbtg_unit.specs.Database.State.Base.{key_item}
@@ -21,4 +22,4 @@ returns c =
     (c.in_ok-push.ensures.items ∙ (λ i. c.in_ok-edits.ensures.items i ++ (c.in_ok-entering.ensures ∙ ap (entering_edit schema k) c.as_slice.ensures) i ∷ []))
     (c.in_ok-push_each_join.ensures ∙ ap (λ (items : List Value). c.push.new.self.items ++ flat_map (λ s. joining_edits schema unit s k (key_item schema s k.rtype items)) (automatic_sets schema k.rtype)) c.as_slice-2.ensures)
     c.in_ok-push_openings.ensures
-    (c.in_ok-push-2.ensures.items ∙ ap (λ (e : CellEdit). c.push_openings.new.edits.items ++ e ∷ []) (c.in_ok-filling.ensures ∙ ap (λ (owners : List (Option Owner)). slot_edit k (Fill k.generation c.args.items.now owners)) c.requires))
+    (c.in_ok-push-2.ensures.items ∙ ap (λ (e : CellEdit). c.push_openings.new.edits.items ++ e ∷ []) (c.in_ok-filling.ensures ∙ ap (λ (owners : List (Option Owner)). slot_edit k (Fill (first_version k.generation c.args.items.now owners))) c.requires))

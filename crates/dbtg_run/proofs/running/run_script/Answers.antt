@@ -1,9 +1,15 @@
 use Rattle.dbtg_run.proofs.Units.Runs.{ran_more, ran_next, ran_none}
-use Rattle.std.proofs.Common.{◌+◌, drop}
+use Rattle.std.proofs.Common.{◌≡◌, ◌+◌, drop, subst, sym}
+use Rattle.dbtg_run.specs.Running.{Ran}
+use Rattle.dbtg_run.specs.UnitView.{BelongsTo, UnitView}
 use Rattle.dbtg_run.proofs.running.run_script.Goals as goal
 
 pub script-init : goal.script-init
-script-init g c = record { belongs = c.requires.belongs; ran = ran_none c.args.script.now c.args.unit.now }
+script-init g c =
+    let script = c.args.script.now in let first = c.args.unit.now in let same = sym c.make_room.ensures in record {
+      belongs = subst (BelongsTo c.args.db.now) same c.requires.belongs;
+      ran = subst (λ (u : UnitView). (r : Ran script first u) × (r.left ≡ drop 0 script)) same (ran_none script first);
+    }
 
 pub script-preserved : goal.script-preserved
 script-preserved g c =

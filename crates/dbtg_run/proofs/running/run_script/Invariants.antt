@@ -6,5 +6,5 @@ use Rattle.dbtg_run.proofs.running.run_script.Given as goal
 abbrev pub invariant-script : goal.invariant-script
 invariant-script g l = record {
   belongs : BelongsTo l.db l.unit;
-  ran : (r : Ran l.script l.initial.unit l.unit) × (r.left ≡ drop l.statement-index l.script);
+  ran : (r : Ran l.script l.fn.unit l.unit) × (r.left ≡ drop l.statement-index l.script);
 }

@@ -5,6 +5,6 @@ use Rattle.dbtg_step.proofs.opening_parts.add_absent_rings.Goals as goal
 
 pub loop-turn-preserved : goal.loop-turn-preserved
 loop-turn-preserved c = (
-  one_more_same (RingValue None) c.loop-turn._turn _ (ap RingValue c.absent.ensures) c.reserve.new.self.items c.loop-turn.table.items c.push_reserved.new.self.items c.loop-turn.invariant.0 c.push_reserved.ensures.items,
+  one_more_same (RingValue None) c.loop-turn._turn _ (ap RingValue c.absent.ensures) c.reserve.new.self.items c.loop-turn.cells.items c.push_reserved.new.self.items c.loop-turn.invariant.0 c.push_reserved.ensures.items,
   omega (arith, c.loop-turn.invariant.1, c.push_reserved.ensures.len, c.push_reserved.ensures.capacity),
 )

@@ -6,4 +6,4 @@ use Rattle.dbtg_step.proofs.opening_parts.add_absent_rings.Given as goal
 
 -- the cells that are made, and room for the others
 abbrev pub invariant-loop-turn : goal.invariant-loop-turn
-invariant-loop-turn l = Adds l.initial.table.items l._turn (RingValue None) l.table.items × (length l.table.items + (l.count - l._turn) ≤ vec_capacity l.table)
+invariant-loop-turn l = Adds l.initial.cells.items l._turn (RingValue None) l.cells.items × (length l.cells.items + (l.count - l._turn) ≤ vec_capacity l.cells)

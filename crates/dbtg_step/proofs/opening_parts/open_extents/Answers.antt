@@ -6,4 +6,4 @@ use Rattle.dbtg_step.proofs.opening_parts.open_extents.Goals as goal
 
 pub loop-rtype-preserved : goal.loop-rtype-preserved
 loop-rtype-preserved c =
-    one_more_same (unused_extent c.args.capacity) c.loop-rtype._rtype _ (ap ExtentValue c.in_ok-extent.ensures) c.args.table.now.items c.loop-rtype.table.items c.push.new.self.items c.loop-rtype.invariant c.in_ok-push.ensures.items
+    one_more_same (unused_extent c.args.capacity) c.loop-rtype._rtype _ (ap ExtentValue c.in_ok-extent.ensures) c.args.cells.now.items c.loop-rtype.cells.items c.push.new.self.items c.loop-rtype.invariant c.in_ok-push.ensures.items

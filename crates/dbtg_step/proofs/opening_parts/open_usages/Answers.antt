@@ -5,4 +5,4 @@ use Rattle.dbtg_step.proofs.opening_parts.open_usages.Goals as goal
 
 pub loop-area-preserved : goal.loop-area-preserved
 loop-area-preserved c =
-    one_more_same (UsageValue []) c.loop-area._area _ (ap UsageValue c.new.ensures) c.args.table.now.items c.loop-area.table.items c.push.new.self.items c.loop-area.invariant c.in_ok-push.ensures.items
+    one_more_same (UsageValue []) c.loop-area._area _ (ap UsageValue c.new.ensures) c.args.cells.now.items c.loop-area.cells.items c.push.new.self.items c.loop-area.invariant c.in_ok-push.ensures.items

@@ -1,6 +1,7 @@
-use Rattle.dbtg_step.proofs.TheCore.OpeningShown.{all_homes}
+use Rattle.std.proofs.Common.{◌≡◌, map, subst}
+use Rattle.std.specs.Prelude.{IfOk}
+use Rattle.dbtg_step.specs.Core.Parts.{location_of}
 use Rattle.dbtg_step.proofs.opening_parts.opening_table.Goals as goal
 
 pub returns : goal.returns
-returns c =
-    all_homes c.args.schema.now c.args.capacity _ _ _ _ _ c.in_ok-table.ensures.items c.in_ok-open_usages.ensures c.in_ok-open_extents.ensures c.in_ok-open_rings.ensures c.in_ok-open_slots.ensures
+returns c = subst (λ ps. IfOk c.at_home.result (λ table. map location_of table.items ≡ ps)) c.in_ok-opening_cells.ensures c.at_home.ensures

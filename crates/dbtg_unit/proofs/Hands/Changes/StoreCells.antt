@@ -11,7 +11,7 @@ use Rattle.dbtg_cells.specs.declared.key.Owner.TheVariants.{Rec}
 use Rattle.dbtg_cells.specs.declared.key.Value.{Value}
 use Rattle.dbtg_cells.specs.declared.name.CellName.{CellName}
 use Rattle.dbtg_cells.specs.declared.name.CellName.TheVariants.{Usage, Extent, Ring, Slot}
-use Rattle.dbtg_cells.specs.Shown.{CellValue, ExtentValue, RingValue, SlotValue}
+use Rattle.dbtg_cells.specs.Shown.{CellValue, ExtentValue, RingValue, SlotValue, first_version}
 use Rattle.dbtg_cells.specs.Keys.{key_eq, owner_eq}
 use Rattle.dbtg_cells.specs.Names.{name_eq, place_eq}
 use Rattle.dbtg_cells.specs.Placed.{placed}
@@ -255,11 +255,11 @@ module _ (schema : Lists) (capacity : ℕ) (db : Database) (unit : Unit) (k : Db
 
   edits_in_turn : (c : CellName) (value : CellValue)
       → edited_at c (store_edits schema unit k items) value
-      ≡ edited_at c (slot_edit k (Fill k.generation items (first_owners schema unit k.rtype)) ∷ [])
+      ≡ edited_at c (slot_edit k (Fill (first_version k.generation items (first_owners schema unit k.rtype))) ∷ [])
       (opened_cells c (joined_cells c (cond (name_eq c (Extent k.rtype)) (edited (EnterNumber k.number (calc_items schema k.rtype items)) value) value)))
   unfolding joined_cells opened_cells joining edits_of_opening
   edits_in_turn c value =
-      let filled = slot_edit k (Fill k.generation items (first_owners schema unit k.rtype)) ∷ [] in
+      let filled = slot_edit k (Fill (first_version k.generation items (first_owners schema unit k.rtype))) ∷ [] in
       let own = flat_map edits_of_opening (filter (λ s. owns schema s k.rtype) (set_numbers schema)) in
       let first = cond (name_eq c (Extent k.rtype)) (edited (EnterNumber k.number (calc_items schema k.rtype items)) value) value in
       edited_at_append c (flat_map joining (automatic_sets schema k.rtype)) (own ++ filled) first
@@ -371,7 +371,7 @@ module _ (schema : Lists) (capacity : ℕ) (db : Database) (unit : Unit) (k : Db
   entry = EnterNumber k.number (calc_items schema k.rtype items)
 
   filled : Edit
-  filled = Fill k.generation items (first_owners schema unit k.rtype)
+  filled = Fill (first_version k.generation items (first_owners schema unit k.rtype))
 
   extent_made : (t : ℕ) → cell schema capacity new (Extent t) ≡ cond (eqb t k.rtype) (edited entry (cell schema capacity db (Extent t))) (cell schema capacity db (Extent t))
   unfolding cell entry

@@ -7,5 +7,5 @@ use Rattle.dbtg_cells.proofs.extent.Extent.last_live.Goals as goal
 
 pub returns : goal.returns
 returns c =
-    let last : c.copied.result ≡ final c.self.inside.live.items = grind (arith, common_steps) in
-    last ∙ ap final ((all_numbered _ _ _ c.self.inside.capacity c.self.invariant.0).live_is) ∙ ap (λ e. final (numbers_where is_used e.numbers)) c.self.view_is
+    let last : c.copied.result ≡ final c.self.inside.lists.value.live.items = grind (arith, common_steps) in
+    last ∙ ap final ((all_numbered _ _ _ c.self.inside.lists.value.capacity c.self.invariant.0).live_is) ∙ ap (λ e. final (numbers_where is_used e.numbers)) c.self.view_is

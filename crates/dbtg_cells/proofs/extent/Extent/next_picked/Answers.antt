@@ -6,5 +6,5 @@ use Rattle.dbtg_cells.proofs.extent.Extent.next_picked.Goals as goal
 
 pub returns : goal.returns
 returns c =
-    let all = listed_alike (has_values (picked c.args.item_numbers.now c.args.items.now)) c.self.inside.numbers.items (c.self.inside.capacity - length c.self.inside.numbers.items) refl in
+    let all = listed_alike (has_values (picked c.args.item_numbers.now c.args.items.now)) c.self.inside.lists.value.numbers.items (c.self.inside.lists.value.capacity - length c.self.inside.lists.value.numbers.items) refl in
     search rules

@@ -5,5 +5,5 @@ use Rattle.dbtg_cells.proofs.extent.Extent.next_with.Goals as goal
 
 pub returns : goal.returns
 returns c =
-    let all = listed_alike (has_values c.args.values.now) c.self.inside.numbers.items (c.self.inside.capacity - length c.self.inside.numbers.items) refl in
+    let all = listed_alike (has_values c.args.values.now) c.self.inside.lists.value.numbers.items (c.self.inside.lists.value.capacity - length c.self.inside.lists.value.numbers.items) refl in
     search rules

@@ -4,5 +4,5 @@ use Rattle.dbtg_cells.proofs.extent.Extent.nth_live.Goals as goal
 
 pub returns : goal.returns
 returns c =
-    let live = (all_numbered _ _ _ c.self.inside.capacity c.self.invariant.0).live_is in
+    let live = (all_numbered _ _ _ c.self.inside.lists.value.capacity c.self.invariant.0).live_is in
     search rules

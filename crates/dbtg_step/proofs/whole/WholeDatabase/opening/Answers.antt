@@ -1,5 +1,5 @@
 use Rattle.std.proofs.Common.{sym, subst}
-use Rattle.dbtg_step.specs.Inside.Whole.{IsWhole}
+use Rattle.dbtg_step.specs.Core.Bare.{IsWhole}
 use Rattle.dbtg_step.proofs.MadeWhole.Wholes.{opens}
 use Rattle.dbtg_step.proofs.whole.WholeDatabase.opening.Goals as goal
 
