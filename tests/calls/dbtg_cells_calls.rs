@@ -1,8 +1,8 @@
 //! Makes each public call of `dbtg_cells` as its callers do, with memory to spare, and works out the lists of docs/profile.
 
 use dbtg_cells::{
-    CellName, DbKey, Extent, MaybeOwner, Mode, NewRecord, Owner, Ring, Slot, Usage, Value,
-    copy_items, key_below, key_eq, name_below, name_eq, owner_below, owner_eq, values_eq,
+    CellName, DbKey, Extent, MaybeOwner, Mode, NewRecord, Owner, Ring, Shared, SharedItems, Slot, Usage,
+    Value, key_below, key_eq, name_below, name_eq, owner_below, owner_eq, values_eq,
 };
 use dbtg_schema::{AreaNo, Duplicates, ItemNo, RecordNo, Row, SetNo};
 use std::alloc::{AllocError, Global};
@@ -27,6 +27,10 @@ fn key(number: u32, generation: u8) -> DbKey {
 /// A row of one number.
 fn row(rt: &HostRuntime, number: u64) -> Result<Row<Value>, AllocError> {
     Ok(Row::of(vec![in rt.alloc(); Value::Num(number)]?))
+}
+
+fn shared(rt: &HostRuntime, number: u64) -> Result<SharedItems, AllocError> {
+    Shared::new(rt.alloc(), row(rt, number)?)
 }
 
 fn system_ring() -> CellName {

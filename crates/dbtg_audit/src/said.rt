@@ -4,8 +4,7 @@ ghost use Rattle.dbtg_cells.specs.Keys.{key_eq, values_eq};
 ghost use Rattle.dbtg_unit.specs.Database.Statements.Codes.{status_code};
 ghost use Rattle.dbtg_audit.specs.Auditing.{agrees, is_so};
 
-use dbtg_cells::{DbKey, Value, values_eq};
-use dbtg_schema::Row;
+use dbtg_cells::{DbKey, SharedItems, values_eq};
 use dbtg_trace::Said;
 use dbtg_unit::Entry;
 
@@ -25,11 +24,11 @@ fn same_key(said: Option<DbKey>, key: Option<DbKey>) -> bool
     }
 }
 
-fn same_items(said: &Option<Row<Value>>, items: &Option<Row<Value>>) -> bool
+fn same_items(said: &Option<SharedItems>, items: &Option<SharedItems>) -> bool
     ensures { result ≡ agrees values_eq said.now items.now }
 {
     match (said, items) {
-        (Some(said), Some(items)) => values_eq(said.as_slice(), items.as_slice()),
+        (Some(said), Some(items)) => values_eq(said.get().as_slice(), items.get().as_slice()),
         (Some(_), None) => false,
         (None, _) => true,
     }

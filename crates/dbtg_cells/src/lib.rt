@@ -15,6 +15,7 @@ mod name;
 mod numbering;
 mod order;
 mod ring;
+mod shared;
 mod slot;
 mod sorted;
 mod usage;
@@ -29,6 +30,7 @@ pub use maybe_owner::{MaybeOwner, owner_at};
 pub use name::{CellName, name_below, name_eq};
 pub use numbering::{Layout, cell_count, cell_number, is_cell};
 pub use ring::{Occurrence, Ring};
+pub use shared::{Shared, SharedItems};
 pub use slot::{NewRecord, Slot, Stored};
 pub use usage::{Mode, Usage};
 pub use value::{

@@ -4,9 +4,9 @@ ghost use Rattle.std.specs.Option.{option_copied};
 ghost use Rattle.dbtg_schema.specs.Lookups.{at, some_and};
 ghost use Rattle.dbtg_cells.specs.Shown.{first_version};
 
-use crate::key::{Owner, Value};
+use crate::key::Owner;
 use crate::maybe_owner::{MaybeOwner, owner_at};
-use crate::value::copy_items;
+use crate::shared::SharedItems;
 use dbtg_schema::{Row, SetNo};
 use std::alloc::{AllocError, Global};
 use std::marker::Model;
@@ -16,7 +16,7 @@ use std::marker::Model;
 pub struct Stored {
     pub generation: u8,
     pub version: u64,
-    pub items: Row<Value>,
+    pub items: SharedItems,
     pub owners: Row<MaybeOwner>,
 }
 
@@ -25,7 +25,7 @@ impl Stored {
     pub fn copy(&self, alloc: Global) -> Result<Self, AllocError>
         ensures { IfOk result (λ stored. stored ≡ self.now) }
     {
-        let items = copy_items(&self.items, alloc)?;
+        let items = self.items.share()?;
         let owners = self.owners.copy(alloc)?;
         Ok(Self {
             generation: self.generation,
@@ -55,7 +55,7 @@ impl NewRecord {
     pub fn new(
         alloc: Global,
         generation: u8,
-        items: Row<Value>,
+        items: SharedItems,
         owners: Row<MaybeOwner>,
     ) -> Result<Self, AllocError>
         ensures { IfOk result (λ made. made ≡ first_version generation items owners) }
@@ -145,7 +145,7 @@ impl Slot {
     }
 
     /// Gives the record other items. A vacant slot stays vacant.
-    pub fn set_items(&mut self, items: Row<Value>)
+    pub fn set_items(&mut self, items: SharedItems)
         ensures { self.new ≡ option_map (λ r. record { generation = r.generation; version = r.version; items = items; owners = r.owners }) self.old }
     {
         if let Some(record) = &mut self.stored {

@@ -10,7 +10,7 @@ fn copy_script(alloc: Global, script: &Row<Statement>) -> Result<Row<Statement>,
 {
     let mut copy = Vec::new(alloc);
     for statement in script.as_slice() {
-        copy.push(statement.copy(alloc)?)?;
+        copy.push(statement.copy()?)?;
     }
     Ok(Row::of(copy))
 }

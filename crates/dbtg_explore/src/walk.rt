@@ -147,7 +147,7 @@ impl<'a> Meeting<'a> {
         match self.due(walk, unit) {
             None => Ok(()),
             Some(statement) => {
-                let statement = statement.copy(alloc)?;
+                let statement = statement.copy()?;
                 let goings = walk.goings.as_mut_slice();
                 let before = self.make(alloc, &mut walk.database, goings, unit, statement)?;
                 walk.turns.push(Taken { unit, before })?;

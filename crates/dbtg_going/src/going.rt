@@ -86,7 +86,7 @@ impl<'a> Programs<'a> {
         if unit == 0 || members.len() < unit as usize {
             return Ok(false);
         }
-        match members[unit as usize - 1].statement(self.alloc, self.schema)? {
+        match members[unit as usize - 1].statement(self.schema)? {
             None => Ok(false),
             Some(statement) => {
                 self.make(database, members, unit, statement)?;

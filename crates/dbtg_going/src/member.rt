@@ -51,7 +51,7 @@ impl Going {
         ensures { IfOk result (λ copy. copy ≡ self.now) }
     {
         let state = self.state.copy(alloc)?;
-        let due = self.due.copy(alloc)?;
+        let due = self.due.copy()?;
         Ok(Self { state, due })
     }
 
@@ -101,11 +101,11 @@ impl Member {
     }
 
     /// The statement that is due, if its unit can make it.
-    pub fn statement(&self, alloc: Global, schema: &Schema) -> Result<Option<Statement>, AllocError>
+    pub fn statement(&self, schema: &Schema) -> Result<Option<Statement>, AllocError>
         ensures { IfOk result (λ statement. statement ≡ due_after schema.now self.now.made (comes_of self.now.going)) }
     {
         match self.going.statement(schema) {
-            Some(statement) if self.made < MOST_STATEMENTS => Ok(Some(statement.copy(alloc)?)),
+            Some(statement) if self.made < MOST_STATEMENTS => Ok(Some(statement.copy()?)),
             _ => Ok(None),
         }
     }

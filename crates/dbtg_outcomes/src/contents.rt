@@ -118,7 +118,7 @@ fn items_in(cell: &Cell) -> &[Value]
         return &[];
     };
     match slot.record() {
-        Some(stored) => stored.items.as_slice(),
+        Some(stored) => stored.items.get().as_slice(),
         None => &[],
     }
 }
@@ -142,7 +142,7 @@ fn spell_stored(versions: bool, stored: &Stored, out: &mut Vec<u64>) -> Result<(
 {
     out.push(stored.generation as u64)?;
     out.push(if versions { stored.version } else { 1 })?;
-    stored.items.spell(out)?;
+    stored.items.get().spell(out)?;
     spell_each(stored.owners.as_slice(), out)
 }
 

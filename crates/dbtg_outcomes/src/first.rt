@@ -52,7 +52,6 @@ impl<'a> Meeting<'a> {
     // A unit makes the statement at this place of its script, and its status is noted.
     fn make_noted(
         &self,
-        alloc: Global,
         database: &mut WholeDatabase,
         unit: u8,
         place: usize,
@@ -67,7 +66,7 @@ impl<'a> Meeting<'a> {
         ensures { OnOk result (MakesNoted self.now unit statement.now database.old database.new notes.old.items notes.new.items) }
     {
         let before = database.history().len();
-        make_copy(alloc, database, unit, statement)?;
+        make_copy(database, unit, statement)?;
         let made = &database.history()[before];
         let status = made.answer.status.code(&made.statement);
         let note = Note {
@@ -82,7 +81,6 @@ impl<'a> Meeting<'a> {
     // A unit that has made nothing yet makes a script, statement by statement.
     fn make_script(
         &self,
-        alloc: Global,
         database: &mut WholeDatabase,
         unit: u8,
         script: &[Statement],
@@ -95,7 +93,7 @@ impl<'a> Meeting<'a> {
         ensures { OnOk result (MakesScript self.now unit script.now database.old database.new notes.old.items notes.new.items) }
     {
         for place in 0..script.len() {
-            self.make_noted(alloc, database, unit, place, &script[place], notes)?;
+            self.make_noted(database, unit, place, &script[place], notes)?;
         }
         Ok(())
     }
@@ -103,7 +101,6 @@ impl<'a> Meeting<'a> {
     // The script that is made first.
     fn make_first(
         &self,
-        alloc: Global,
         database: &mut WholeDatabase,
         notes: &mut Vec<Note>,
     ) -> Result<(), AllocError>
@@ -114,13 +111,12 @@ impl<'a> Meeting<'a> {
         ensures noted { OnOk result (AreNotedOf self.now (made_first self.now.first self.now.scripts) notes.new.items) }
     {
         let script = first_script(self.first, self.scripts);
-        self.make_script(alloc, database, self.units(), script, notes)
+        self.make_script(database, self.units(), script, notes)
     }
 
     // The script that is made first, and then that of unit 1.
     fn make_alone(
         &self,
-        alloc: Global,
         database: &mut WholeDatabase,
         script: &[Statement],
         notes: &mut Vec<Note>,
@@ -132,8 +128,8 @@ impl<'a> Meeting<'a> {
         ensures made { OnOk result (IsMaking self.now (order_alone self.now script.now) database.new) }
         ensures noted { OnOk result (AreNotedOf self.now (order_alone self.now script.now) notes.new.items) }
     {
-        self.make_first(alloc, database, notes)?;
-        self.make_script(alloc, database, 1, script, notes)
+        self.make_first(database, notes)?;
+        self.make_script(database, 1, script, notes)
     }
 
     /// Notes the statuses of the script that is made first.
@@ -143,7 +139,7 @@ impl<'a> Meeting<'a> {
         ensures { OnOk result (AreNotedOf self.now (made_first self.now.first self.now.scripts) notes.new.items) }
     {
         let mut database = WholeDatabase::opening(alloc, self.schema, self.capacity, self.units())?;
-        let made = self.make_first(alloc, &mut database, notes);
+        let made = self.make_first(&mut database, notes);
         database.discard();
         made
     }
@@ -161,7 +157,7 @@ impl<'a> Meeting<'a> {
         ensures { OnOk result (AreNotedOf self.now (order_alone self.now script.now) notes.new.items) }
     {
         let mut database = WholeDatabase::opening(alloc, self.schema, self.capacity, self.units())?;
-        let made = self.make_alone(alloc, &mut database, script, notes);
+        let made = self.make_alone(&mut database, script, notes);
         database.discard();
         made
     }

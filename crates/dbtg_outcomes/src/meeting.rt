@@ -59,7 +59,6 @@ pub fn as_numbers(alloc: Global, bytes: &[u8]) -> Result<Vec<u64>, AllocError>
 
 // Has a unit of the database make a copy of the statement.
 pub(crate) fn make_copy(
-    alloc: Global,
     database: &mut WholeDatabase,
     unit: u8,
     statement: &Statement,
@@ -69,7 +68,7 @@ pub(crate) fn make_copy(
     requires fitting { fits database.old.schema statement.now ≡ true }
     ensures { OnOk result (HasMade database.old unit statement.now database.new) }
 {
-    database.make(unit, statement.copy(alloc)?)
+    database.make(unit, statement.copy()?)
 }
 
 impl<'a> Meeting<'a> {

@@ -9,7 +9,7 @@ ghost use Rattle.dbtg_outcomes.specs.Named.{answer_name, currency_name, key_name
 ghost use Rattle.dbtg_outcomes.specs.Spelling.{list_numbers, mode_numbers, one_number, option_numbers, pair_numbers, value_numbers};
 
 use crate::spelled::Spelled;
-use dbtg_cells::{DbKey, Mode, Owner, Value, key_eq};
+use dbtg_cells::{DbKey, Mode, Owner, Shared, Value, key_eq};
 use dbtg_schema::Row;
 use dbtg_unit::{Currency, Entry, Place, Statement};
 use std::alloc::{AllocError, Global};
@@ -185,6 +185,14 @@ impl<T: Named> Named for Row<T> {
     fn name(&self, stored: &[DbKey], out: &mut Vec<u64>) -> Result<(), AllocError> {
         out.push(self.len() as u64)?;
         name_each(self.as_slice(), stored, out)
+    }
+}
+
+impl<T: Named> Named for Shared<T> {
+    ghost named = { T.named };
+
+    fn name(&self, stored: &[DbKey], out: &mut Vec<u64>) -> Result<(), AllocError> {
+        self.get().name(stored, out)
     }
 }
 

@@ -34,7 +34,7 @@ impl<'a> Meeting<'a> {
         ensures transitions { OnOk result (walk.new.transitions ≡ walk.old.transitions) }
         ensures cells { IfOk result (λ found. IfSome found (λ names. (x : Statement) → next_of self.now.scripts (order_of self.now turns.now) unit ≡ Some x → AreLookedAt self.now (order_of self.now turns.now) unit x names.items)) }
     {
-        self.go_to(alloc, walk, turns)?;
+        self.go_to(walk, turns)?;
         match self.next_statement(turns, unit) {
             Some(statement) => {
                 let database = walk.database.database();
@@ -99,7 +99,7 @@ impl<'a> Meeting<'a> {
     {
         let turns = group.turns.as_slice();
         let names = self.cells_at(alloc, walk, turns, unit)?;
-        let status = self.turned(alloc, walk, turns, unit)?;
+        let status = self.turned(walk, turns, unit)?;
         let (numbers, database) = (&mut walk.numbers, &walk.database);
         let after = self.next_number(alloc, numbers, database, group.number, unit)?;
         if let Some(names) = names {

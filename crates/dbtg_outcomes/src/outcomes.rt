@@ -77,7 +77,7 @@ fn join_result<'a>(
     ensures stands { OnOk result (Stands meeting.now walk.new) }
     ensures joins { OnOk result (Joins meeting.now group.now texts.old texts.new results.old results.new) }
 {
-    meeting.go_to(alloc, walk, group.turns.as_slice())?;
+    meeting.go_to(walk, group.turns.as_slice())?;
     let text = meeting.result_key(alloc, walk.database.database())?;
     let number = texts.enter(text)?;
     let turns = group.turns.copy(alloc)?;

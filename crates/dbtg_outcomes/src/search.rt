@@ -178,7 +178,7 @@ impl<'a> Search<'a> {
         ensures limit { IfOk result (λ search. search.limit ≡ limit) }
     {
         let mut walk = meeting.walk(alloc, notes)?;
-        meeting.go_to(alloc, &mut walk, turns.as_slice())?;
+        meeting.go_to(&mut walk, turns.as_slice())?;
         let number = meeting.state_number(alloc, &mut walk)?;
         let orders = Some(1);
         let first = Group {

@@ -82,7 +82,7 @@ impl<'a> Meeting<'a> {
     }
 
     // The unit has its turn, and makes its next statement.
-    fn take_turn(&self, alloc: Global, walk: &mut Walk<'a>, unit: u8) -> Result<(), AllocError>
+    fn take_turn(&self, walk: &mut Walk<'a>, unit: u8) -> Result<(), AllocError>
         requires meeting { IsMeeting self.now }
         requires stands { Stands self.now walk.old }
         requires there { is_some (next_of self.now.scripts (order_of self.now walk.old.turns.items) unit) ≡ true }
@@ -90,7 +90,7 @@ impl<'a> Meeting<'a> {
     {
         match self.next_statement(walk.turns.as_slice(), unit) {
             Some(statement) => {
-                let statement = statement.copy(alloc)?;
+                let statement = statement.copy()?;
                 walk.turns.push(unit)?;
                 walk.database.make(unit, statement)
             }
@@ -99,25 +99,20 @@ impl<'a> Meeting<'a> {
     }
 
     // The units have these turns.
-    fn take_turns(&self, alloc: Global, walk: &mut Walk<'a>, turns: &[u8]) -> Result<(), AllocError>
+    fn take_turns(&self, walk: &mut Walk<'a>, turns: &[u8]) -> Result<(), AllocError>
         requires meeting { IsMeeting self.now }
         requires stands { Stands self.now walk.old }
         requires there { have_statements self.now (walk.old.turns.items ++ turns.now) ≡ true }
         ensures { OnOk result (AreTaken self.now turns.now walk.old walk.new) }
     {
         for unit in turns {
-            self.take_turn(alloc, walk, *unit)?;
+            self.take_turn(walk, *unit)?;
         }
         Ok(())
     }
 
     /// Goes to where these turns lead.
-    pub(crate) fn go_to(
-        &self,
-        alloc: Global,
-        walk: &mut Walk<'a>,
-        turns: &[u8],
-    ) -> Result<(), AllocError>
+    pub(crate) fn go_to(&self, walk: &mut Walk<'a>, turns: &[u8]) -> Result<(), AllocError>
         requires meeting { IsMeeting self.now }
         requires stands { Stands self.now walk.old }
         requires there { have_statements self.now turns.now ≡ true }
@@ -129,7 +124,7 @@ impl<'a> Meeting<'a> {
     {
         let shared = shared_by(walk.turns.as_slice(), turns);
         walk.take_back_to(shared);
-        self.take_turns(alloc, walk, &turns[shared..])
+        self.take_turns(walk, &turns[shared..])
     }
 
     /// The number of the state where the walk stands, by all that its database says.
@@ -149,7 +144,6 @@ impl<'a> Meeting<'a> {
     /// Goes to where these turns lead, and the unit has one turn more; gives the status of its statement.
     pub(crate) fn turned(
         &self,
-        alloc: Global,
         walk: &mut Walk<'a>,
         turns: &[u8],
         unit: u8,
@@ -165,9 +159,9 @@ impl<'a> Meeting<'a> {
         ensures transitions { OnOk result (walk.new.transitions ≡ walk.old.transitions) }
         ensures status { IfOk result (HasNextStatus self.now (order_of self.now turns.now) unit) }
     {
-        self.go_to(alloc, walk, turns)?;
+        self.go_to(walk, turns)?;
         let before = walk.database.database().history().len();
-        self.take_turn(alloc, walk, unit)?;
+        self.take_turn(walk, unit)?;
         let made = &walk.database.database().history()[before];
         Ok(made.answer.status.code(&made.statement))
     }

@@ -44,7 +44,6 @@ impl<'a> Meeting<'a> {
     // Does the statement that its unit makes next, after these turns, break the wish?
     fn is_broken_behind(
         &self,
-        alloc: Global,
         walk: &mut Walk<'a>,
         turns: &[u8],
         wish: Wish,
@@ -65,7 +64,7 @@ impl<'a> Meeting<'a> {
         if self.statement_at(wish.unit, place).is_none() {
             return Ok(false);
         }
-        let status = self.turned(alloc, walk, turns, wish.unit)?;
+        let status = self.turned(walk, turns, wish.unit)?;
         Ok(wish.breaks(status))
     }
 
@@ -88,7 +87,7 @@ impl<'a> Meeting<'a> {
     {
         for group in layer {
             let turns = group.turns.as_slice();
-            if self.is_broken_behind(alloc, walk, turns, wish)? {
+            if self.is_broken_behind(walk, turns, wish)? {
                 return Ok(Some(turns_with(alloc, turns, wish.unit)?));
             }
         }

@@ -4,7 +4,6 @@ ghost use Rattle.dbtg_unit.specs.Hands.InHand.{in_hand};
 ghost use Rattle.dbtg_unit.specs.Inside.PlanOf.{plan_of};
 
 use crate::unit_alone::{done_plan, refusal};
-use dbtg_cells::copy_items;
 use dbtg_schema::{RecordNo, Schema};
 use dbtg_unit::{
     Answer, Cause, Held, Prepared, Statement, Status, Unit, UnitEdit, refused, stored,
@@ -26,7 +25,7 @@ pub(crate) fn get(
     };
     match stored(held, &key) {
         Some(record) => {
-            let items = copy_items(&record.items, alloc)?;
+            let items = record.items.share()?;
             Ok(done_plan(alloc, UnitEdit::Same, Some(key), Some(items)))
         }
         None => Ok(refused(alloc, Cause::Deleted)),
@@ -35,7 +34,6 @@ pub(crate) fn get(
 
 /// The answer of a GET that needs nothing more, without a plan. It changes nothing.
 pub(crate) fn answer_get(
-    alloc: Global,
     schema: &Schema,
     unit: &Unit,
     rtype: Option<RecordNo>,
@@ -50,7 +48,7 @@ pub(crate) fn answer_get(
         Some(record) => Ok(Answer {
             status: Status::Done,
             key: Some(key),
-            items: Some(copy_items(&record.items, alloc)?),
+            items: Some(record.items.share()?),
         }),
         None => Ok(refusal(Cause::Deleted)),
     }

@@ -55,7 +55,7 @@ fn make_passed(
         Statement::Find(suppress, form) => {
             Ok(make_find(schema, capacity, unit, form, suppress, held))
         }
-        Statement::Get(rtype) => answer_get(alloc, schema, unit, *rtype, held),
+        Statement::Get(rtype) => answer_get(schema, unit, *rtype, held),
         Statement::Store {
             rtype,
             items,
@@ -69,7 +69,7 @@ fn make_passed(
             capacity,
             unit,
             *rtype,
-            changes.as_slice(),
+            changes.get().as_slice(),
             held,
         ),
         _ => unreachable!(),

@@ -75,7 +75,7 @@ pub(crate) fn sort_key_in(
     ensures { IfOk result (λ value. value ≡ key_item schema.now set key.now.rtype (items_in held.now key.now)) }
 {
     match stored(held, key) {
-        Some(stored) => copy_sort_key(alloc, schema, set, key.rtype, stored.items.as_slice()),
+        Some(stored) => copy_sort_key(alloc, schema, set, key.rtype, stored.items.get().as_slice()),
         None => copy_sort_key(alloc, schema, set, key.rtype, &[]),
     }
 }

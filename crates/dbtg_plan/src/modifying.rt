@@ -23,7 +23,7 @@ use crate::members::{change_slot, copy_sort_key, push_slot};
 use crate::missing::{missing, missing_ring, missing_slot};
 use crate::unit_alone;
 use crate::unit_alone::done_answer;
-use dbtg_cells::{CellName, DbKey, Owner, Value, copy_items};
+use dbtg_cells::{CellName, DbKey, Owner, Shared, SharedItems, Value, copy_items};
 use dbtg_schema::{RecordNo, Row, Schema, SetNo};
 use dbtg_unit::{
     Answer, Cause, CellEdit, Change, Edit, Held, Prepared, Unit, UnitEdit, edit_each_cell,
@@ -114,15 +114,15 @@ fn copy_changed(
     alloc: Global,
     items: &Row<Value>,
     changes: &[Change],
-) -> Result<Row<Value>, AllocError>
-    ensures { IfOk result (λ row. row ≡ changed_items changes.now items.now) }
+) -> Result<SharedItems, AllocError>
+    ensures { IfOk result (λ changed. changed ≡ changed_items changes.now items.now) }
 {
     let mut copies = copy_items(items, alloc)?.into_vec();
     for change in changes {
         let value = change.value.copy(alloc)?;
         set_item(&mut copies, change.item.index() as usize, value);
     }
-    Ok(Row::of(copies))
+    Shared::new(alloc, Row::of(copies))
 }
 
 // The items of a record that is held after the changes.
@@ -131,11 +131,11 @@ fn changed(
     held: &Held,
     key: &DbKey,
     changes: &[Change],
-) -> Result<Row<Value>, AllocError>
-    ensures { IfOk result (λ row. row ≡ changed_items changes.now (items_in held.now key.now)) }
+) -> Result<SharedItems, AllocError>
+    ensures { IfOk result (λ items. items ≡ changed_items changes.now (items_in held.now key.now)) }
 {
     match stored(held, key) {
-        Some(stored) => copy_changed(alloc, &stored.items, changes),
+        Some(stored) => copy_changed(alloc, stored.items.get(), changes),
         None => copy_changed(alloc, &Row::of(Vec::new(alloc)), changes),
     }
 }
@@ -360,11 +360,19 @@ fn edits_of(
     changes: &[Change],
     held: &Held,
     key: &DbKey,
-    items: Row<Value>,
+    items: SharedItems,
 ) -> Result<Row<CellEdit>, AllocError>
     ensures { IfOk result (λ edits. edits ≡ modify_edits schema.now (in_hand held.now) unit.now changes.now key.now items) }
 {
-    let mut edits = edits_beside_slot(alloc, schema, unit, changes, held, key, items.as_slice())?;
+    let mut edits = edits_beside_slot(
+        alloc,
+        schema,
+        unit,
+        changes,
+        held,
+        key,
+        items.get().as_slice(),
+    )?;
     push_slot(&mut edits, key, Edit::ChangeItems { items })?;
     Ok(edits)
 }
@@ -376,7 +384,7 @@ fn modified(
     changes: &[Change],
     held: &Held,
     key: &DbKey,
-    items: Row<Value>,
+    items: SharedItems,
 ) -> Result<Prepared, AllocError>
     requires versions { HaveNextVersions held.now.cells }
     requires changed { items ≡ changed_items changes.now (items_in held.now key.now) }
@@ -406,7 +414,15 @@ pub(crate) fn modify(
         return Ok(refused(alloc, Cause::NoCurrentOfRunUnit));
     };
     let items = changed(alloc, held, &key, changes)?;
-    match refusal(alloc, schema, unit, changes, held, &key, items.as_slice())? {
+    match refusal(
+        alloc,
+        schema,
+        unit,
+        changes,
+        held,
+        &key,
+        items.get().as_slice(),
+    )? {
         Some(cause) => Ok(refused(alloc, cause)),
         None => modified(alloc, schema, unit, changes, held, &key, items),
     }
@@ -422,7 +438,7 @@ fn modify_record(
     changes: &[Change],
     held: &mut Held,
     key: &DbKey,
-    items: Row<Value>,
+    items: SharedItems,
 ) -> Result<Answer, AllocError>
     requires can { CanMake (modify_edits schema.now (in_hand held.old) unit.old changes.now key.now items) held.old.cells }
     requires versions { HaveNextVersions held.old.cells }
@@ -431,7 +447,15 @@ fn modify_record(
     ensures unit { OnErr result (unit.new ≡ unit.old) }
     ensures held { OnErr result (held.new ≡ held.old) }
 {
-    let edits = edits_beside_slot(alloc, schema, unit, changes, held, key, items.as_slice())?;
+    let edits = edits_beside_slot(
+        alloc,
+        schema,
+        unit,
+        changes,
+        held,
+        key,
+        items.get().as_slice(),
+    )?;
     let version = next_version(held, key);
     edit_each_cell(held, edits);
     change_slot(held, key, Edit::ChangeItems { items });
@@ -462,7 +486,15 @@ pub(crate) fn make_modify(
         return Ok(unit_alone::refusal(Cause::NoCurrentOfRunUnit));
     };
     let items = changed(alloc, held, &key, changes)?;
-    match refusal(alloc, schema, unit, changes, held, &key, items.as_slice())? {
+    match refusal(
+        alloc,
+        schema,
+        unit,
+        changes,
+        held,
+        &key,
+        items.get().as_slice(),
+    )? {
         Some(cause) => Ok(unit_alone::refusal(cause)),
         None => modify_record(alloc, schema, unit, changes, held, &key, items),
     }

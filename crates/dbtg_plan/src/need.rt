@@ -50,7 +50,7 @@ fn next_cell(
         Statement::Insert(set) => next_cell_of_insert(schema, unit, *set, held),
         Statement::Remove(set) => next_cell_of_remove(unit, *set, held),
         Statement::Modify { rtype, changes } => {
-            next_cell_of_modify(schema, unit, *rtype, changes.as_slice(), held)
+            next_cell_of_modify(schema, unit, *rtype, changes.get().as_slice(), held)
         }
         Statement::Keep => missing_slot(held, unit.currency.run_unit),
         // The contract: a DELETE is another crate's.

@@ -40,7 +40,7 @@ fn prepare_passed(
         Statement::Insert(set) => prepare_insert(alloc, schema, capacity, unit, *set, held),
         Statement::Remove(set) => remove(alloc, schema, unit, *set, held),
         Statement::Modify { rtype, changes } => {
-            modify(alloc, schema, unit, *rtype, changes.as_slice(), held)
+            modify(alloc, schema, unit, *rtype, changes.get().as_slice(), held)
         }
         Statement::Keep => keep(alloc, schema, unit, held),
         Statement::Free { all } => free(alloc, schema, unit, *all, held),

@@ -34,7 +34,7 @@ fn is_guessed(schema: &Schema, unit: &Unit, statement: &Statement, set: SetNo) -
     match statement {
         Statement::Remove(named) => named.index() == set.index(),
         Statement::Modify { rtype, changes } => {
-            is_moved_in(schema, set, *rtype, changes.as_slice())
+            is_moved_in(schema, set, *rtype, changes.get().as_slice())
         }
         _ => false,
     }

@@ -24,7 +24,7 @@ use crate::joining::{current_owner, joining_edit, make_room, place_refusal};
 use crate::members::{copy_sort_key, slot_edit};
 use crate::missing::{missing, missing_ring, missing_slot};
 use crate::unit_alone;
-use dbtg_cells::{CellName, DbKey, NewRecord, Owner, Value, copy_items};
+use dbtg_cells::{CellName, DbKey, NewRecord, Owner, SharedItems, Value};
 use dbtg_schema::{RecordNo, Row, Schema, SetNo};
 use dbtg_unit::{
     Answer, Cause, CellEdit, Edit, Held, Owners, Prepared, Status, Suppress, Unit, UnitEdit,
@@ -144,12 +144,12 @@ pub(crate) fn next_cell_of_store(
     schema: &Schema,
     unit: &Unit,
     rtype: RecordNo,
-    items: &Row<Value>,
+    items: &SharedItems,
     held: &Held,
 ) -> Option<CellName>
     ensures { (capacity : ℕ) (db : Database) (suppress : Suppress) → Agrees schema.now capacity db held.now unit.now → result ≡ first_missing held.now (cells_of schema.now capacity db unit.now held.now.guesses (Store rtype items.now suppress)) }
 {
-    missing_of_store(schema, unit, rtype, items.as_slice(), held)
+    missing_of_store(schema, unit, rtype, items.get().as_slice(), held)
 }
 
 // WHY IT IS REFUSED
@@ -315,13 +315,13 @@ fn first_owners(schema: &Schema, unit: &Unit, rtype: RecordNo) -> Owners
 fn filling(
     alloc: Global,
     key: &DbKey,
-    items: &Row<Value>,
+    items: &SharedItems,
     owners: &Owners,
 ) -> Result<CellEdit, AllocError>
     ensures { IfOk result (λ edit. edit ≡ slot_edit key.now (Edit.Fill (first_version key.now.generation items.now owners.now))) }
 {
     let owners = Row::of(Vec::from_slice(alloc, owners.as_slice())?);
-    let items = copy_items(items, alloc)?;
+    let items = items.share()?;
     let stored = NewRecord::new(alloc, key.generation, items, owners)?;
     Ok(slot_edit(key, Edit::Fill { stored }))
 }
@@ -331,7 +331,7 @@ fn edits_of(
     schema: &Schema,
     unit: &Unit,
     key: &DbKey,
-    items: &Row<Value>,
+    items: &SharedItems,
     owners: &Owners,
 ) -> Result<Row<CellEdit>, AllocError>
     requires { owners.now ≡ first_owners schema.now unit.now key.now.rtype }
@@ -339,8 +339,8 @@ fn edits_of(
 {
     // Most records need four edits: a number, a set joined, a set opened, and a slot.
     let mut edits = Vec::with_capacity(alloc, 4)?;
-    edits.push(entering(alloc, schema, key, items.as_slice())?)?;
-    push_each_join(alloc, schema, unit, key, items.as_slice(), &mut edits)?;
+    edits.push(entering(alloc, schema, key, items.get().as_slice())?)?;
+    push_each_join(alloc, schema, unit, key, items.get().as_slice(), &mut edits)?;
     push_openings(schema, key, &mut edits)?;
     edits.push(filling(alloc, key, items, owners)?)?;
     Ok(Row::of(edits))
@@ -351,7 +351,7 @@ fn stored(
     schema: &Schema,
     unit: &Unit,
     key: &DbKey,
-    items: &Row<Value>,
+    items: &SharedItems,
     suppress: Suppress,
 ) -> Result<Prepared, AllocError>
     ensures { IfOk result (λ plan. plan ≡ storing schema.now unit.now items.now suppress key.now) }
@@ -390,7 +390,7 @@ fn plan_store(
     schema: &Schema,
     unit: &Unit,
     rtype: RecordNo,
-    items: &Row<Value>,
+    items: &SharedItems,
     suppress: Suppress,
     held: &mut Held,
 ) -> Result<Prepared, AllocError>
@@ -398,7 +398,7 @@ fn plan_store(
     ensures plan { IfOk result (λ plan. plan ≡ plan_of schema.now (in_hand held.old) unit.now (Store rtype items.now suppress)) }
     ensures rooms { IfOk result (λ plan. (k : DbKey) (s : ℕ) → plan.answer.key ≡ Some k → HasRoom schema.now unit.now held.new k s) }
 {
-    match judged(alloc, schema, unit, held, rtype, items.as_slice())? {
+    match judged(alloc, schema, unit, held, rtype, items.get().as_slice())? {
         Ok(key) => {
             make_places(schema, unit, held, &key)?;
             stored(alloc, schema, unit, &key, items, suppress)
@@ -414,7 +414,7 @@ pub(crate) fn prepare_store(
     capacity: u16,
     unit: &Unit,
     rtype: RecordNo,
-    items: &Row<Value>,
+    items: &SharedItems,
     suppress: Suppress,
     held: &mut Held,
 ) -> Result<Prepared, AllocError>
@@ -443,15 +443,15 @@ fn build(
     schema: &Schema,
     unit: &Unit,
     key: &DbKey,
-    items: &Row<Value>,
+    items: &SharedItems,
     owners: &Owners,
 ) -> Result<Built, AllocError>
     requires { owners.now ≡ first_owners schema.now unit.now key.now.rtype }
     ensures { IfOk result (λ built. built.entering ∷ (built.joins ++ (edits_of_opening schema.now key.now ++ built.filling ∷ [])) ≡ store_edits schema.now unit.now key.now items.now) }
 {
     let mut joins = Vec::new(alloc);
-    push_each_join(alloc, schema, unit, key, items.as_slice(), &mut joins)?;
-    let entering = entering(alloc, schema, key, items.as_slice())?;
+    push_each_join(alloc, schema, unit, key, items.get().as_slice(), &mut joins)?;
+    let entering = entering(alloc, schema, key, items.get().as_slice())?;
     let filling = filling(alloc, key, items, owners)?;
     Ok(Built {
         entering,
@@ -489,7 +489,7 @@ fn store(
     alloc: Global,
     schema: &Schema,
     unit: &mut Unit,
-    items: &Row<Value>,
+    items: &SharedItems,
     suppress: &Suppress,
     held: &mut Held,
     key: &DbKey,
@@ -519,7 +519,7 @@ pub(crate) fn make_store(
     capacity: u16,
     unit: &mut Unit,
     rtype: RecordNo,
-    items: &Row<Value>,
+    items: &SharedItems,
     suppress: &Suppress,
     held: &mut Held,
 ) -> Result<Answer, AllocError>
@@ -532,7 +532,7 @@ pub(crate) fn make_store(
 {
     // Unused here; the contract mentions it.
     let _ = capacity;
-    let judged = judged(alloc, schema, unit, held, rtype, items.as_slice())?;
+    let judged = judged(alloc, schema, unit, held, rtype, items.get().as_slice())?;
     match judged {
         Ok(key) => store(alloc, schema, unit, items, suppress, held, &key),
         Err(cause) => Ok(unit_alone::refusal(cause)),

@@ -3,7 +3,7 @@ ghost use Rattle.std.specs.Prelude.{◌≡◌};
 ghost use Rattle.dbtg_unit.specs.Hands.PlanOf.{done_answer, done_plan};
 ghost use Rattle.dbtg_unit.specs.Hands.Prepared.{refusal};
 
-use dbtg_cells::{DbKey, Value};
+use dbtg_cells::{DbKey, SharedItems};
 use dbtg_schema::Row;
 use dbtg_unit::{Answer, Cause, Prepared, Status, UnitEdit};
 use std::alloc::Global;
@@ -13,7 +13,7 @@ pub(crate) fn done_plan(
     alloc: Global,
     change: UnitEdit,
     key: Option<DbKey>,
-    items: Option<Row<Value>>,
+    items: Option<SharedItems>,
 ) -> Prepared
     ensures { result ≡ done_plan change key items }
 {

@@ -35,11 +35,11 @@ pub enum Due {
 
 impl Due {
     /// The same.
-    pub fn copy(&self, alloc: Global) -> Result<Self, AllocError>
+    pub fn copy(&self) -> Result<Self, AllocError>
         ensures { IfOk result (λ copy. copy ≡ self.now) }
     {
         match self {
-            Due::Statement(statement) => Ok(Due::Statement(statement.copy(alloc)?)),
+            Due::Statement(statement) => Ok(Due::Statement(statement.copy()?)),
             Due::End(end) => Ok(Due::End(*end)),
         }
     }
@@ -209,7 +209,7 @@ fn go_by(
             onward(state);
             Ok(Progress::Goes)
         }
-        Sentence::Statement(statement) => Ok(Progress::Makes(statement.copy(alloc)?)),
+        Sentence::Statement(statement) => Ok(Progress::Makes(statement.copy()?)),
         Sentence::Filled(words) => {
             let statement = read_filled(alloc, schema, state, words.as_slice())?;
             Ok(made(line.number, statement))

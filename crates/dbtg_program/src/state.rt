@@ -268,7 +268,7 @@ impl State {
         if let Some(items) = &answer.items {
             if let Some(key) = answer.key {
                 if let Some(first) = program.records.get(key.rtype.index() as usize) {
-                    take_fields(alloc, &mut self.room, items.as_slice())?;
+                    take_fields(alloc, &mut self.room, items.get().as_slice())?;
                     place(self.values.as_mut_slice(), *first, &mut self.room);
                 }
             }

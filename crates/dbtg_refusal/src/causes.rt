@@ -57,7 +57,7 @@ fn deleted_for(
         Statement::Store { rtype, items, .. } => {
             let items = Items {
                 rtype: *rtype,
-                values: items.as_slice(),
+                values: items.get().as_slice(),
             };
             in_store(schema, image, unit, &items, Cause::Deleted)
         }
@@ -90,7 +90,7 @@ fn lost_for(schema: &Schema, image: &Image, unit: &Unit, statement: &Statement) 
         Statement::Store { rtype, items, .. } => {
             let items = Items {
                 rtype: *rtype,
-                values: items.as_slice(),
+                values: items.get().as_slice(),
             };
             in_store(schema, image, unit, &items, Cause::PositionLost)
         }

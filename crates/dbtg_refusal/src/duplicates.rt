@@ -15,7 +15,7 @@ use crate::finding::record_of;
 use crate::imaged::{items_in, owner_in};
 use crate::obstacle::Obstacle;
 use crate::placing::{Items, at_place, in_store, is_other, member_of, member_with, same_item};
-use dbtg_cells::{DbKey, Value};
+use dbtg_cells::{DbKey, SharedItems, Value};
 use dbtg_schema::{ItemNo, RecordNo, Row, Schema, SetNo};
 use dbtg_unit::{
     Cause, Change, Image, Statement, Unit, is_rekeyed_in, names_calc, refuses_equal, set_count,
@@ -47,14 +47,14 @@ fn same_calc(schema: &Schema, rtype: RecordNo, one: &[Value], two: &[Value]) -> 
 // Is the record of this type, not the one that is left out, and does it have the CALC items of these?
 fn holds(
     schema: &Schema,
-    entry: &(DbKey, Row<Value>),
+    entry: &(DbKey, SharedItems),
     items: &Items<'_>,
     left_out: &Option<DbKey>,
 ) -> bool
     ensures { result ≡ holds schema.now items.now.rtype (calc_items schema.now items.now.rtype items.now.values.now) left_out.now entry.now }
 {
     entry.0.rtype.index() == items.rtype.index()
-        && same_calc(schema, items.rtype, entry.1.as_slice(), items.values)
+        && same_calc(schema, items.rtype, entry.1.get().as_slice(), items.values)
         && is_other(left_out, &entry.0)
 }
 
@@ -293,14 +293,14 @@ pub(crate) fn duplicate_for(
         Statement::Store { rtype, items, .. } => {
             let items = Items {
                 rtype: *rtype,
-                values: items.as_slice(),
+                values: items.get().as_slice(),
             };
             Ok(in_storing(schema, image, unit, &items))
         }
         Statement::Insert(set) => Ok(in_inserting(schema, image, unit, *set)),
         Statement::Modify { changes, .. } => {
             match unit.currency.run_unit {
-                Some(key) => in_modifying(alloc, schema, image, changes.as_slice(), &key),
+                Some(key) => in_modifying(alloc, schema, image, changes.get().as_slice(), &key),
                 None => Ok(None),
             }
         }

@@ -25,7 +25,7 @@ pub(crate) fn items_in<'a>(image: &'a Image, key: &DbKey) -> &'a [Value]
 {
     for entry in image.records.as_slice() {
         if key_eq(*key, entry.0) {
-            return entry.1.as_slice();
+            return entry.1.get().as_slice();
         }
     }
     &[]

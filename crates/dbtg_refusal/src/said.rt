@@ -95,7 +95,7 @@ fn said_of_entries(
     let mut said = Vec::new(alloc);
     for entry in history {
         said.push(Row::of(said_of(alloc, schema, database, entry)?))?;
-        database.make(entry.unit, entry.statement.copy(alloc)?)?;
+        database.make(entry.unit, entry.statement.copy()?)?;
     }
     Ok(said)
 }

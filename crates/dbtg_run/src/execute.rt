@@ -19,11 +19,11 @@ use std::alloc::{AllocError, Global};
 use std::marker::Brand;
 
 // What was prepared, with a copy of its answer for the journal.
-fn with_answer(alloc: Global, prepared: Prepared) -> Result<(Prepared, Answer), AllocError>
+fn with_answer(prepared: Prepared) -> Result<(Prepared, Answer), AllocError>
     ensures same { IfOk result (λ made. made.0 ≡ prepared) }
     ensures noted { IfOk result (λ made. made.1 ≡ prepared.answer) }
 {
-    match prepared.answer().copy(alloc) {
+    match prepared.answer().copy() {
         Ok(noted) => Ok((prepared, noted)),
         Err(refused) => {
             drop(prepared);
@@ -83,7 +83,7 @@ impl Work {
         ensures err { OnErr result ((self.new.unit ≡ self.old.unit) × (self.new.journal.items ≡ self.old.journal.items)) }
     {
         let made = match self.prepare_in_hand(alloc, db, statement) {
-            Ok(prepared) => with_answer(alloc, prepared),
+            Ok(prepared) => with_answer(prepared),
             Err(refused) => Err(refused),
         };
         match made {
@@ -124,7 +124,7 @@ impl Work {
         if !self.gather(alloc, db, statement, tries)? {
             return Ok(None);
         }
-        let copy = statement.copy(alloc)?;
+        let copy = statement.copy()?;
         match self.make_in_hand(alloc, db, statement, copy, gate) {
             Ok(answer) => Ok(Some(answer)),
             Err(refused) => Err(refused),

@@ -5,7 +5,7 @@ ghost use Rattle.std.specs.List.{flat_map};
 ghost use Rattle.std.specs.Prelude.{◌≡◌, ◌++◌, IfOk, OnOk, map};
 
 use crate::print::{push_each_item, push_each_key, push_key, push_mode, push_number, push_owner};
-use dbtg_cells::{DbKey, Mode, Owner, Value};
+use dbtg_cells::{DbKey, Mode, Owner, SharedItems};
 use dbtg_schema::{Area, Row, Schema, SetType};
 use dbtg_unit::{Image, Stepped};
 use std::alloc::{AllocError, Global};
@@ -13,19 +13,19 @@ use std::alloc::{AllocError, Global};
 fn push_record(
     out: &mut Vec<u8>,
     schema: &Schema,
-    entry: &(DbKey, Row<Value>),
+    entry: &(DbKey, SharedItems),
 ) -> Result<(), AllocError>
     ensures { OnOk result (out.new.items ≡ out.old.items ++ record_text schema.now entry.now) }
 {
     push_key(out, schema, &entry.0)?;
-    push_each_item(out, entry.1.as_slice(), schema.items(entry.0.rtype))?;
+    push_each_item(out, entry.1.get().as_slice(), schema.items(entry.0.rtype))?;
     out.extend_from_slice(b"\n")
 }
 
 fn push_each_record(
     out: &mut Vec<u8>,
     schema: &Schema,
-    records: &[(DbKey, Row<Value>)],
+    records: &[(DbKey, SharedItems)],
 ) -> Result<(), AllocError>
     ensures { OnOk result (out.new.items ≡ out.old.items ++ records_text schema.now records.now) }
 {

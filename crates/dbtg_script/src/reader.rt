@@ -180,7 +180,6 @@ pub fn read_script_line(
 
 /// The statement of a line, if the line was read before and there is room for one more.
 fn said_again(
-    alloc: Global,
     cache: &LineCache,
     statements: &[Statement],
     line: &[u8],
@@ -196,7 +195,7 @@ fn said_again(
         Some(at) => {
             match statements.get(at) {
                 None => Ok(None),
-                Some(statement) => Ok(Some(statement.copy(alloc)?)),
+                Some(statement) => Ok(Some(statement.copy()?)),
             }
         }
     }
@@ -238,7 +237,7 @@ fn said_at_once(
             return Ok(Some(statement));
         }
     }
-    said_again(alloc, cache, statements, line)
+    said_again(cache, statements, line)
 }
 
 /// Takes a line that is read anew: its statement is appended, and the line is kept.

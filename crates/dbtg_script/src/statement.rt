@@ -18,7 +18,7 @@ use crate::role::Role;
 use crate::spelling::{generation, key_name, key_number, number};
 use crate::values::{up_to, value_for};
 use crate::words::Words;
-use dbtg_cells::{DbKey, LAST_GENERATION, Mode, Value};
+use dbtg_cells::{DbKey, LAST_GENERATION, Mode, Shared, Value};
 use dbtg_schema::{Item, ItemNo, MOST_SETS, Picture, RecordNo, Row, Schema, SetType};
 use dbtg_unit::{Change, Erase, Form, Statement, Suppress, Which};
 use std::alloc::{AllocError, Global};
@@ -340,7 +340,7 @@ fn store_of(alloc: Global, words: &Words) -> Result<Statement, AllocError>
     let values = values_of(alloc, words.list(), words.schema().items(rtype))?;
     Ok(Statement::Store {
         rtype,
-        items: Row::of(values),
+        items: Shared::new(alloc, Row::of(values))?,
         suppress: suppress_of(words),
     })
 }
@@ -352,7 +352,7 @@ fn modify_of(alloc: Global, words: &Words) -> Result<Statement, AllocError>
     let changes = changes_of(alloc, words.schema(), rtype, words.list())?;
     Ok(Statement::Modify {
         rtype,
-        changes: Row::of(changes),
+        changes: Shared::new(alloc, Row::of(changes))?,
     })
 }
 

@@ -8,8 +8,8 @@ use crate::print::{
     push_current, push_each_current, push_each_item, push_each_place, push_kept, push_number,
     push_spaced_key, push_status, push_unit_and_status,
 };
-use dbtg_cells::{DbKey, Value};
-use dbtg_schema::{Row, Schema};
+use dbtg_cells::{DbKey, SharedItems};
+use dbtg_schema::Schema;
 use dbtg_unit::{Entry, Place, Unit};
 use std::alloc::{AllocError, Global};
 
@@ -20,7 +20,7 @@ fn push_found(
     out: &mut Vec<u8>,
     schema: &Schema,
     key: Option<DbKey>,
-    items: Option<&Row<Value>>,
+    items: Option<&SharedItems>,
 ) -> Result<(), AllocError>
     ensures { OnOk result (out.new.items ≡ out.old.items ++ found_text schema.now key (option_map (λ r. r.now) items.entry)) }
 {
@@ -30,7 +30,11 @@ fn push_found(
             push_spaced_key(out, schema, &key)?;
             match items {
                 None => Ok(()),
-                Some(values) => push_each_item(out, values.as_slice(), schema.items(key.rtype)),
+                Some(values) => push_each_item(
+                    out,
+                    values.get().as_slice(),
+                    schema.items(key.rtype),
+                ),
             }
         }
     }
@@ -42,7 +46,7 @@ pub fn push_answered(
     schema: &Schema,
     status: u16,
     key: Option<DbKey>,
-    items: Option<&Row<Value>>,
+    items: Option<&SharedItems>,
 ) -> Result<(), AllocError>
     ensures { OnOk result (out.new.items ≡ out.old.items ++ answered_text schema.now status key (option_map (λ r. r.now) items.entry)) }
 {

@@ -24,7 +24,7 @@ use crate::spelling::{behind, is_signed, key_name, number, short_number};
 use crate::statement::signed;
 use crate::token::{Token, Tokens};
 use crate::values::{blank, spelled, up_to};
-use dbtg_cells::{DbKey, Value};
+use dbtg_cells::{DbKey, Shared, Value};
 use dbtg_schema::{Item, ItemNo, Picture, RecordNo, Row, Schema, SetNo};
 use dbtg_unit::{Change, Form, MOST_STATEMENTS, Statement, Suppress, Which};
 use std::alloc::{AllocError, Global};
@@ -375,7 +375,7 @@ fn usual_store(
         None => Ok(None),
         Some(values) => Ok(Some(Statement::Store {
             rtype,
-            items: Row::of(values),
+            items: Shared::new(alloc, Row::of(values))?,
             suppress: Suppress {
                 types: false,
                 areas: false,
@@ -406,7 +406,7 @@ fn usual_modify(
             changes.push(change)?;
             Ok(Some(Statement::Modify {
                 rtype,
-                changes: Row::of(changes),
+                changes: Shared::new(alloc, Row::of(changes))?,
             }))
         }
     }

@@ -175,17 +175,13 @@ fn take_line(
 }
 
 // Makes the statements of a history on a database without statements.
-fn make_each(
-    alloc: Global,
-    database: &mut WholeDatabase<'_>,
-    history: &[Entry],
-) -> Result<(), AllocError>
+fn make_each(database: &mut WholeDatabase<'_>, history: &[Entry]) -> Result<(), AllocError>
     requires nothing { database.old.history ≡ [] }
     requires history { BeginsHistory database.old.schema database.old.capacity database.old.units history.now }
     ensures { OnOk result (database.new ≡ record database.old { history = history.now }) }
 {
     for entry in history {
-        database.make(entry.unit, entry.statement.copy(alloc)?)?;
+        database.make(entry.unit, entry.statement.copy()?)?;
     }
     Ok(())
 }
@@ -203,7 +199,7 @@ fn made_again<'a>(
     ensures { IfOk result (λ database. database ≡ record { schema = schema.now; capacity = capacity; units = units; history = history.now }) }
 {
     let mut database = WholeDatabase::opening(alloc, schema, capacity, units)?;
-    match make_each(alloc, &mut database, history) {
+    match make_each(&mut database, history) {
         Ok(()) => Ok(database),
         Err(error) => {
             database.discard();

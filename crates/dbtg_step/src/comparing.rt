@@ -2,8 +2,7 @@
 ghost use Rattle.std.specs.Prelude.{◌≡◌};
 ghost use Rattle.std.specs.Bool.{Decides};
 
-use dbtg_cells::{DbKey, Value, values_eq};
-use dbtg_schema::Row;
+use dbtg_cells::{DbKey, SharedItems, values_eq};
 use dbtg_unit::{Answer, Status};
 
 fn same_status(a: Status, b: Status) -> bool
@@ -18,11 +17,11 @@ fn same_key(a: Option<DbKey>, b: Option<DbKey>) -> bool
     a == b
 }
 
-fn same_items(a: &Option<Row<Value>>, b: &Option<Row<Value>>) -> bool
+fn same_items(a: &Option<SharedItems>, b: &Option<SharedItems>) -> bool
     ensures { Decides result (a.now ≡ b.now) }
 {
     match (a, b) {
-        (Some(these), Some(those)) => values_eq(these.as_slice(), those.as_slice()),
+        (Some(these), Some(those)) => values_eq(these.get().as_slice(), those.get().as_slice()),
         (None, None) => true,
         _ => false,
     }

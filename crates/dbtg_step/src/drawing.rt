@@ -130,7 +130,7 @@ fn draw(
     // Everything is held, so the progress of the needs is no longer needed.
     runner.course = None;
     make_room(history)?;
-    let statement = statement_of(runner).copy(alloc)?;
+    let statement = statement_of(runner).copy()?;
     let answer = make(
         alloc,
         schema,

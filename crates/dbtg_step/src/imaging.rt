@@ -10,7 +10,7 @@ ghost use Rattle.dbtg_step.specs.Inside.Imaging.{cell_in, found_cell, found_in, 
 
 use crate::parts::{CellLocation, Parts, UnitState};
 use dbtg_cells::{
-    Cell, CellName, DbKey, Extent, Mode, Owner, Ring, Stored, Usage, Value, cell_number, copy_items,
+    Cell, CellName, DbKey, Extent, Mode, Owner, Ring, SharedItems, Stored, Usage, cell_number,
 };
 use dbtg_schema::{AreaNo, RecordNo, Row, Schema, SetNo};
 use dbtg_unit::{Held, Image};
@@ -167,11 +167,10 @@ fn find_usage<'a>(
 }
 
 fn add_record(
-    alloc: Global,
     rtype: RecordNo,
     number: u32,
     stored: Option<&Stored>,
-    records: &mut Vec<(DbKey, Row<Value>)>,
+    records: &mut Vec<(DbKey, SharedItems)>,
 ) -> Result<(), AllocError>
     ensures { OnOk result (records.new.items ≡ records.old.items ++ record_of rtype number (option_copied stored.entry)) }
 {
@@ -181,7 +180,7 @@ fn add_record(
             number,
             generation: stored.generation,
         };
-        records.push((key, copy_items(&stored.items, alloc)?))?;
+        records.push((key, stored.items.share()?))?;
     }
     Ok(())
 }
@@ -206,12 +205,11 @@ fn add_version(
 }
 
 fn add_each_record(
-    alloc: Global,
     schema: &Schema,
     capacity: u16,
     source: CellSource<'_>,
     rtype: RecordNo,
-    records: &mut Vec<(DbKey, Row<Value>)>,
+    records: &mut Vec<(DbKey, SharedItems)>,
 ) -> Result<(), AllocError>
     ensures { OnOk result (records.new.items ≡ records.old.items ++ records_of (found_in schema.now capacity source.entry) rtype) }
 {
@@ -221,7 +219,7 @@ fn add_each_record(
     for place in 0..extent.count_live() {
         let number = live_at(extent, place);
         let stored = find_stored(schema, capacity, source, rtype, number);
-        add_record(alloc, rtype, number, stored, records)?;
+        add_record(rtype, number, stored, records)?;
     }
     Ok(())
 }
@@ -251,14 +249,14 @@ fn all_records(
     schema: &Schema,
     capacity: u16,
     source: CellSource<'_>,
-) -> Result<Row<(DbKey, Row<Value>)>, AllocError>
+) -> Result<Row<(DbKey, SharedItems)>, AllocError>
     ensures { IfOk result (λ row. row ≡ flat_map (records_of (found_in schema.now capacity source.entry)) (range_with_len 0 (length schema.now.types))) }
 {
     let mut records = Vec::new(alloc);
     let types = schema.types().len() as u8;
     for rtype in 0..types {
         let rtype = RecordNo::new(rtype);
-        add_each_record(alloc, schema, capacity, source, rtype, &mut records)?;
+        add_each_record(schema, capacity, source, rtype, &mut records)?;
     }
     Ok(Row::of(records))
 }

@@ -36,7 +36,7 @@ pub fn copy_entries(alloc: Global, entries: &[Entry]) -> Result<Row<Entry>, Allo
 {
     let mut copies = Vec::with_capacity(alloc, entries.len())?;
     for entry in entries {
-        copies.push(entry.copy(alloc)?)?;
+        copies.push(entry.copy()?)?;
     }
     Ok(Row::of(copies))
 }

@@ -5,7 +5,7 @@ ghost use Rattle.dbtg_trace.specs.Answers.{answer_in, key_in, said_of, said_of_k
 ghost use Rattle.std.specs.Prelude.{◌≡◌, ◌∷◌, IfOk, List, MatchOption, None, Some, false, option_map, true};
 
 use crate::traced::Said;
-use dbtg_cells::{DbKey, Value};
+use dbtg_cells::{DbKey, Shared, Value};
 use dbtg_schema::{Item, Row, Schema};
 use dbtg_script::{
     Token, Tokens, ends_in_text, is_key, is_number, key_fault, key_of, number, spelled,
@@ -113,7 +113,7 @@ fn said_of_key(
         Some(values) => Ok(Some(Said {
             status,
             key: Some(key),
-            items: Some(Row::of(values)),
+            items: Some(Shared::new(alloc, Row::of(values))?),
         })),
     }
 }

@@ -65,11 +65,7 @@ fn in_entry(fault: LineFault) -> EntryFault
 }
 
 /// The statement of a line of a script, if the line was read before.
-fn said_again(
-    alloc: Global,
-    so_far: &ReadSoFar,
-    line: &[u8],
-) -> Result<Option<Statement>, AllocError>
+fn said_again(so_far: &ReadSoFar, line: &[u8]) -> Result<Option<Statement>, AllocError>
     ensures says { (schema : Lists) → IsCached schema (statements_in so_far.now.entries.items) so_far.now.cache.places → IfOk result (λ found. IfSome found (λ s. IsRead schema (s ∷ []) line.now 0)) }
     ensures memory { (schema : Lists) → IsCached schema (statements_in so_far.now.entries.items) so_far.now.cache.places → OnErr result ((s : SaidStatement) × IsRead schema (s ∷ []) line.now 0) }
 {
@@ -78,7 +74,7 @@ fn said_again(
     };
     match so_far.entries.get(at) {
         None => Ok(None),
-        Some(entry) => Ok(Some(entry.statement.copy(alloc)?)),
+        Some(entry) => Ok(Some(entry.statement.copy()?)),
     }
 }
 
@@ -130,18 +126,14 @@ fn read_part<'a>(
     ensures refused { IfErr result (λ e. Refuses e (part_verdict schema.now part.now)) }
     ensures at_once { IsToldAtOnce (part_faults_at_once schema.now part.now) result }
 {
-    match said_again(alloc, so_far, trimmed(part))? {
+    match said_again(so_far, trimmed(part))? {
         Some(again) => Ok(again),
         None => read_new(alloc, schema, so_far, part),
     }
 }
 
 /// The answer that these bytes say, if they were read before.
-fn answered_again(
-    alloc: Global,
-    so_far: &ReadSoFar,
-    answer: &[u8],
-) -> Result<Option<Said>, AllocError>
+fn answered_again(so_far: &ReadSoFar, answer: &[u8]) -> Result<Option<Said>, AllocError>
     ensures { (schema : Lists) → AreSaid schema so_far.now.entries.items so_far.now.answers.places → IfOk result (λ found. IfSome found (λ said. answer_in schema answer.now ≡ Some said)) }
 {
     let Some(at) = so_far.answers.find(answer) else {
@@ -149,7 +141,7 @@ fn answered_again(
     };
     match so_far.entries.get(at) {
         None => Ok(None),
-        Some(entry) => Ok(Some(entry.said.copy(alloc)?)),
+        Some(entry) => Ok(Some(entry.said.copy()?)),
     }
 }
 
@@ -163,7 +155,7 @@ fn read_answer(
     requires { AreSaid schema.now so_far.now.entries.items so_far.now.answers.places }
     ensures { IfOk result (λ found. found ≡ answer_in schema.now answer.now) }
 {
-    match answered_again(alloc, so_far, answer)? {
+    match answered_again(so_far, answer)? {
         Some(said) => Ok(Some(said)),
         None => answer_in(alloc, schema, answer),
     }

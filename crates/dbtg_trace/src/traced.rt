@@ -2,10 +2,9 @@
 
 ghost use Rattle.std.specs.Prelude.{◌≡◌, IfOk};
 
-use dbtg_cells::{DbKey, Value, copy_items};
-use dbtg_schema::Row;
+use dbtg_cells::{DbKey, SharedItems};
 use dbtg_unit::Statement;
-use std::alloc::{AllocError, Global};
+use std::alloc::AllocError;
 
 /// The answer that a line gives: its status as a number of four digits; key and items are none if the line leaves them out.
 #[derive(Drop)]
@@ -13,17 +12,17 @@ pub struct Said {
     pub status: u16,
     pub key: Option<DbKey>,
     /// All items of the key's record type, in the order of the schema; none if there is no key.
-    pub items: Option<Row<Value>>,
+    pub items: Option<SharedItems>,
 }
 
 impl Said {
     /// A copy.
-    pub(crate) fn copy(&self, alloc: Global) -> Result<Self, AllocError>
+    pub(crate) fn copy(&self) -> Result<Self, AllocError>
         ensures { IfOk result (λ said. said ≡ self.now) }
     {
         let items = match &self.items {
             None => None,
-            Some(items) => Some(copy_items(items, alloc)?),
+            Some(items) => Some(items.share()?),
         };
         Ok(Self {
             status: self.status,

@@ -196,7 +196,7 @@ pub(crate) fn ask_of_areas(
         }
         Statement::Modify { rtype, changes } => {
             asks(unit, question, schema.area_of(*rtype))
-                || ask_of_rekeyed(schema, unit, question, *rtype, changes.as_slice())
+                || ask_of_rekeyed(schema, unit, question, *rtype, changes.get().as_slice())
         }
         Statement::Delete(_) => {
             match unit.currency.run_unit {

@@ -1,36 +1,12 @@
 //! Copies of values that own memory. If memory is refused, the original stays as it is.
 ghost use Rattle.std.specs.Prelude.{◌≡◌, IfOk, List};
 
-use crate::statement::{Change, Form, Statement};
+use crate::statement::{Form, Statement};
 use crate::unit::{Answer, Currency, Entry, Unit};
-use dbtg_cells::copy_items;
-use dbtg_schema::Row;
 use std::alloc::{AllocError, Global};
 
-fn copy_changes(alloc: Global, changes: &[Change]) -> Result<Row<Change>, AllocError>
-    ensures { IfOk result (λ row. row ≡ changes.now) }
-{
-    let mut copies = Vec::new(alloc);
-    for change in changes {
-        copies.push(change.copy(alloc)?)?;
-    }
-    Ok(Row::of(copies))
-}
-
-impl Change {
-    pub fn copy(&self, alloc: Global) -> Result<Self, AllocError>
-        ensures { IfOk result (λ change. change ≡ self.now) }
-    {
-        let value = self.value.copy(alloc)?;
-        Ok(Self {
-            item: self.item,
-            value,
-        })
-    }
-}
-
 impl Form {
-    pub fn copy(&self, alloc: Global) -> Result<Self, AllocError>
+    pub fn copy(&self) -> Result<Self, AllocError>
         ensures { IfOk result (λ form. form ≡ self.now) }
     {
         match self {
@@ -55,20 +31,23 @@ impl Form {
             }
             Form::OwnerOf(set) => Ok(Form::OwnerOf(*set)),
             Form::Calc { rtype, values } => {
-                let values = copy_items(values.get(), alloc)?;
-                Form::by_calc(alloc, *rtype, values)
+                let values = values.share()?;
+                Ok(Form::Calc {
+                    rtype: *rtype,
+                    values,
+                })
             }
             Form::NextDuplicate(rtype) => Ok(Form::NextDuplicate(*rtype)),
             Form::Sorted { set, value } => {
-                let value = value.get().copy(alloc)?;
-                Form::by_sort_key(alloc, *set, value)
+                let value = value.share()?;
+                Ok(Form::Sorted { set: *set, value })
             }
         }
     }
 }
 
 impl Statement {
-    pub fn copy(&self, alloc: Global) -> Result<Self, AllocError>
+    pub fn copy(&self) -> Result<Self, AllocError>
         ensures { IfOk result (λ statement. statement ≡ self.now) }
     {
         match self {
@@ -79,14 +58,14 @@ impl Statement {
                 })
             }
             Statement::CloseArea(area) => Ok(Statement::CloseArea(*area)),
-            Statement::Find(suppress, form) => Ok(Statement::Find(*suppress, form.copy(alloc)?)),
+            Statement::Find(suppress, form) => Ok(Statement::Find(*suppress, form.copy()?)),
             Statement::Get(rtype) => Ok(Statement::Get(*rtype)),
             Statement::Store {
                 rtype,
                 items,
                 suppress,
             } => {
-                let items = copy_items(items, alloc)?;
+                let items = items.share()?;
                 Ok(Statement::Store {
                     rtype: *rtype,
                     items,
@@ -96,7 +75,7 @@ impl Statement {
             Statement::Insert(set) => Ok(Statement::Insert(*set)),
             Statement::Remove(set) => Ok(Statement::Remove(*set)),
             Statement::Modify { rtype, changes } => {
-                let changes = copy_changes(alloc, changes.as_slice())?;
+                let changes = changes.share()?;
                 Ok(Statement::Modify {
                     rtype: *rtype,
                     changes,
@@ -142,11 +121,11 @@ impl Unit {
 }
 
 impl Answer {
-    pub fn copy(&self, alloc: Global) -> Result<Self, AllocError>
+    pub fn copy(&self) -> Result<Self, AllocError>
         ensures { IfOk result (λ answer. answer ≡ self.now) }
     {
         let items = match &self.items {
-            Some(items) => Some(copy_items(items, alloc)?),
+            Some(items) => Some(items.share()?),
             None => None,
         };
         Ok(Self {
@@ -158,11 +137,11 @@ impl Answer {
 }
 
 impl Entry {
-    pub fn copy(&self, alloc: Global) -> Result<Self, AllocError>
+    pub fn copy(&self) -> Result<Self, AllocError>
         ensures { IfOk result (λ entry. entry ≡ self.now) }
     {
-        let statement = self.statement.copy(alloc)?;
-        let answer = self.answer.copy(alloc)?;
+        let statement = self.statement.copy()?;
+        let answer = self.answer.copy()?;
         Ok(Self {
             ticket: self.ticket,
             unit: self.unit,

@@ -7,7 +7,7 @@ use crate::kept::Kept;
 use crate::owners::Owners;
 use crate::statement::Suppress;
 use crate::unit::Place;
-use dbtg_cells::{CellName, DbKey, Mode, NewRecord, Owner, Value};
+use dbtg_cells::{CellName, DbKey, Mode, NewRecord, Owner, SharedItems, Value};
 use dbtg_schema::{AreaNo, Order, Row, SetNo};
 use std::alloc::AllocError;
 
@@ -69,7 +69,7 @@ pub enum Edit {
     Vacate,
     /// The record in a slot gets these items.
     ChangeItems {
-        items: Row<Value>,
+        items: SharedItems,
     },
     /// The record in a slot gets this owner in a set, or none.
     ChangeOwner {

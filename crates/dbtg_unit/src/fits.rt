@@ -286,14 +286,14 @@ impl Statement {
                 suppress,
             } => {
                 is_type(schema, *rtype)
-                    & are_of_items(items.as_slice(), schema.items(*rtype))
+                    & are_of_items(items.get().as_slice(), schema.items(*rtype))
                     & suppress_fits(schema, suppress)
             }
             Statement::Insert(set) | Statement::Remove(set) => is_set(schema, *set),
             Statement::Modify { rtype, changes } => {
                 is_type(schema, *rtype)
-                    & distinct_items(changes.as_slice())
-                    & are_changes_of(schema, *rtype, changes.as_slice())
+                    & distinct_items(changes.get().as_slice())
+                    & are_changes_of(schema, *rtype, changes.get().as_slice())
             }
             Statement::Delete(_) | Statement::Keep | Statement::Free { .. } => true,
         }

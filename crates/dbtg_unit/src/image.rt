@@ -1,5 +1,5 @@
 //! The image of a database: its contents as lists.
-use dbtg_cells::{DbKey, Mode, Owner, Value};
+use dbtg_cells::{DbKey, Mode, Owner, SharedItems};
 use dbtg_schema::Row;
 use std::marker::Model;
 
@@ -7,7 +7,7 @@ use std::marker::Model;
 /// free number, 0 for none, and the last generation of each number; by area who has it open, in the order of opening.
 #[derive(Drop)]
 pub struct Image {
-    pub records: Row<(DbKey, Row<Value>)>,
+    pub records: Row<(DbKey, SharedItems)>,
     pub versions: Row<(DbKey, u64)>,
     pub lists: Row<Row<(Owner, Row<DbKey>)>>,
     pub next: Row<u32>,

@@ -3,7 +3,6 @@
 
 mod apply;
 mod areas;
-mod boxed;
 mod changes;
 mod checks;
 mod codes;
@@ -35,7 +34,6 @@ mod unit;
 
 pub use apply::edit_cell;
 pub use areas::is_automatic_in;
-pub use boxed::Boxed;
 pub use changes::{is_rekeyed_in, names_calc, names_item};
 pub use checks::refused_at_once;
 pub use counts::{set_count, type_count};

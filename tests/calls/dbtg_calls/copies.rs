@@ -1,7 +1,7 @@
 //! A copy of each kind, made with memory to spare, says what its original says.
 
 use super::shop::{item, opened, order, shop};
-use dbtg_cells::{Mode, Owner, Value};
+use dbtg_cells::{Mode, Owner, Shared, Value};
 use dbtg_schema::{AreaNo, ItemNo, RecordNo, Row, Schema, SetNo};
 use dbtg_script::read_script;
 use dbtg_unit::{
@@ -25,24 +25,12 @@ fn suppress() -> Suppress {
     }
 }
 
-#[test]
-fn change(rt: HostRuntime) -> Result<(), Fail> {
-    let change = Change {
-        item: ItemNo::new(3),
-        value: Value::Num(7),
-    };
-    let copy = change.copy(rt.alloc())?;
-    assert_eq!(rt; copy.item, ItemNo::new(3));
-    assert!(rt; matches!(&copy.value, Value::Num(7)));
-    Ok(())
-}
-
 // Has each statement of a script the code of its copy, and are both refused alike, in SIDE or not?
 fn copies_are_alike(alloc: Global, shop: &Schema, unit: &Unit, script: &[u8]) -> Option<bool> {
     let statements = read_script(alloc, shop, script).ok()?;
     let mut are_alike = true;
     for statement in &statements {
-        let copy = statement.copy(alloc).ok()?;
+        let copy = statement.copy().ok()?;
         let refused = refused_at_once(shop, 100, unit, statement);
         let side = has_area(shop, unit, statement, AreaNo::new(1));
         are_alike &= copy.code() == statement.code()
@@ -73,7 +61,7 @@ fn form_in_set(rt: HostRuntime) -> Result<(), Fail> {
         rtype: Some(RecordNo::new(3)),
         set: SetNo::new(4),
     }
-    .copy(rt.alloc())?;
+    .copy()?;
     assert!(rt;
         matches!(&form, Form::InSet { which: Which::Nth(-2), rtype: Some(t), set } if t.index() == 3 && set.index() == 4)
     );
@@ -84,7 +72,7 @@ fn form_in_set(rt: HostRuntime) -> Result<(), Fail> {
 fn form_by_values(rt: HostRuntime) -> Result<(), Fail> {
     let rtype = RecordNo::new(2);
     let values = one_value(rt.alloc(), Value::Num(7))?;
-    let form = Form::by_calc(rt.alloc(), rtype, values)?.copy(rt.alloc())?;
+    let form = Form::by_calc(rt.alloc(), rtype, values)?.copy()?;
     assert!(rt;
         matches!(&form, Form::Calc { rtype: t, values } if *t == rtype && matches!(values.get().as_slice(), [Value::Num(7)]))
     );
@@ -93,7 +81,7 @@ fn form_by_values(rt: HostRuntime) -> Result<(), Fail> {
 
 #[test]
 fn form_by_sort_key(rt: HostRuntime) -> Result<(), Fail> {
-    let form = Form::by_sort_key(rt.alloc(), SetNo::new(4), Value::Num(7))?.copy(rt.alloc())?;
+    let form = Form::by_sort_key(rt.alloc(), SetNo::new(4), Value::Num(7))?.copy()?;
     assert!(rt;
         matches!(&form, Form::Sorted { set, value } if set.index() == 4 && matches!(value.get(), Value::Num(7)))
     );
@@ -104,12 +92,12 @@ fn form_by_sort_key(rt: HostRuntime) -> Result<(), Fail> {
 fn store(rt: HostRuntime) -> Result<(), Fail> {
     let store = Statement::Store {
         rtype: RecordNo::new(3),
-        items: one_value(rt.alloc(), Value::Num(8))?,
+        items: Shared::new(rt.alloc(), one_value(rt.alloc(), Value::Num(8))?)?,
         suppress: suppress(),
     }
-    .copy(rt.alloc())?;
+    .copy()?;
     assert!(rt;
-        matches!(&store, Statement::Store { rtype, items, suppress: s } if rtype.index() == 3 && *s == suppress() && matches!(items.as_slice(), [Value::Num(8)]))
+        matches!(&store, Statement::Store { rtype, items, suppress: s } if rtype.index() == 3 && *s == suppress() && matches!(items.get().as_slice(), [Value::Num(8)]))
     );
     Ok(())
 }
@@ -120,9 +108,10 @@ fn modify(rt: HostRuntime) -> Result<(), Fail> {
     let (item, value) = (ItemNo::new(1), Value::Num(8));
     assert!(rt; changes.push(Change { item, value }).is_ok());
     let rtype = RecordNo::new(3);
-    let modify = Statement::Modify { rtype, changes }.copy(rt.alloc())?;
+    let changes = Shared::new(rt.alloc(), changes)?;
+    let modify = Statement::Modify { rtype, changes }.copy()?;
     assert!(rt;
-        matches!(&modify, Statement::Modify { rtype: t, changes } if *t == rtype && matches!(changes.as_slice(), [Change { item: i, value: Value::Num(8) }] if *i == item))
+        matches!(&modify, Statement::Modify { rtype: t, changes } if *t == rtype && matches!(changes.get().as_slice(), [Change { item: i, value: Value::Num(8) }] if *i == item))
     );
     Ok(())
 }
@@ -185,12 +174,12 @@ fn answer(rt: HostRuntime) -> Result<(), Fail> {
     let answer = Answer {
         status: Status::Refused(Cause::End),
         key: Some(item(7)),
-        items: Some(one_value(rt.alloc(), Value::Num(8))?),
+        items: Some(Shared::new(rt.alloc(), one_value(rt.alloc(), Value::Num(8))?)?),
     };
-    let copy = answer.copy(rt.alloc())?;
+    let copy = answer.copy()?;
     assert_eq!(rt; copy.status, Status::Refused(Cause::End));
     assert_eq!(rt; copy.key, Some(item(7)));
-    assert!(rt; matches!(&copy.items, Some(items) if matches!(items.as_slice(), [Value::Num(8)])));
+    assert!(rt; matches!(&copy.items, Some(items) if matches!(items.get().as_slice(), [Value::Num(8)])));
     Ok(())
 }
 
@@ -207,7 +196,7 @@ fn entry(rt: HostRuntime) -> Result<(), Fail> {
         statement: Statement::Keep,
         answer,
     };
-    let copy = entry.copy(rt.alloc())?;
+    let copy = entry.copy()?;
     assert_eq!(rt; (copy.ticket, copy.unit), (70000, 4));
     assert!(rt; matches!(&copy.statement, Statement::Keep));
     assert_eq!(rt; copy.answer.status, Status::Done);

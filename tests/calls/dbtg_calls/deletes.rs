@@ -1,6 +1,6 @@
 //! The cells of a DELETE, named one after another until it needs no more.
 
-use dbtg_cells::{Cell, CellName, DbKey, Extent, MaybeOwner, Mode, NewRecord, Owner, Ring, Slot, Usage};
+use dbtg_cells::{Cell, CellName, DbKey, Extent, MaybeOwner, Mode, NewRecord, Owner, Ring, Shared, Slot, Usage};
 use dbtg_erase::next_need;
 use dbtg_schema::{AreaNo, RecordNo, Row, Schema, SetNo};
 use dbtg_unit::{Currency, Erase, Held, Kept, Need, Owners, Unit};
@@ -45,7 +45,7 @@ fn unit(alloc: Global) -> Result<Unit, AllocError> {
 fn slot(alloc: Global, owner: Option<Owner>) -> Result<Cell, AllocError> {
     let mut slot = Slot::vacant();
     let owners = Row::of(Vec::from_slice(alloc, &[MaybeOwner::of(owner)])?);
-    slot.fill(NewRecord::new(alloc, 1, Row::of(Vec::new(alloc)), owners)?);
+    slot.fill(NewRecord::new(alloc, 1, Shared::new(alloc, Row::of(Vec::new(alloc)))?, owners)?);
     Ok(Cell::Slot(slot))
 }
 

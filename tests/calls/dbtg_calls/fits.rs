@@ -2,7 +2,7 @@
 //! not are read by another schema, or made where no script can state them.
 
 use super::shop::shop;
-use dbtg_cells::{DbKey, Value};
+use dbtg_cells::{DbKey, Shared, Value};
 use dbtg_schema::{ItemNo, RecordNo, Row, Schema, SetNo};
 use dbtg_script::read_script;
 use dbtg_unit::{Change, Form, Statement, Suppress, Which};
@@ -150,7 +150,7 @@ fn changes_fit(alloc: Global, shop: &Schema, items: &[u8]) -> Result<bool, Alloc
     }
     let modify = Statement::Modify {
         rtype: RecordNo::new(2),
-        changes: Row::of(changes),
+        changes: Shared::new(alloc, Row::of(changes))?,
     };
     Ok(modify.fits(shop))
 }

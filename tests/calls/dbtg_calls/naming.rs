@@ -25,7 +25,7 @@ fn named_by(alloc: Global, shop: &Schema, script: &[u8]) -> Option<Vec<(bool, bo
         let Statement::Modify { rtype, changes } = statement else {
             return None;
         };
-        let changes = changes.as_slice();
+        let changes = changes.get().as_slice();
         let second = names_item(changes, ItemNo::new(1));
         let calc = names_calc(shop, *rtype, changes);
         let in_lines = is_rekeyed_in(shop, lines, *rtype, changes);

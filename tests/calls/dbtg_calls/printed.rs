@@ -1,7 +1,7 @@
 //! Answers, units, images and moves as printed texts, by docs/profile/printed-texts.md.
 
 use super::shop::shop;
-use dbtg_cells::{DbKey, Mode, Owner, Value};
+use dbtg_cells::{DbKey, Mode, Owner, Shared, SharedItems, Value};
 use dbtg_schema::{AreaNo, RecordNo, Row};
 use dbtg_script::{answers_text, image_text, moves_text, units_text};
 use dbtg_unit::{Answer, Cause, Currency, Entry, Image, Kept, Place, Statement, Status, Stepped, Unit};
@@ -39,11 +39,11 @@ fn row<T: Copy + Drop>(alloc: Global, items: &[T]) -> Option<Row<T>> {
 }
 
 // A customer's items: a number and a name.
-fn items(alloc: Global, number: u64, name: &[u8]) -> Option<Row<Value>> {
+fn items(alloc: Global, number: u64, name: &[u8]) -> Option<SharedItems> {
     let mut items = Vec::new(alloc);
     items.push(Value::Num(number)).ok()?;
     items.push(Value::Text(row(alloc, name)?)).ok()?;
-    Some(Row::of(items))
+    Shared::new(alloc, Row::of(items)).ok()
 }
 
 fn entry(
@@ -52,7 +52,7 @@ fn entry(
     statement: Statement,
     status: Status,
     key: Option<DbKey>,
-    items: Option<Row<Value>>,
+    items: Option<SharedItems>,
 ) -> Entry {
     Entry {
         ticket,
@@ -145,14 +145,15 @@ fn printed_units(rt: HostRuntime) -> Result<(), Fail> {
     Ok(())
 }
 
-fn records(alloc: Global) -> Option<Row<(DbKey, Row<Value>)>> {
+fn records(alloc: Global) -> Option<Row<(DbKey, SharedItems)>> {
     let mut number = Vec::new(alloc);
     number.push(Value::Num(11)).ok()?;
     let mut records = Vec::new(alloc);
     records
         .push((key(0, 1, 1), items(alloc, 1, b"        ")?))
         .ok()?;
-    records.push((key(1, 1, 1), Row::of(number))).ok()?;
+    let number = Shared::new(alloc, Row::of(number)).ok()?;
+    records.push((key(1, 1, 1), number)).ok()?;
     Some(Row::of(records))
 }
 

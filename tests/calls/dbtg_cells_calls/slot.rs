@@ -7,7 +7,7 @@ fn holds(rt: &HostRuntime, slot: &Slot, number: u64) -> Result<bool, AllocError>
     let wanted = row(rt, number)?;
     match slot.record() {
         Some(record) => Ok(values_eq(
-            copy_items(&record.items, rt.alloc())?.as_slice(),
+            record.items.share()?.get().as_slice(),
             wanted.as_slice(),
         )),
         None => Ok(false),
@@ -31,14 +31,14 @@ fn raise(rt: &impl Abort, slot: &mut Slot) {
 fn a_slot_is_filled_changed_and_left(rt: HostRuntime) -> Result<(), Fail> {
     let mut slot = Slot::vacant();
     assert!(rt; !slot.is_live(3));
-    let items = row(&rt, 7)?;
+    let items = shared(&rt, 7)?;
     let owners = Row::of(vec![in rt.alloc(); MaybeOwner::of(None), MaybeOwner::of(None)]?);
     slot.fill(NewRecord::new(rt.alloc(), 3, items, owners)?);
     assert!(rt; slot.is_live(3));
     assert!(rt; !slot.is_live(2));
     assert!(rt; version(&slot) == Some(1));
     assert!(rt; holds(&rt, &slot, 7)?);
-    let items = row(&rt, 8)?;
+    let items = shared(&rt, 8)?;
     slot.set_items(items);
     assert!(rt; holds(&rt, &slot, 8)?);
     raise(&rt, &mut slot);
@@ -53,7 +53,7 @@ fn a_slot_is_filled_changed_and_left(rt: HostRuntime) -> Result<(), Fail> {
 #[test]
 fn a_slot_knows_its_owner_in_each_set(rt: HostRuntime) -> Result<(), Fail> {
     let mut slot = Slot::vacant();
-    let items = row(&rt, 7)?;
+    let items = shared(&rt, 7)?;
     let owners = Row::of(vec![in rt.alloc(); MaybeOwner::of(None), MaybeOwner::of(None)]?);
     slot.fill(NewRecord::new(rt.alloc(), 1, items, owners)?);
     slot.set_owner(SetNo::new(1), Some(Owner::System));

@@ -2,7 +2,7 @@
 //! says; the definitions speak of them too.
 
 use super::program;
-use dbtg_cells::{DbKey, Value};
+use dbtg_cells::{DbKey, Shared, Value};
 use dbtg_program::{Condition, Due, End, Line, Operand, Program, Relation, Sentence, State, next};
 use dbtg_schema::{RecordNo, Row, Schema};
 use dbtg_unit::{Answer, Cause, Statement, Status};
@@ -26,7 +26,7 @@ fn customer(rt: &HostRuntime, status: Status) -> Option<Answer> {
     Some(Answer {
         status,
         key: Some(key),
-        items: Some(Row::of(items)),
+        items: Some(Shared::new(rt.alloc(), Row::of(items)).ok()?),
     })
 }
 

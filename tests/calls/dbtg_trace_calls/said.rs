@@ -54,7 +54,7 @@ fn a_key_and_items(rt: HostRuntime) {
     assert_eq!(rt; place_of(&entry), (5, 1, 0));
     assert_eq!(rt; entry.said.key, item(7, 2));
     let items = entry.said.items.unwrap();
-    match items.as_slice() {
+    match items.get().as_slice() {
         [Value::Text(part), Value::Num(quantity)] => {
             assert_eq!(rt; part.as_slice(), b"A   ".as_slice());
             assert_eq!(rt; *quantity, 5);

@@ -1,7 +1,7 @@
 //! Edits of usage lists, extents, slots and of rings as a whole, each made of a cell of its kind, by docs/profile/statements.md.
 
 use super::key;
-use dbtg_cells::{Cell, DbKey, Extent, MaybeOwner, Mode, NewRecord, Owner, Ring, Slot, Stored, Usage, Value};
+use dbtg_cells::{Cell, DbKey, Extent, MaybeOwner, Mode, NewRecord, Owner, Ring, Shared, Slot, Stored, Usage, Value};
 use dbtg_schema::{RecordNo, Row, SetNo};
 use dbtg_unit::{Edit, edit_cell};
 use std::alloc::{AllocError, Global};
@@ -145,7 +145,7 @@ fn rings(rt: HostRuntime) -> Result<(), Fail> {
 fn filled(alloc: Global) -> Result<Slot, AllocError> {
     let mut slot = Slot::vacant();
     let owners = Row::of(Vec::from_slice(alloc, &[MaybeOwner::of(None)])?);
-    slot.fill(NewRecord::new(alloc, 2, Row::of(Vec::new(alloc)), owners)?);
+    slot.fill(NewRecord::new(alloc, 2, Shared::new(alloc, Row::of(Vec::new(alloc)))?, owners)?);
     Ok(slot)
 }
 
@@ -165,7 +165,7 @@ fn version(cell: &Cell) -> Option<u64> {
 
 fn fills_slot(alloc: Global) -> Result<bool, AllocError> {
     let mut cell = Cell::Slot(Slot::vacant());
-    let stored = NewRecord::new(alloc, 2, calc(alloc, 7)?, Row::of(Vec::new(alloc)))?;
+    let stored = NewRecord::new(alloc, 2, Shared::new(alloc, calc(alloc, 7)?)?, Row::of(Vec::new(alloc)))?;
     edit_cell(&mut cell, Edit::Fill { stored });
     Ok(version(&cell) == Some(1))
 }
@@ -178,10 +178,10 @@ fn vacates_slot(alloc: Global) -> Result<bool, AllocError> {
 
 fn changes_items(alloc: Global) -> Result<bool, AllocError> {
     let mut cell = Cell::Slot(filled(alloc)?);
-    let items = calc(alloc, 9)?;
+    let items = Shared::new(alloc, calc(alloc, 9)?)?;
     edit_cell(&mut cell, Edit::ChangeItems { items });
     match record(&cell) {
-        Some(stored) => Ok(matches!(stored.items.as_slice(), [Value::Num(9)])),
+        Some(stored) => Ok(matches!(stored.items.get().as_slice(), [Value::Num(9)])),
         None => Ok(false),
     }
 }

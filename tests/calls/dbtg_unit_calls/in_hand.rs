@@ -2,7 +2,7 @@
 
 use super::key;
 use super::units::opening;
-use dbtg_cells::{Cell, CellName, DbKey, Extent, NewRecord, Owner, Ring, Slot, Usage};
+use dbtg_cells::{Cell, CellName, DbKey, Extent, NewRecord, Owner, Ring, Shared, Slot, Usage};
 use dbtg_schema::{AreaNo, RecordNo, Row, SetNo};
 use dbtg_unit::{Cause, Held, Owners, Unit, numbers, occurrence, own_refusal, stored, usage};
 use std::alloc::{AllocError, Global};
@@ -15,7 +15,8 @@ fn takes(held: &mut Held, name: &CellName, cell: Cell) -> bool {
 // A record of number 7 in its second generation.
 fn slot(alloc: Global) -> Result<Slot, AllocError> {
     let mut slot = Slot::vacant();
-    let (items, owners) = (Row::of(Vec::new(alloc)), Row::of(Vec::new(alloc)));
+    let items = Shared::new(alloc, Row::of(Vec::new(alloc)))?;
+    let owners = Row::of(Vec::new(alloc));
     slot.fill(NewRecord::new(alloc, 2, items, owners)?);
     Ok(slot)
 }

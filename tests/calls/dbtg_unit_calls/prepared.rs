@@ -2,7 +2,7 @@
 
 use super::key;
 use super::units::opening;
-use dbtg_cells::{Cell, CellName, MaybeOwner, NewRecord, Owner, Ring, Slot, Usage};
+use dbtg_cells::{Cell, CellName, MaybeOwner, NewRecord, Owner, Ring, Shared, Slot, Usage};
 use dbtg_schema::{AreaNo, RecordNo, Row, Schema, SetNo};
 use dbtg_unit::{
     Answer, CellEdit, Edit, Held, Owners, Place, Prepared, Status, Unit, UnitEdit, finish,
@@ -97,7 +97,7 @@ fn both(
 // A record is filled in, and then has an owner; both can be made of whatever is held.
 fn filling(alloc: Global) -> Result<Row<CellEdit>, AllocError> {
     let owners = Row::of(Vec::from_slice(alloc, &[MaybeOwner::of(None)])?);
-    let stored = NewRecord::new(alloc, 2, Row::of(Vec::new(alloc)), owners)?;
+    let stored = NewRecord::new(alloc, 2, Shared::new(alloc, Row::of(Vec::new(alloc)))?, owners)?;
     let fill = Edit::Fill { stored };
     let own = Edit::ChangeOwner {
         set: SetNo::new(0),
