@@ -166,13 +166,21 @@ fn find_usage<'a>(
     }
 }
 
+// The records of all types with their versions, by key.
+#[derive(Drop)]
+struct AllRecords {
+    records: Vec<(DbKey, SharedItems)>,
+    versions: Vec<(DbKey, u64)>,
+}
+
 fn add_record(
     rtype: RecordNo,
     number: u32,
     stored: Option<&Stored>,
-    records: &mut Vec<(DbKey, SharedItems)>,
+    all: &mut AllRecords,
 ) -> Result<(), AllocError>
-    ensures { OnOk result (records.new.items ≡ records.old.items ++ record_of rtype number (option_copied stored.entry)) }
+    ensures records { OnOk result (all.new.records.items ≡ all.old.records.items ++ record_of rtype number (option_copied stored.entry)) }
+    ensures versions { OnOk result (all.new.versions.items ≡ all.old.versions.items ++ version_of rtype number (option_copied stored.entry)) }
 {
     if let Some(stored) = stored {
         let key = DbKey {
@@ -180,26 +188,8 @@ fn add_record(
             number,
             generation: stored.generation,
         };
-        records.push((key, stored.items.share()?))?;
-    }
-    Ok(())
-}
-
-fn add_version(
-    rtype: RecordNo,
-    number: u32,
-    stored: Option<&Stored>,
-    versions: &mut Vec<(DbKey, u64)>,
-) -> Result<(), AllocError>
-    ensures { OnOk result (versions.new.items ≡ versions.old.items ++ version_of rtype number (option_copied stored.entry)) }
-{
-    if let Some(stored) = stored {
-        let key = DbKey {
-            rtype,
-            number,
-            generation: stored.generation,
-        };
-        versions.push((key, stored.version))?;
+        all.records.push((key, stored.items.share()?))?;
+        all.versions.push((key, stored.version))?;
     }
     Ok(())
 }
@@ -209,9 +199,10 @@ fn add_each_record(
     capacity: u16,
     source: CellSource<'_>,
     rtype: RecordNo,
-    records: &mut Vec<(DbKey, SharedItems)>,
+    all: &mut AllRecords,
 ) -> Result<(), AllocError>
-    ensures { OnOk result (records.new.items ≡ records.old.items ++ records_of (found_in schema.now capacity source.entry) rtype) }
+    ensures records { OnOk result (all.new.records.items ≡ all.old.records.items ++ records_of (found_in schema.now capacity source.entry) rtype) }
+    ensures versions { OnOk result (all.new.versions.items ≡ all.old.versions.items ++ versions_of (found_in schema.now capacity source.entry) rtype) }
 {
     let Some(extent) = find_extent(schema, capacity, source, rtype) else {
         return Ok(());
@@ -219,27 +210,7 @@ fn add_each_record(
     for place in 0..extent.count_live() {
         let number = live_at(extent, place);
         let stored = find_stored(schema, capacity, source, rtype, number);
-        add_record(rtype, number, stored, records)?;
-    }
-    Ok(())
-}
-
-fn add_each_version(
-    schema: &Schema,
-    capacity: u16,
-    source: CellSource<'_>,
-    rtype: RecordNo,
-    versions: &mut Vec<(DbKey, u64)>,
-) -> Result<(), AllocError>
-    ensures { OnOk result (versions.new.items ≡ versions.old.items ++ versions_of (found_in schema.now capacity source.entry) rtype) }
-{
-    let Some(extent) = find_extent(schema, capacity, source, rtype) else {
-        return Ok(());
-    };
-    for place in 0..extent.count_live() {
-        let number = live_at(extent, place);
-        let stored = find_stored(schema, capacity, source, rtype, number);
-        add_version(rtype, number, stored, versions)?;
+        add_record(rtype, number, stored, all)?;
     }
     Ok(())
 }
@@ -249,33 +220,19 @@ fn all_records(
     schema: &Schema,
     capacity: u16,
     source: CellSource<'_>,
-) -> Result<Row<(DbKey, SharedItems)>, AllocError>
-    ensures { IfOk result (λ row. row ≡ flat_map (records_of (found_in schema.now capacity source.entry)) (range_with_len 0 (length schema.now.types))) }
+) -> Result<AllRecords, AllocError>
+    ensures records { IfOk result (λ all. all.records.items ≡ flat_map (records_of (found_in schema.now capacity source.entry)) (range_with_len 0 (length schema.now.types))) }
+    ensures versions { IfOk result (λ all. all.versions.items ≡ flat_map (versions_of (found_in schema.now capacity source.entry)) (range_with_len 0 (length schema.now.types))) }
 {
-    let mut records = Vec::new(alloc);
+    let mut all = AllRecords {
+        records: Vec::new(alloc),
+        versions: Vec::new(alloc),
+    };
     let types = schema.types().len() as u8;
     for rtype in 0..types {
-        let rtype = RecordNo::new(rtype);
-        add_each_record(schema, capacity, source, rtype, &mut records)?;
+        add_each_record(schema, capacity, source, RecordNo::new(rtype), &mut all)?;
     }
-    Ok(Row::of(records))
-}
-
-fn all_versions(
-    alloc: Global,
-    schema: &Schema,
-    capacity: u16,
-    source: CellSource<'_>,
-) -> Result<Row<(DbKey, u64)>, AllocError>
-    ensures { IfOk result (λ row. row ≡ flat_map (versions_of (found_in schema.now capacity source.entry)) (range_with_len 0 (length schema.now.types))) }
-{
-    let mut versions = Vec::new(alloc);
-    let types = schema.types().len() as u8;
-    for rtype in 0..types {
-        let rtype = RecordNo::new(rtype);
-        add_each_version(schema, capacity, source, rtype, &mut versions)?;
-    }
-    Ok(Row::of(versions))
+    Ok(all)
 }
 
 fn add_list(
@@ -450,9 +407,10 @@ pub fn read_image(
 ) -> Result<Image, AllocError>
     ensures { IfOk result (λ image. image ≡ image_from schema.now (found_in schema.now capacity source.entry)) }
 {
+    let all = all_records(alloc, schema, capacity, source)?;
     Ok(Image {
-        records: all_records(alloc, schema, capacity, source)?,
-        versions: all_versions(alloc, schema, capacity, source)?,
+        records: Row::of(all.records),
+        versions: Row::of(all.versions),
         lists: all_lists(alloc, schema, capacity, source)?,
         next: next_numbers(alloc, schema, capacity, source)?,
         last: all_generations(alloc, schema, capacity, source)?,

@@ -25,7 +25,7 @@ edit_each_cell-requires c =
     let last : List CellEdit = slot_edit k (ChangeItems items) ∷ (slot_edit k RaiseVersion ∷ []) in
     let front : List Value → List CellEdit = λ items. calc_edits schema changes k items ++ flat_map (replacing_edits schema view unit k items) (rekeyed_sets schema k.rtype (map (λ c. c.item) changes)) in
     let all : c.in_ok-edits.edits ++ last ≡ modify_edits schema view unit changes k items =
-    ap (λ es. es ++ last) (c.in_ok-edits.ensures ∙ ap front c.as_slice.ensures)
+    ap (λ es. es ++ last) (c.in_ok-edits.ensures ∙ ap front (c.as_slice.ensures ∙ c.get.ensures))
     ∙ append_assoc (calc_edits schema changes k items) (flat_map (replacing_edits schema view unit k items) (rekeyed_sets schema k.rtype (map (λ c. c.item) changes))) last in
     can_make_front c.in_ok-edits.edits last old (subst (λ (es : List CellEdit). CanMake es old) (sym all) c.requires.can)
 
@@ -41,7 +41,7 @@ change_slot-requires c =
     let last : List CellEdit = slot_edit k (ChangeItems items) ∷ (slot_edit k RaiseVersion ∷ []) in
     let front : List Value → List CellEdit = λ items. calc_edits schema changes k items ++ flat_map (replacing_edits schema view unit k items) (rekeyed_sets schema k.rtype (map (λ c. c.item) changes)) in
     let all : c.in_ok-edits.edits ++ last ≡ modify_edits schema view unit changes k items =
-    ap (λ es. es ++ last) (c.in_ok-edits.ensures ∙ ap front c.as_slice.ensures)
+    ap (λ es. es ++ last) (c.in_ok-edits.ensures ∙ ap front (c.as_slice.ensures ∙ c.get.ensures))
     ∙ append_assoc (calc_edits schema changes k items) (flat_map (replacing_edits schema view unit k items) (rekeyed_sets schema k.rtype (map (λ c. c.item) changes))) last in
     can_make_rest c.in_ok-edits.edits last old c.edit_each_cell.new.held.cells (subst (λ (es : List CellEdit). CanMake es old) (sym all) c.requires.can) c.edit_each_cell.ensures.made
 
@@ -59,7 +59,7 @@ returns-clause-made c =
     let last : List CellEdit = slot_edit k (ChangeItems items) ∷ (slot_edit k RaiseVersion ∷ []) in
     let front : List Value → List CellEdit = λ items. calc_edits schema changes k items ++ flat_map (replacing_edits schema view unit k items) (rekeyed_sets schema k.rtype (map (λ c. c.item) changes)) in
     let all : c.in_ok-edits.edits ++ last ≡ modify_edits schema view unit changes k items =
-    ap (λ es. es ++ last) (c.in_ok-edits.ensures ∙ ap front c.as_slice.ensures)
+    ap (λ es. es ++ last) (c.in_ok-edits.ensures ∙ ap front (c.as_slice.ensures ∙ c.get.ensures))
     ∙ append_assoc (calc_edits schema changes k items) (flat_map (replacing_edits schema view unit k items) (rekeyed_sets schema k.rtype (map (λ c. c.item) changes))) last in
     seen_by_plan schema unit c.renote.new.self old c.change_slot.new.held (modifying schema view unit changes k) c.done_answer.result c.done_answer.ensures
     (c.renote.ensures.change ∙ ap (λ v. record unit { kept = noted_again k v unit.kept }) c.next_version-version.ensures)

@@ -17,7 +17,7 @@ returns-in-Remove c db agrees =
 pub returns-in-Modify : goal.returns-in-Modify
 returns-in-Modify c db agrees =
     c.next_cell_of_modify.ensures c.args.capacity db
-    ∙ ap (λ (s : Statement). first_missing c.args.held.now (cells_of c.args.schema.now c.args.capacity db c.args.unit.now c.args.held.now.guesses s)) (ap (Modify c.in-Modify.rtype) c.as_slice.ensures ∙ sym c.in-Modify.is)
+    ∙ ap (λ (s : Statement). first_missing c.args.held.now (cells_of c.args.schema.now c.args.capacity db c.args.unit.now c.args.held.now.guesses s)) (ap (Modify c.in-Modify.rtype) (c.as_slice.ensures ∙ c.get.ensures) ∙ sym c.in-Modify.is)
 
 pub returns-in-Store : goal.returns-in-Store
 returns-in-Store c db agrees =

@@ -20,7 +20,7 @@ store-requires c =
     let hands = c.args.held.now in
     let judged : Result DbKey Cause = c.in_ok-judged.judged in
     let is : (x : Suppress) → plan_of schema (in_hand hands) unit (Store c.args.rtype c.args.items.now x) ≡ plan_of_judged schema unit c.args.items.now x judged
-    = λ x. subst (λ (items : List Value). plan_of schema (in_hand hands) unit (Store c.args.rtype items x) ≡ plan_of_judged schema unit items x judged) c.as_slice.ensures (c.in_ok-judged.ensures x) in
+    = λ x. subst (λ (items : List Value). plan_of schema (in_hand hands) unit (Store c.args.rtype items x) ≡ plan_of_judged schema unit items x judged) (c.as_slice.ensures ∙ c.get.ensures) (c.in_ok-judged.ensures x) in
     stored_can_make schema c.args.capacity unit hands c.args.rtype c.args.items.now c.args.suppress.now c.requires.may c.requires.passes judged is c.requires.agrees.0 c.requires.agrees.1 c.in-Ok.key c.in-Ok.is
 
 pub returns-in-Ok-clause-made : goal.returns-in-Ok-clause-made
@@ -32,7 +32,7 @@ returns-in-Ok-clause-made c =
     let suppress = c.args.suppress.now in
     let judged : Result DbKey Cause = c.in_ok-judged.judged in
     let is : (x : Suppress) → plan_of schema (in_hand hands) unit (Store c.args.rtype c.args.items.now x) ≡ plan_of_judged schema unit c.args.items.now x judged
-    = λ x. subst (λ (items : List Value). plan_of schema (in_hand hands) unit (Store c.args.rtype items x) ≡ plan_of_judged schema unit items x judged) c.as_slice.ensures (c.in_ok-judged.ensures x) in
+    = λ x. subst (λ (items : List Value). plan_of schema (in_hand hands) unit (Store c.args.rtype items x) ≡ plan_of_judged schema unit items x judged) (c.as_slice.ensures ∙ c.get.ensures) (c.in_ok-judged.ensures x) in
     stored_if_ok schema c.args.capacity unit hands c.args.rtype items suppress c.requires.may c.requires.passes judged is c.store.result c.store.new.unit c.store.new.held
     (subst (λ (j : Result DbKey Cause). IfOk c.store.result (λ (answer : Answer). seen answer c.store.new.unit c.store.new.held ≡ made_by schema unit hands (plan_of_judged schema unit items suppress j))) (sym c.in-Ok.is) c.store.ensures.made)
 
@@ -45,6 +45,6 @@ returns-in-Err-clause-made c =
     let suppress = c.args.suppress.now in
     let judged : Result DbKey Cause = c.in_ok-judged.judged in
     let is : (x : Suppress) → plan_of schema (in_hand hands) unit (Store c.args.rtype c.args.items.now x) ≡ plan_of_judged schema unit c.args.items.now x judged
-    = λ x. subst (λ (items : List Value). plan_of schema (in_hand hands) unit (Store c.args.rtype items x) ≡ plan_of_judged schema unit items x judged) c.as_slice.ensures (c.in_ok-judged.ensures x) in
+    = λ x. subst (λ (items : List Value). plan_of schema (in_hand hands) unit (Store c.args.rtype items x) ≡ plan_of_judged schema unit items x judged) (c.as_slice.ensures ∙ c.get.ensures) (c.in_ok-judged.ensures x) in
     judged_is_made schema c.args.capacity unit hands c.args.rtype items suppress c.requires.may c.requires.passes judged is (seen c.refusal.result unit hands)
     (ap (λ (a : Answer). seen a unit hands) c.refusal.ensures ∙ ap (λ (j : Result DbKey Cause). made_by schema unit hands (plan_of_judged schema unit items suppress j)) (sym c.in-Err.is))
