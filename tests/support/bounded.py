@@ -21,12 +21,14 @@ WANT = b"want of memory\n"
 
 @dataclass(frozen=True)
 class Ran:
-    """How a run ended: its exit status (below nought for a signal), what it wrote, and the processor seconds that it took."""
+    """How a run ended: its exit status (below nought for a signal), what it wrote, the processor seconds that it took, and how often it
+    touched a page of memory that it did not have yet."""
 
     status: int
     out: bytes
     err: bytes
     seconds: float
+    pages: int
 
     def is_within(self):
         """Whether it ended by itself and in time."""
@@ -116,7 +118,7 @@ class Runner:
         signal.setitimer(signal.ITIMER_REAL, 0)
         signal.signal(signal.SIGALRM, timer)
         texts = [taken(it) for it in self.files]
-        return Ran(os.waitstatus_to_exitcode(status), *texts, used.ru_utime + used.ru_stime)
+        return Ran(os.waitstatus_to_exitcode(status), *texts, used.ru_utime + used.ru_stime, used.ru_minflt)
 
 
 def workers(start, words):
