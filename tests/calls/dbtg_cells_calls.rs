@@ -1,8 +1,8 @@
 //! Makes each public call of `dbtg_cells` as its callers do, with memory to spare, and works out the lists of docs/profile.
 
 use dbtg_cells::{
-    CellName, DbKey, Extent, MaybeOwner, Mode, NewRecord, Owner, Ring, Shared, SharedItems, Slot, Usage,
-    Value, key_below, key_eq, name_below, name_eq, owner_below, owner_eq, values_eq,
+    CellName, DbKey, Extent, MaybeOwner, Mode, NewOwner, NewRecord, Owner, Owners, RecordOwners, Ring, Shared,
+    SharedItems, Slot, Usage, Value, key_below, key_eq, name_below, name_eq, owner_below, owner_eq, values_eq,
 };
 use dbtg_schema::{AreaNo, Duplicates, ItemNo, RecordNo, Row, SetNo};
 use std::alloc::{AllocError, Global};

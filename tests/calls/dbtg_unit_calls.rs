@@ -3,9 +3,9 @@
 //! docs/profile/statuses.md.
 
 use cells::lets_a_cell_go;
-use dbtg_cells::{Cell, CellName, DbKey, MaybeOwner, Owner, Usage};
+use dbtg_cells::{Cell, CellName, DbKey, MaybeOwner, Owner, Owners, Usage};
 use dbtg_schema::{AreaNo, RecordNo};
-use dbtg_unit::{Cause, Form, Held, Kept, Owners, Statement, Status, Suppress};
+use dbtg_unit::{Cause, Form, Held, Kept, Statement, Status, Suppress};
 use std::alloc::{AllocError, Global};
 use std::test::*;
 

@@ -14,6 +14,7 @@ mod NumbersWritten
 mod NumbersLeftOut
 mod KeysAlike
 mod NumbersOfCells
+mod OwnersAlone
 mod PlainLists
 mod WholeRings
 mod ValuesCompared

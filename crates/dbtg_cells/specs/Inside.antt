@@ -7,5 +7,6 @@ pub mod MaybeOwners
 pub mod MemberLists
 pub mod Numbering
 pub mod Ordered
+pub mod RecordOwners
 pub mod RingOrder
 pub mod SortedMembers

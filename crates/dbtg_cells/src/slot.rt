@@ -5,9 +5,9 @@ ghost use Rattle.dbtg_schema.specs.Lookups.{at, some_and};
 ghost use Rattle.dbtg_cells.specs.Shown.{first_version};
 
 use crate::key::Owner;
-use crate::maybe_owner::{MaybeOwner, owner_at};
+use crate::record_owners::{NewOwner, RecordOwners};
 use crate::shared::SharedItems;
-use dbtg_schema::{Row, SetNo};
+use dbtg_schema::SetNo;
 use std::alloc::{AllocError, Global};
 use std::marker::Model;
 
@@ -17,7 +17,7 @@ pub struct Stored {
     pub generation: u8,
     pub version: u64,
     pub items: SharedItems,
-    pub owners: Row<MaybeOwner>,
+    pub owners: RecordOwners,
 }
 
 impl Stored {
@@ -56,7 +56,7 @@ impl NewRecord {
         alloc: Global,
         generation: u8,
         items: SharedItems,
-        owners: Row<MaybeOwner>,
+        owners: RecordOwners,
     ) -> Result<Self, AllocError>
         ensures { IfOk result (λ made. made ≡ first_version generation items owners) }
     {
@@ -127,7 +127,7 @@ impl Slot {
     pub fn owner(&self, set: SetNo) -> Option<Owner>
         ensures { result ≡ option_and_then (λ r. at r.owners set) self.now }
     {
-        owner_at(self.record()?.owners.as_slice(), set.index() as usize)
+        self.record()?.owners.get(set.index() as usize)
     }
 
     /// Stores a new record in place of what was there.
@@ -154,14 +154,11 @@ impl Slot {
     }
 
     /// Notes to whose list of the set the record belongs. A vacant slot does not change, nor does a set without an entry.
-    pub fn set_owner(&mut self, set: SetNo, owner: Option<Owner>)
+    pub fn set_owner(&mut self, set: SetNo, owner: NewOwner)
         ensures { self.new ≡ option_map (λ r. record { generation = r.generation; version = r.version; items = r.items; owners = slice_set r.owners set owner }) self.old }
     {
         if let Some(record) = &mut self.stored {
-            let at = set.index() as usize;
-            if at < record.owners.as_slice().len() {
-                record.owners.set(at, MaybeOwner::of(owner));
-            }
+            record.owners.set(set.index() as usize, owner);
         }
     }
 

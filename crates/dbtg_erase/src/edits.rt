@@ -10,7 +10,7 @@ ghost use Rattle.dbtg_unit.specs.Hands.InHand.{owner_in};
 ghost use Rattle.dbtg_erase.specs.Inside.ErasePlan.{going_edits, lose_owner};
 
 use crate::keys::Keys;
-use dbtg_cells::{CellName, DbKey, Owner, owner_at};
+use dbtg_cells::{CellName, DbKey, NewOwner, Owner, owner_at};
 use dbtg_schema::{Row, Schema, SetNo};
 use dbtg_unit::{CellEdit, Edit, Erased, Held, owner_in, owners_of, push_taking_out, set_count};
 use std::alloc::{AllocError, Global};
@@ -71,7 +71,7 @@ fn leave_each_list(
 {
     let owners = owners_of(held, key);
     for s in 0..set_count(schema) {
-        let owner = staying_owner(gone, owner_at(owners, s as usize));
+        let owner = staying_owner(gone, owner_at(owners.as_slice(), s as usize));
         push_taking_out(edits, SetNo::new(s), owner, key)?;
     }
     Ok(())
@@ -126,7 +126,7 @@ fn lose_owner(
     ensures { OnOk result (edits.new ≡ edits.old ++ map (lose_owner key.now) (filter (λ s. some_and (is_gone gone.now) (owner_in held.now s key.now)) (set ∷ []))) }
 {
     if is_lost(gone, owner_in(held, set, key)) {
-        push_slot_edit(key, Edit::ChangeOwner { set, owner: None }, edits)?;
+        push_slot_edit(key, Edit::ChangeOwner { set, owner: NewOwner::none() }, edits)?;
     }
     Ok(())
 }

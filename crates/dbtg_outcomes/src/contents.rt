@@ -143,7 +143,7 @@ fn spell_stored(versions: bool, stored: &Stored, out: &mut Vec<u64>) -> Result<(
     out.push(stored.generation as u64)?;
     out.push(if versions { stored.version } else { 1 })?;
     stored.items.get().spell(out)?;
-    spell_each(stored.owners.as_slice(), out)
+    spell_each(stored.owners.all().as_slice(), out)
 }
 
 // The record of a slot, if there is one.

@@ -9,10 +9,10 @@ ghost use Rattle.dbtg_step.specs.Core.Whole.{state_now};
 ghost use Rattle.dbtg_outcomes.specs.Inside.InHand.{AreInHand};
 ghost use Rattle.dbtg_outcomes.specs.Looked.{IsReadyWith};
 
-use dbtg_cells::CellName;
+use dbtg_cells::{CellName, Owners};
 use dbtg_schema::{AreaNo, Schema};
 use dbtg_step::{WholeDatabase, next_need, true_guesses};
-use dbtg_unit::{Held, Need, Owners, Statement, Unit};
+use dbtg_unit::{Held, Need, Statement, Unit};
 use std::alloc::{AllocError, Global};
 
 // A statement that needs more than this is not remembered, since what it needs is asked from the beginning for each cell.

@@ -20,11 +20,9 @@ mod set;
 use crate::joining::current_owner;
 use crate::missing::{missing, missing_ring, missing_slot};
 use crate::unit_alone::{done_plan, refusal};
-use dbtg_cells::{CellName, DbKey};
+use dbtg_cells::{CellName, DbKey, Owners};
 use dbtg_schema::{MOST_SETS, Schema};
-use dbtg_unit::{
-    Answer, Cause, Form, Held, Owners, Prepared, Status, Suppress, Unit, UnitEdit, refused, stored,
-};
+use dbtg_unit::{Answer, Cause, Form, Held, Prepared, Status, Suppress, Unit, UnitEdit, refused, stored};
 use std::alloc::Global;
 
 // The key that is found, or the cause if none is.
@@ -122,7 +120,7 @@ fn owners_of(held: &Held, key: &DbKey) -> Owners
     ensures { result ≡ take MOST_SETS (owners_in held.now key.now) }
 {
     match stored(held, key) {
-        Some(stored) => Owners::of(stored.owners.as_slice()),
+        Some(stored) => stored.owners.all(),
         None => Owners::none(0),
     }
 }

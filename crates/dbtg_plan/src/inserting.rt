@@ -20,7 +20,7 @@ use crate::members::{change_slot, slot_edit, sort_key_in};
 use crate::missing::{missing_ring, missing_slot};
 use crate::unit_alone;
 use crate::unit_alone::done_answer;
-use dbtg_cells::{CellName, DbKey, Value};
+use dbtg_cells::{CellName, DbKey, NewOwner, Value};
 use dbtg_schema::{Row, Schema, SetNo};
 use dbtg_unit::{
     Answer, Cause, CellEdit, Edit, Held, Place, Prepared, Unit, UnitEdit, edit_held, next_version,
@@ -77,7 +77,7 @@ fn edits_of(
 ) -> Result<Row<CellEdit>, AllocError>
     ensures { IfOk result (λ edits. edits ≡ joining_edit schema.now unit.now set key.now sort_key ∷ slot_edit key.now (Edit.ChangeOwner set (Some (joined_place schema.now unit.now set).owner)) ∷ slot_edit key.now Edit.RaiseVersion ∷ []) }
 {
-    let owner = Some(unit.joined_place(schema, set).owner);
+    let owner = NewOwner::of(alloc, unit.joined_place(schema, set).owner)?;
     let mut edits = Vec::new(alloc);
     edits.push(joining_edit(schema, unit, set, key, sort_key))?;
     edits.push(slot_edit(key, Edit::ChangeOwner { set, owner }))?;
@@ -140,7 +140,7 @@ pub(crate) fn prepare_insert(
 
 // MADE AT ONCE
 
-// Inserts a record for which there is room, with this sort key and its next version. It takes no memory.
+// Inserts a record for which there is room, with this sort key, the owner of the place and its next version. It takes no memory.
 fn insert_record(
     schema: &Schema,
     unit: &mut Unit,
@@ -148,16 +148,17 @@ fn insert_record(
     held: &mut Held,
     key: &DbKey,
     sort_key: Option<Value>,
+    owner: NewOwner,
     version: u64,
 ) -> Answer
-    requires { CanMake (inserting_with schema.now unit.old set key.now sort_key version).cells held.old.cells }
+    requires owner { owner ≡ Some (joined_place schema.now unit.old set).owner }
+    requires can { CanMake (inserting_with schema.now unit.old set key.now sort_key version).cells held.old.cells }
     ensures { seen result unit.new held.new ≡ made_by schema.now unit.old held.old (inserting_with schema.now unit.old set key.now sort_key version) }
 {
     let place = Place {
         owner: unit.joined_place(schema, set).owner,
         at: Some(*key),
     };
-    let owner = Some(unit.joined_place(schema, set).owner);
     edit_held(held, joining_edit(schema, unit, set, key, sort_key));
     change_slot(held, key, Edit::ChangeOwner { set, owner });
     unit.renote(*key, version);
@@ -192,6 +193,7 @@ pub(crate) fn make_insert(
         return Ok(unit_alone::refusal(cause));
     }
     let version = next_version(held, &key);
+    let owner = NewOwner::of(alloc, unit.joined_place(schema, set).owner)?;
     make_room(schema, unit, set, held, &key)?;
-    Ok(insert_record(schema, unit, set, held, &key, sort_key, version))
+    Ok(insert_record(schema, unit, set, held, &key, sort_key, owner, version))
 }

@@ -18,7 +18,7 @@ use crate::members::{change_slot, push_slot};
 use crate::missing::{missing_ring, missing_slot};
 use crate::unit_alone;
 use crate::unit_alone::done_answer;
-use dbtg_cells::{CellName, DbKey, Owner};
+use dbtg_cells::{CellName, DbKey, NewOwner, Owner};
 use dbtg_schema::{Row, Schema, SetNo};
 use dbtg_unit::{
     Answer, Cause, CellEdit, Edit, Held, Prepared, Unit, UnitEdit, edit_held, next_version,
@@ -62,7 +62,7 @@ fn edits_of(
 {
     let mut edits = Row::of(Vec::new(alloc));
     push_taking_out(&mut edits, set, owner, key)?;
-    push_slot(&mut edits, key, Edit::ChangeOwner { set, owner: None })?;
+    push_slot(&mut edits, key, Edit::ChangeOwner { set, owner: NewOwner::none() })?;
     Ok(edits)
 }
 
@@ -129,7 +129,7 @@ fn remove_record(unit: &mut Unit, set: SetNo, held: &mut Held, key: &DbKey) -> A
 {
     let version = next_version(held, key);
     take_out(held, set, owner_in(held, set, key), key);
-    change_slot(held, key, Edit::ChangeOwner { set, owner: None });
+    change_slot(held, key, Edit::ChangeOwner { set, owner: NewOwner::none() });
     unit.renote(*key, version);
     held.set_guess(set, None);
     done_answer()

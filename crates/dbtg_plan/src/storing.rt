@@ -24,12 +24,9 @@ use crate::joining::{current_owner, joining_edit, make_room, place_refusal};
 use crate::members::{copy_sort_key, slot_edit};
 use crate::missing::{missing, missing_ring, missing_slot};
 use crate::unit_alone;
-use dbtg_cells::{CellName, DbKey, NewRecord, Owner, SharedItems, Value};
+use dbtg_cells::{CellName, DbKey, NewRecord, Owner, Owners, RecordOwners, SharedItems, Value};
 use dbtg_schema::{RecordNo, Row, Schema, SetNo};
-use dbtg_unit::{
-    Answer, Cause, CellEdit, Edit, Held, Owners, Prepared, Status, Suppress, Unit, UnitEdit,
-    edit_each_cell, edit_held, is_automatic_in, numbers, refused, set_count,
-};
+use dbtg_unit::{Answer, Cause, CellEdit, Edit, Held, Prepared, Status, Suppress, Unit, UnitEdit, edit_each_cell, edit_held, is_automatic_in, numbers, refused, set_count};
 use std::alloc::{AllocError, Global};
 
 // Does STORE connect a record of this type in the set?
@@ -320,7 +317,7 @@ fn filling(
 ) -> Result<CellEdit, AllocError>
     ensures { IfOk result (λ edit. edit ≡ slot_edit key.now (Edit.Fill (first_version key.now.generation items.now owners.now))) }
 {
-    let owners = Row::of(Vec::from_slice(alloc, owners.as_slice())?);
+    let owners = RecordOwners::of(alloc, owners)?;
     let items = items.share()?;
     let stored = NewRecord::new(alloc, key.generation, items, owners)?;
     Ok(slot_edit(key, Edit::Fill { stored }))

@@ -12,10 +12,10 @@ use crate::seats::cut_off;
 use crate::unit::RunUnit;
 use crate::view::About;
 use crate::work::Work;
-use dbtg_cells::{Cell, cell_count};
+use dbtg_cells::{Cell, Owners, cell_count};
 use dbtg_schema::Schema;
 use dbtg_step::{opening_cells, opening_unit};
-use dbtg_unit::{Held, Owners};
+use dbtg_unit::Held;
 use std::alloc::{AllocError, Global};
 use std::snapshot::Snapshot;
 

@@ -25,10 +25,10 @@ use crate::database::Database;
 use crate::plays::{LookAtArea, PutCell, TakeAlone, TakeCell, TakeShared};
 use crate::tries::Tries;
 use crate::work::Work;
-use dbtg_cells::{CellName, cell_number};
+use dbtg_cells::{CellName, Owners, cell_number};
 use dbtg_schema::AreaNo;
 use dbtg_step::{Course, next_need, true_guesses};
-use dbtg_unit::{Need, Owners, Statement};
+use dbtg_unit::{Need, Statement};
 use std::alloc::{AllocError, Global};
 
 fn is_delete(statement: &Statement) -> bool

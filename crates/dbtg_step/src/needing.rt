@@ -22,9 +22,9 @@ use crate::drawing::ticket_event;
 use crate::parts::{CellLocation, Parts, StatementProgress, UnitState};
 use crate::runner::{statement_of, turn_back};
 use crate::statements::{area_next, next_need, true_guesses};
-use dbtg_cells::{Cell, CellName, cell_number};
+use dbtg_cells::{Cell, CellName, Owners, cell_number};
 use dbtg_schema::{AreaNo, Schema};
-use dbtg_unit::{Held, Need, Owners, Stepped};
+use dbtg_unit::{Held, Need, Stepped};
 use std::alloc::{AllocError, Global};
 use std::mem;
 

@@ -12,9 +12,9 @@ ghost use Rattle.dbtg_step.specs.Core.Parts.{location_of};
 ghost use Rattle.dbtg_step.specs.Inside.Openings.{Adds, opening_runner, runners_from, unused_extent};
 
 use crate::parts::{CellLocation, UnitState};
-use dbtg_cells::{Cell, CellName, Extent, Layout, Owner, Ring, Slot, Usage, cell_count};
+use dbtg_cells::{Cell, CellName, Extent, Layout, Owner, Owners, Ring, Slot, Usage, cell_count};
 use dbtg_schema::{AreaNo, RecordNo, Row, Schema, SetNo};
-use dbtg_unit::{Currency, Held, Kept, LAST_UNIT, Owners, Statement, Unit};
+use dbtg_unit::{Currency, Held, Kept, LAST_UNIT, Statement, Unit};
 use std::alloc::{AllocError, Global};
 
 // The items with one more.

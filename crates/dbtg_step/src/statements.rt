@@ -16,9 +16,10 @@ ghost use Rattle.dbtg_step.specs.Core.Courses.{CellsMatch, IsAtCells, CourseMatc
 ghost use Rattle.dbtg_step.specs.Inside.Courses.{IsBehindAreas};
 ghost use Rattle.dbtg_step.specs.Machine.NeedOrder.{AreCellsOf, HasItsAreas, IsAboveHands, LiesInHeldArea, WasTakenInTurn};
 
+use dbtg_cells::Owners;
 use crate::course::Course;
 use dbtg_schema::{AreaNo, Schema};
-use dbtg_unit::{Erase, Held, Need, Owners, Prepared, Statement, Unit, next_area, refused_at_once};
+use dbtg_unit::{Erase, Held, Need, Prepared, Statement, Unit, next_area, refused_at_once};
 use std::alloc::{AllocError, Global};
 
 // The option of a DELETE.

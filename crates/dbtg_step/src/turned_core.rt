@@ -13,9 +13,9 @@ use crate::machine::Core;
 use crate::parts::{CellLocation, Parts, UnitState};
 use crate::table::put_home;
 use crate::taking_turns::{Noted, Turned};
-use dbtg_cells::{Cell, CellName};
+use dbtg_cells::{Cell, CellName, Owners};
 use dbtg_schema::{Row, Schema};
-use dbtg_unit::{LAST_UNIT, Owners, Statement, Unit};
+use dbtg_unit::{LAST_UNIT, Statement, Unit};
 use std::alloc::{AllocError, Global};
 use std::marker::Model;
 

@@ -27,9 +27,9 @@ use crate::opening_parts::{cell_names, hold_opening_cells, opening_unit};
 use crate::results::Run;
 use crate::statements::{next_need, true_guesses};
 use crate::way_back::{WayBack, make_with_way, put_each_back};
-use dbtg_cells::{Cell, CellName, cell_number};
+use dbtg_cells::{Cell, CellName, Owners, cell_number};
 use dbtg_schema::{AreaNo, Row, Schema};
-use dbtg_unit::{Answer, Entry, Held, Image, Need, Owners, Statement, Unit};
+use dbtg_unit::{Answer, Entry, Held, Image, Need, Statement, Unit};
 use std::alloc::{AllocError, Global};
 use std::marker::Model;
 

@@ -4,10 +4,11 @@ ghost use Rattle.dbtg_unit.specs.Hands.EditsOf.{ring_edits};
 
 use crate::in_hand::ring_name;
 use crate::kept::Kept;
-use crate::owners::Owners;
 use crate::statement::Suppress;
 use crate::unit::Place;
-use dbtg_cells::{CellName, DbKey, Mode, NewRecord, Owner, SharedItems, Value};
+use dbtg_cells::{
+    CellName, DbKey, Mode, NewOwner, NewRecord, Owner, Owners, SharedItems, Value,
+};
 use dbtg_schema::{AreaNo, Order, Row, SetNo};
 use std::alloc::AllocError;
 
@@ -74,7 +75,7 @@ pub enum Edit {
     /// The record in a slot gets this owner in a set, or none.
     ChangeOwner {
         set: SetNo,
-        owner: Option<Owner>,
+        owner: NewOwner,
     },
     /// The record in a slot gets its next version.
     RaiseVersion,

@@ -15,8 +15,7 @@ ghost use Rattle.dbtg_unit.specs.Hands.Lends.{LendsCell};
 
 use crate::in_hand::stored_of;
 use crate::names::{FirstNames, NameKey, enter, find_place, leave};
-use crate::owners::Owners;
-use dbtg_cells::{Cell, CellName, DbKey, Layout, MaybeOwner, Owner, owner_at};
+use dbtg_cells::{Cell, CellName, DbKey, Layout, MaybeOwner, Owner, Owners, owner_at};
 use dbtg_schema::{AreaNo, SetNo};
 use indexmap::IndexMap;
 use smallvec::SmallVec;
@@ -293,8 +292,8 @@ impl Held {
             &CellName::Slot(key.rtype, key.number),
         );
         match stored_of(cell, key.generation) {
-            Some(stored) => self.guesses.put(stored.owners.as_slice()),
-            None => self.guesses.put(&[]),
+            Some(stored) => self.guesses = stored.owners.all(),
+            None => self.guesses = Owners::none(0),
         }
     }
 

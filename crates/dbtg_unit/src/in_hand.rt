@@ -8,9 +8,7 @@ ghost use Rattle.dbtg_unit.specs.Hands.Making.{HaveNextVersions};
 
 use crate::held::Held;
 use crate::unit::{Cause, Unit};
-use dbtg_cells::{
-    Cell, CellName, DbKey, Extent, MaybeOwner, Owner, Ring, Stored, Usage, owner_at, owner_eq,
-};
+use dbtg_cells::{Cell, CellName, DbKey, Extent, Owner, Owners, Ring, Stored, Usage, owner_eq};
 use dbtg_schema::{AreaNo, RecordNo, SetNo};
 
 /// The name of an owner's ring in a set.
@@ -69,18 +67,18 @@ pub fn owner_in(held: &Held, set: SetNo, key: &DbKey) -> Option<Owner>
     ensures { result ≡ owner_in held.now set key.now }
 {
     match stored(held, key) {
-        Some(stored) => owner_at(stored.owners.as_slice(), set.index() as usize),
+        Some(stored) => stored.owners.get(set.index() as usize),
         None => None,
     }
 }
 
 /// The owners of a record, by set, from its slot; there are none if the slot is not held or has another record.
-pub fn owners_of<'a>(held: &'a Held, key: &DbKey) -> &'a [MaybeOwner]
-    ensures { (s : ℕ) → at result.now s ≡ owner_in held.now s key.now }
+pub fn owners_of(held: &Held, key: &DbKey) -> Owners
+    ensures { (s : ℕ) → at result s ≡ owner_in held.now s key.now }
 {
     match stored(held, key) {
-        Some(stored) => stored.owners.as_slice(),
-        None => &[],
+        Some(stored) => stored.owners.all(),
+        None => Owners::none(0),
     }
 }
 

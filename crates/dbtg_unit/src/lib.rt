@@ -58,7 +58,7 @@ pub use legality::{
 pub use limits::{LAST_UNIT, MOST_STATEMENTS};
 pub use moves::{Move, Stepped};
 pub use order::{has_area, next_area};
-pub use owners::{Owners, with_owners};
+pub use owners::with_owners;
 pub use places::refuses_equal;
 pub use prepared::{Prepared, edit_each_cell, edit_held, finish, refused};
 pub use reserving::{reserve_member, reserve_user};

@@ -1,83 +1,8 @@
-//! An owner or none for each set of a schema, stored inline. Nothing here takes memory.
-ghost use Rattle.std.specs.Prelude.{◌≡◌, ◌≤◌, ◌<◌, slice_set, length, replicate, take, None};
+//! The owners that a unit guesses, put right.
+ghost use Rattle.std.specs.Prelude.{◌≡◌, length};
 ghost use Rattle.dbtg_unit.specs.Hands.Guesses.{with_owners};
 
-use dbtg_cells::{MaybeOwner, Owner};
-use dbtg_schema::MOST_SETS;
-use std::marker::Model;
-
-/// For each set of a schema, at most MOST_SETS, an owner or none; contracts see the list.
-#[derive(Drop)]
-pub struct Owners {
-    entries: [MaybeOwner; MOST_SETS],
-    len: usize,
-}
-
-impl Model for Owners {
-    ghost use Rattle.std.specs.Prelude.{List, Option, take, ◌≤◌};
-    ghost use Rattle.dbtg_cells.specs.declared.key.Owner.{Owner};
-    ghost use Rattle.dbtg_schema.specs.declared.limits.TheConstants.{MOST_SETS};
-
-    ghost Value = { List (Option Owner) };
-
-    ghost view = { λ o. take o.len o.entries };
-
-    ghost invariant = { λ o. o.len ≤ MOST_SETS };
-}
-
-fn set_entry(entries: &mut [MaybeOwner; MOST_SETS], set: usize, owner: MaybeOwner)
-    requires { set < MOST_SETS }
-    ensures { entries.new ≡ slice_set entries.old set owner }
-{
-    entries[set] = owner;
-}
-
-impl Owners {
-    /// No owner in any of this many sets.
-    pub fn none(sets: usize) -> Self
-        requires { sets ≤ MOST_SETS }
-        ensures { result ≡ replicate sets None }
-    {
-        Self {
-            entries: [MaybeOwner::of(None); MOST_SETS],
-            len: sets,
-        }
-    }
-
-    /// These owners; if there are more than MOST_SETS, the first of them.
-    pub fn of(owners: &[MaybeOwner]) -> Self
-        ensures { result ≡ take MOST_SETS owners.now }
-    {
-        let len = owners.len().min(MOST_SETS);
-        let mut entries = [MaybeOwner::of(None); MOST_SETS];
-        entries[..len].copy_from_slice(&owners[..len]);
-        Self { entries, len }
-    }
-
-    /// Puts these owners in the place of the old ones; if there are more than MOST_SETS, the first of them.
-    pub(crate) fn put(&mut self, owners: &[MaybeOwner])
-        ensures { self.new ≡ take MOST_SETS owners.now }
-    {
-        let len = owners.len().min(MOST_SETS);
-        self.entries[..len].copy_from_slice(&owners[..len]);
-        self.len = len;
-    }
-
-    pub fn as_slice(&self) -> &[MaybeOwner]
-        ensures { result.now ≡ self.now }
-    {
-        &self.entries[..self.len]
-    }
-
-    /// Notes the owner in a set; nothing changes if the set has no entry.
-    pub fn set(&mut self, set: usize, owner: Option<Owner>)
-        ensures { self.new ≡ slice_set self.old set owner }
-    {
-        if set < self.len {
-            set_entry(&mut self.entries, set, MaybeOwner::of(owner));
-        }
-    }
-}
+use dbtg_cells::{MaybeOwner, Owners};
 
 /// These guesses with the true owners: where there is a true owner it becomes the guess, elsewhere the guess stays.
 pub fn with_owners(guesses: &[MaybeOwner], mut owners: Owners) -> Owners

@@ -1,10 +1,10 @@
 //! Which areas the statements want in the shop, and in which order they take them, by docs/profile/statements.md.
 
 use super::shop::{at_alone, customer, item, opened, order, shop};
-use dbtg_cells::DbKey;
+use dbtg_cells::{DbKey, Owners};
 use dbtg_schema::{AreaNo, Schema};
 use dbtg_script::read_script;
-use dbtg_unit::{Held, Owners, Unit, has_area, next_area};
+use dbtg_unit::{Held, Unit, has_area, next_area};
 use std::alloc::{AllocError, Global};
 use std::test::*;
 

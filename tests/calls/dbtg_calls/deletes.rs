@@ -1,9 +1,9 @@
 //! The cells of a DELETE, named one after another until it needs no more.
 
-use dbtg_cells::{Cell, CellName, DbKey, Extent, MaybeOwner, Mode, NewRecord, Owner, Ring, Shared, Slot, Usage};
+use dbtg_cells::{Cell, CellName, DbKey, Extent, MaybeOwner, Mode, NewRecord, Owner, Owners, RecordOwners, Ring, Shared, Slot, Usage};
 use dbtg_erase::next_need;
 use dbtg_schema::{AreaNo, RecordNo, Row, Schema, SetNo};
-use dbtg_unit::{Currency, Erase, Held, Kept, Need, Owners, Unit};
+use dbtg_unit::{Currency, Erase, Held, Kept, Need, Unit};
 use std::alloc::{AllocError, Global};
 use std::test::*;
 
@@ -44,7 +44,7 @@ fn unit(alloc: Global) -> Result<Unit, AllocError> {
 
 fn slot(alloc: Global, owner: Option<Owner>) -> Result<Cell, AllocError> {
     let mut slot = Slot::vacant();
-    let owners = Row::of(Vec::from_slice(alloc, &[MaybeOwner::of(owner)])?);
+    let owners = RecordOwners::of(alloc, &Owners::of(&[MaybeOwner::of(owner)]))?;
     slot.fill(NewRecord::new(alloc, 1, Shared::new(alloc, Row::of(Vec::new(alloc)))?, owners)?);
     Ok(Cell::Slot(slot))
 }

@@ -1,9 +1,9 @@
 //! What a finished statement changes of its unit and of the guesses, by docs/profile/currency.md and keeping.md.
 
 use super::shop::{customer, item, opened, order, place, shop};
-use dbtg_cells::{DbKey, MaybeOwner, Mode, Owner};
+use dbtg_cells::{DbKey, MaybeOwner, Mode, Owner, Owners};
 use dbtg_schema::{AreaNo, Row, Schema, SetNo};
-use dbtg_unit::{Answer, Held, Kept, Owners, Prepared, Status, Suppress, Unit, UnitEdit, finish};
+use dbtg_unit::{Answer, Held, Kept, Prepared, Status, Suppress, Unit, UnitEdit, finish};
 use std::alloc::{AllocError, Global};
 use std::test::*;
 

@@ -1,9 +1,9 @@
 //! What is in hand: guesses, and more areas and cells than are held in place.
 
 use super::{are_owners, key};
-use dbtg_cells::{Cell, CellName, Owner, Ring};
+use dbtg_cells::{Cell, CellName, Owner, Owners, Ring};
 use dbtg_schema::{AreaNo, RecordNo, SetNo};
-use dbtg_unit::{Held, Owners};
+use dbtg_unit::Held;
 use std::alloc::{AllocError, Global};
 use std::test::*;
 

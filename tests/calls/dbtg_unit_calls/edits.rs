@@ -1,7 +1,7 @@
 //! Edits of usage lists, extents, slots and of rings as a whole, each made of a cell of its kind, by docs/profile/statements.md.
 
 use super::key;
-use dbtg_cells::{Cell, DbKey, Extent, MaybeOwner, Mode, NewRecord, Owner, Ring, Shared, Slot, Stored, Usage, Value};
+use dbtg_cells::{Cell, DbKey, Extent, Mode, NewOwner, NewRecord, Owner, Owners, RecordOwners, Ring, Shared, Slot, Stored, Usage, Value};
 use dbtg_schema::{RecordNo, Row, SetNo};
 use dbtg_unit::{Edit, edit_cell};
 use std::alloc::{AllocError, Global};
@@ -144,7 +144,7 @@ fn rings(rt: HostRuntime) -> Result<(), Fail> {
 // A record of generation 2 without items, in one set, that has no owner there.
 fn filled(alloc: Global) -> Result<Slot, AllocError> {
     let mut slot = Slot::vacant();
-    let owners = Row::of(Vec::from_slice(alloc, &[MaybeOwner::of(None)])?);
+    let owners = RecordOwners::of(alloc, &Owners::none(1))?;
     slot.fill(NewRecord::new(alloc, 2, Shared::new(alloc, Row::of(Vec::new(alloc)))?, owners)?);
     Ok(slot)
 }
@@ -165,7 +165,7 @@ fn version(cell: &Cell) -> Option<u64> {
 
 fn fills_slot(alloc: Global) -> Result<bool, AllocError> {
     let mut cell = Cell::Slot(Slot::vacant());
-    let stored = NewRecord::new(alloc, 2, Shared::new(alloc, calc(alloc, 7)?)?, Row::of(Vec::new(alloc)))?;
+    let stored = NewRecord::new(alloc, 2, Shared::new(alloc, calc(alloc, 7)?)?, RecordOwners::of(alloc, &Owners::none(0))?)?;
     edit_cell(&mut cell, Edit::Fill { stored });
     Ok(version(&cell) == Some(1))
 }
@@ -190,7 +190,7 @@ fn changes_owner(alloc: Global) -> Result<bool, AllocError> {
     let mut cell = Cell::Slot(filled(alloc)?);
     let own = Edit::ChangeOwner {
         set: SetNo::new(0),
-        owner: Some(Owner::System),
+        owner: NewOwner::of(alloc, Owner::System)?,
     };
     edit_cell(&mut cell, own);
     match &cell {

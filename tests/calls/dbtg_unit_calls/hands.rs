@@ -1,9 +1,9 @@
 //! Hands that count what they hold, lend a cell to be written, and are given guesses anew.
 
 use super::{are_owners, key};
-use dbtg_cells::{Cell, CellName, DbKey, MaybeOwner, Mode, Owner, Usage};
+use dbtg_cells::{Cell, CellName, DbKey, MaybeOwner, Mode, Owner, Owners, Usage};
 use dbtg_schema::{AreaNo, SetNo};
-use dbtg_unit::{Held, Owners};
+use dbtg_unit::Held;
 use std::alloc::{AllocError, Global};
 use std::process::Abort;
 use std::test::*;

@@ -2,9 +2,9 @@
 
 use super::key;
 use super::units::opening;
-use dbtg_cells::{Cell, CellName, DbKey, Extent, NewRecord, Owner, Ring, Shared, Slot, Usage};
+use dbtg_cells::{Cell, CellName, DbKey, Extent, NewRecord, Owner, Owners, RecordOwners, Ring, Shared, Slot, Usage};
 use dbtg_schema::{AreaNo, RecordNo, Row, SetNo};
-use dbtg_unit::{Cause, Held, Owners, Unit, numbers, occurrence, own_refusal, stored, usage};
+use dbtg_unit::{Cause, Held, Unit, numbers, occurrence, own_refusal, stored, usage};
 use std::alloc::{AllocError, Global};
 use std::test::*;
 
@@ -16,7 +16,7 @@ fn takes(held: &mut Held, name: &CellName, cell: Cell) -> bool {
 fn slot(alloc: Global) -> Result<Slot, AllocError> {
     let mut slot = Slot::vacant();
     let items = Shared::new(alloc, Row::of(Vec::new(alloc)))?;
-    let owners = Row::of(Vec::new(alloc));
+    let owners = RecordOwners::of(alloc, &Owners::none(0))?;
     slot.fill(NewRecord::new(alloc, 2, items, owners)?);
     Ok(slot)
 }

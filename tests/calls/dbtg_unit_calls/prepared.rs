@@ -2,12 +2,9 @@
 
 use super::key;
 use super::units::opening;
-use dbtg_cells::{Cell, CellName, MaybeOwner, NewRecord, Owner, Ring, Shared, Slot, Usage};
+use dbtg_cells::{Cell, CellName, NewOwner, NewRecord, Owner, Owners, RecordOwners, Ring, Shared, Slot, Usage};
 use dbtg_schema::{AreaNo, RecordNo, Row, Schema, SetNo};
-use dbtg_unit::{
-    Answer, CellEdit, Edit, Held, Owners, Place, Prepared, Status, Unit, UnitEdit, finish,
-    reserve_member, reserve_user,
-};
+use dbtg_unit::{Answer, CellEdit, Edit, Held, Place, Prepared, Status, Unit, UnitEdit, finish, reserve_member, reserve_user};
 use std::alloc::{AllocError, Global};
 use std::test::*;
 
@@ -96,12 +93,12 @@ fn both(
 
 // A record is filled in, and then has an owner; both can be made of whatever is held.
 fn filling(alloc: Global) -> Result<Row<CellEdit>, AllocError> {
-    let owners = Row::of(Vec::from_slice(alloc, &[MaybeOwner::of(None)])?);
+    let owners = RecordOwners::of(alloc, &Owners::none(1))?;
     let stored = NewRecord::new(alloc, 2, Shared::new(alloc, Row::of(Vec::new(alloc)))?, owners)?;
     let fill = Edit::Fill { stored };
     let own = Edit::ChangeOwner {
         set: SetNo::new(0),
-        owner: Some(Owner::System),
+        owner: NewOwner::of(alloc, Owner::System)?,
     };
     both(alloc, &slot_name(), fill, own)
 }

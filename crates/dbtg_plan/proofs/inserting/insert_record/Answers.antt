@@ -1,8 +1,8 @@
-use Rattle.std.proofs.Common.{◌∷◌, [], ◌∙◌, sym, ap, subst, Some}
+use Rattle.std.proofs.Common.{◌∷◌, [], ◌∙◌, sym, ap, subst, Option, Some}
 use Rattle.std.specs.Prelude.{slice_set}
+use Rattle.dbtg_cells.specs.declared.key.Owner.{Owner}
 use Rattle.dbtg_unit.specs.declared.edit.CellEdit.{CellEdit}
 use Rattle.dbtg_unit.specs.declared.edit.Edit.TheVariants.{ChangeOwner, RaiseVersion}
-use Rattle.dbtg_unit.specs.declared.unit.Place.{Place}
 use Rattle.dbtg_unit.specs.Database.Statements.Conditions.{joined_place}
 use Rattle.dbtg_unit.specs.Database.Statements.Effect.{moved}
 use Rattle.dbtg_unit.specs.Hands.EditsOf.{slot_edit}
@@ -16,7 +16,7 @@ use Rattle.dbtg_plan.proofs.Plans.MadeAtOnce.{seen_by_plan}
 use Rattle.dbtg_plan.proofs.inserting.insert_record.Goals as goal
 
 pub edit_held-requires : goal.edit_held-requires
-edit_held-requires c = subst (λ (e : CellEdit). CanEditHeld e c.args.held.now.cells) (sym c.joining_edit.ensures) c.requires.0
+edit_held-requires c = subst (λ (e : CellEdit). CanEditHeld e c.args.held.now.cells) (sym c.joining_edit.ensures) c.requires.can.0
 
 pub change_slot-requires : goal.change_slot-requires
 change_slot-requires c =
@@ -27,8 +27,8 @@ change_slot-requires c =
     let old = c.args.held.now.cells in
     let between = c.edit_held.new.held.cells in
     let first : AreMade (joining_edit schema unit s k c.args.sort_key ∷ []) old between = subst (λ (e : CellEdit). AreMade (e ∷ []) old between) c.joining_edit.ensures c.edit_held.ensures.made in
-    subst (λ (p : Place). CanMake (slot_edit k (ChangeOwner s (Some p.owner)) ∷ slot_edit k RaiseVersion ∷ []) between) (sym c.joined_place-2.ensures)
-    (can_make_rest (joining_edit schema unit s k c.args.sort_key ∷ []) (slot_edit k (ChangeOwner s (Some (joined_place schema unit s).owner)) ∷ slot_edit k RaiseVersion ∷ []) old between c.requires first)
+    subst (λ (owner : Option Owner). CanMake (slot_edit k (ChangeOwner s owner) ∷ slot_edit k RaiseVersion ∷ []) between) (sym c.requires.owner)
+    (can_make_rest (joining_edit schema unit s k c.args.sort_key ∷ []) (slot_edit k (ChangeOwner s (Some (joined_place schema unit s).owner)) ∷ slot_edit k RaiseVersion ∷ []) old between c.requires.can first)
 
 pub returns : goal.returns
 returns c =
@@ -43,7 +43,7 @@ returns c =
     let made : AreMade plan.cells old.cells new
     = made_append (joining_edit schema unit s k c.args.sort_key ∷ []) (slot_edit k (ChangeOwner s (Some (joined_place schema unit s).owner)) ∷ slot_edit k RaiseVersion ∷ []) old.cells between new
     (subst (λ (e : CellEdit). AreMade (e ∷ []) old.cells between) c.joining_edit.ensures c.edit_held.ensures.made)
-    (subst (λ (p : Place). AreMade (slot_edit k (ChangeOwner s (Some p.owner)) ∷ slot_edit k RaiseVersion ∷ []) between new) c.joined_place-2.ensures c.change_slot.ensures.made) in
+    (subst (λ (owner : Option Owner). AreMade (slot_edit k (ChangeOwner s owner) ∷ slot_edit k RaiseVersion ∷ []) between new) c.requires.owner c.change_slot.ensures.made) in
     seen_by_plan schema unit c.move_to.new.self old c.set_guess.new.self plan c.done_answer.result c.done_answer.ensures
     (c.move_to.ensures ∙ (λ i. moved (c.renote.ensures.change i) s (record { owner = (c.joined_place.ensures i).owner; at = Some k })))
     (ap (λ (h : Hands). h.areas) c.set_guess.ensures ∙ c.change_slot.ensures.areas ∙ c.edit_held.ensures.areas)

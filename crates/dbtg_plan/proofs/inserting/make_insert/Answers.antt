@@ -14,8 +14,8 @@ use Rattle.dbtg_plan.proofs.Connect.InsertIsEffect.{insert_can_finish, insert_is
 use Rattle.dbtg_plan.proofs.Plans.MadeAtOnce.{planned_refused, refused_is_made}
 use Rattle.dbtg_plan.proofs.inserting.make_insert.Goals as goal
 
-pub insert_record-requires : goal.insert_record-requires
-insert_record-requires c =
+pub insert_record-requires-clause-can : goal.insert_record-requires-clause-can
+insert_record-requires-clause-can c =
     let schema = c.args.schema.now in
     let unit = c.args.unit.now in
     let hands = c.args.held.now in

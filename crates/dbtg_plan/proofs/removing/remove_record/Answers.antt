@@ -30,7 +30,8 @@ change_slot-requires c =
     let cells = c.args.held.now.cells in
     let own : List CellEdit = ring_edits s (c.owner_in.result) (TakeOut k ∷ []) in
     let last : List CellEdit = slot_edit k (ChangeOwner s None) ∷ slot_edit k RaiseVersion ∷ [] in
-    can_make_rest own last cells c.take_out.new.held.cells (subst (λ (o : Option Owner). CanMake (ring_edits s o (TakeOut k ∷ []) ++ last) cells) (sym c.owner_in.ensures) c.requires.can) c.take_out.ensures.made
+    subst (λ (none : Option Owner). CanMake (slot_edit k (ChangeOwner s none) ∷ slot_edit k RaiseVersion ∷ []) c.take_out.new.held.cells) (sym c.none.ensures)
+    (can_make_rest own last cells c.take_out.new.held.cells (subst (λ (o : Option Owner). CanMake (ring_edits s o (TakeOut k ∷ []) ++ last) cells) (sym c.owner_in.ensures) c.requires.can) c.take_out.ensures.made)
 
 pub returns : goal.returns
 returns c schema =
@@ -41,7 +42,8 @@ returns c schema =
     let plan = removing (in_hand old) s k in
     let made : AreMade plan.cells old.cells c.change_slot.new.held.cells
     = subst (λ (o : Option Owner). AreMade (ring_edits s o (TakeOut k ∷ []) ++ last) old.cells c.change_slot.new.held.cells) c.owner_in.ensures
-    (made_append (ring_edits s c.owner_in.result (TakeOut k ∷ [])) last old.cells c.take_out.new.held.cells c.change_slot.new.held.cells c.take_out.ensures.made c.change_slot.ensures.made) in
+    (made_append (ring_edits s c.owner_in.result (TakeOut k ∷ [])) last old.cells c.take_out.new.held.cells c.change_slot.new.held.cells c.take_out.ensures.made
+    (subst (λ (none : Option Owner). AreMade (slot_edit k (ChangeOwner s none) ∷ slot_edit k RaiseVersion ∷ []) c.take_out.new.held.cells c.change_slot.new.held.cells) c.none.ensures c.change_slot.ensures.made)) in
     seen_by_plan schema c.args.unit.now c.renote.new.self old c.set_guess.new.self plan c.done_answer.result c.done_answer.ensures
     (c.renote.ensures.change ∙ ap (λ v. record c.args.unit.now { kept = noted_again k v c.args.unit.now.kept }) c.next_version-version.ensures)
     (ap (λ (h : Hands). h.areas) c.set_guess.ensures ∙ c.change_slot.ensures.areas ∙ c.take_out.ensures.areas)

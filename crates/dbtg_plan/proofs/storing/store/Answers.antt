@@ -26,7 +26,7 @@ returns-clause-made c =
     let built = c.in_ok-built.built in
     let made : List CellEdit = built.entering ∷ (built.joins ++ (edits_of_opening schema k ++ built.filling ∷ [])) in
     seen_by_plan schema unit c.see.new.self c.args.held.now c.set_guesses.new.self (storing schema unit items suppress k) _ refl
-    (c.see.ensures ∙ ap (λ (owners : List (Option Owner)). seen_with schema unit k owners suppress) (c.as_slice.ensures ∙ c.first_owners-owners.ensures))
+    (c.see.ensures ∙ ap (λ (owners : List (Option Owner)). seen_with schema unit k owners suppress) (c.as_slice.ensures.value ∙ c.first_owners-owners.ensures))
     (ap (λ (h : Hands). h.areas) c.set_guesses.ensures ∙ c.change_cells.ensures.areas ∙ c.make_places.ensures.same.areas)
     (ap (λ (h : Hands). values_of h.cells) c.set_guesses.ensures ∙ made_values made c.make_places.new.held.cells c.change_cells.new.held.cells c.change_cells.ensures.made
     ∙ (λ i. edited_values (c.in_ok-built.ensures i) (c.make_places.ensures.same.cells i)))

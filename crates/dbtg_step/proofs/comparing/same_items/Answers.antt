@@ -11,4 +11,4 @@ decides r a b e = (λ t. let same = values_eq_same a b (sym e ∙ t) in (λ i. S
 
 pub returns-in-Some-Some : goal.returns-in-Some-Some
 returns-in-Some-Some c =
-    rw (c.in-Some-Some.is-0, c.in-Some-Some.is-1) (decides c.values_eq.result c.in-Some-Some.these c.in-Some-Some.those (c.values_eq.ensures ∙ (λ i. values_eq (c.as_slice.ensures i) (c.as_slice-in-Some-Some.ensures i))))
+    rw (c.in-Some-Some.is-0, c.in-Some-Some.is-1) (decides c.values_eq.result c.in-Some-Some.these c.in-Some-Some.those (c.values_eq.ensures ∙ (λ i. values_eq ((c.as_slice.ensures ∙ c.get.ensures) i) ((c.as_slice-in-Some-Some.ensures ∙ c.get-in-Some-Some.ensures) i))))

@@ -14,8 +14,8 @@ loop-set-preserved c =
     let within : i < length gs = c.loop-set-test.true in
     let count = c.loop-set.invariant.count in
     let g : slice_get gs i ≡ Some c.index-guesses-set.result = slice_get_read gs (length gs) i c.index-guesses-set.result refl within c.index-guesses-set.is in
-    let now : slice_get c.as_slice.result.now i ≡ Some c.index-as_slice-set.result = slice_get_read c.as_slice.result.now (length c.as_slice.result.now) i c.index-as_slice-set.result refl (let e = ap length c.as_slice.ensures in omega (arith, within, count, e)) c.index-as_slice-set.is in
-    let o : slice_get (with_owners (take i gs) (take i os) ++ drop i os) i ≡ Some c.index-as_slice-set.result = ap (λ xs. slice_get xs i) (sym c.loop-set.invariant.is ∙ sym c.as_slice.ensures) ∙ now in
+    let now : slice_get c.as_slice.result.now i ≡ Some c.index-as_slice-set.result = slice_get_read c.as_slice.result.now (length c.as_slice.result.now) i c.index-as_slice-set.result refl (let e = ap length c.as_slice.ensures.value in omega (arith, within, count, e)) c.index-as_slice-set.is in
+    let o : slice_get (with_owners (take i gs) (take i os) ++ drop i os) i ≡ Some c.index-as_slice-set.result = ap (λ xs. slice_get xs i) (sym c.loop-set.invariant.is ∙ sym c.as_slice.ensures.value) ∙ now in
     let next : suc i ≡ i + 1 = omega arith in
     let owner = c.or-owner.ensures ∙ (λ k. option_or (c.get.ensures k) (c.get-in-loop-set.ensures k)) in
     record {

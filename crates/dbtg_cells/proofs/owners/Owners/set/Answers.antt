@@ -1,6 +1,6 @@
 use Rattle.std.proofs.Common.{◌∙◌, ap, take, slice_set}
 use Rattle.std.proofs.Math.Seq.{take-set-lt}
-use Rattle.dbtg_unit.proofs.owners.Owners.set.Goals as goal
+use Rattle.dbtg_cells.proofs.owners.Owners.set.Goals as goal
 
 pub returns-then-set-self : goal.returns-then-set-self
 returns-then-set-self c =
