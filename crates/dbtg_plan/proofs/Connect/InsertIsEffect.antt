@@ -10,7 +10,6 @@ use Rattle.dbtg_schema.specs.Structure.{member_clause, order_of, pictures}
 use Rattle.dbtg_schema.proofs.Public.{none_is, some_from_none}
 use Rattle.dbtg_cells.specs.declared.key.DbKey.{DbKey}
 use Rattle.dbtg_cells.specs.declared.key.Owner.TheVariants.{System}
-use Rattle.dbtg_cells.specs.declared.key.Value.{Value}
 use Rattle.dbtg_cells.specs.declared.cell.Cell.TheVariants.{Ring as RingCell}
 use Rattle.dbtg_cells.specs.declared.name.CellName.{CellName}
 use Rattle.dbtg_cells.specs.declared.name.CellName.TheVariants.{Ring}
@@ -20,7 +19,7 @@ use Rattle.dbtg_cells.specs.Members.{keys_in}
 use Rattle.dbtg_cells.proofs.Public.{key_eq_refl, owner_eq_refl}
 use Rattle.dbtg_unit.specs.Database.Statements.Checks.{about, own_checks, insert_checks, place_checks, accepts_type, refused_at_once}
 use Rattle.dbtg_unit.specs.declared.edit.CellEdit.{CellEdit}
-use Rattle.dbtg_unit.specs.declared.edit.Edit.TheVariants.{ChangeOwner, RaiseVersion}
+use Rattle.dbtg_unit.specs.declared.edit.Edit.TheVariants.{ChangeOwner}
 use Rattle.dbtg_unit.specs.declared.statement.Statement.{Statement}
 use Rattle.dbtg_unit.specs.declared.statement.Statement.TheVariants.{Insert}
 use Rattle.dbtg_unit.specs.declared.unit.Cause.{Cause}
@@ -43,7 +42,7 @@ use Rattle.dbtg_unit.specs.Hands.Prepared.{IsEffect, IsPrepared, Plan, unit_afte
 use Rattle.dbtg_unit.specs.Inside.Prepared.{unless_refusal}
 use Rattle.dbtg_unit.specs.Hands.Reserving.{CanTakeMember, OfHeld}
 use Rattle.dbtg_unit.specs.Database.State.Units.{place_in}
-use Rattle.dbtg_unit.proofs.Public.{In, MayPlan, agrees_same, can_make_raised, holds_same, items_in_hand, legal_after, live_in_hand, may_plan, member_connected, member_nowhere, member_owner_found, members_in_hand, occurrence_in_same, owner_in_hand, owner_leaves_version, passes_check, passes_without_cells, same_sym, versions_same}
+use Rattle.dbtg_unit.proofs.Public.{MayPlan, agrees_same, can_make_raised, holds_same, items_in_hand, legal_after, live_in_hand, may_plan, member_connected, member_nowhere, member_owner_found, members_in_hand, occurrence_in_same, owner_in_hand, owner_leaves_version, passes_check, passes_without_cells, same_sym, versions_same}
 use Rattle.dbtg_unit.specs.Database.Statements.StoredFacts.{StoredFacts, whole}
 use Rattle.dbtg_unit.specs.Hands.PlanOf.{inserting, planned_on_current, joining_edit}
 use Rattle.dbtg_unit.specs.Inside.PlanOf.{plan_of}

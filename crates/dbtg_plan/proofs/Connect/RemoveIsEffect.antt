@@ -1,6 +1,6 @@
 -- What a REMOVE prepares is its effect.
 -- k is a key, s a set, o an owner, db a database.
-use Rattle.std.proofs.Common.{◌≡◌, refl, sym, ◌∙◌, ap, subst, ℕ, ◌+◌, Bool, true, false, cond, ◌&&◌, ◌||◌, List, [], ◌∷◌, ◌++◌, length, Option, Some, None, eqb, inl}
+use Rattle.std.proofs.Common.{◌≡◌, refl, sym, ◌∙◌, ap, subst, ℕ, ◌+◌, Bool, true, false, cond, ◌&&◌, ◌||◌, [], ◌∷◌, ◌++◌, length, Option, Some, None, eqb, inl}
 use Rattle.std.specs.Prelude.{is_none, option_map}
 use Rattle.std.specs.List.{list_all, list_any}
 use Rattle.std.proofs.lemmas.Bool.{and_from, true≢false, not-false, ltb-true, or_parts}
@@ -19,13 +19,12 @@ use Rattle.dbtg_unit.specs.Database.Statements.Checks.{remove_checks, refused_at
 use Rattle.dbtg_unit.specs.declared.edit.CellEdit.{CellEdit}
 use Rattle.dbtg_unit.specs.declared.edit.Edit.TheVariants.{ChangeOwner, RaiseVersion, TakeOut}
 use Rattle.dbtg_unit.specs.declared.statement.Statement.TheVariants.{Remove}
-use Rattle.dbtg_unit.specs.declared.unit.Cause.{Cause}
 use Rattle.dbtg_unit.specs.declared.unit.Cause.TheVariants.{NotMember}
 use Rattle.dbtg_unit.specs.declared.unit.Unit.{Unit}
 use Rattle.dbtg_unit.specs.Database.State.Base.{Database, is_live, members_of, owner_of}
 use Rattle.dbtg_unit.specs.Database.State.CellNames.{place_of, slot_name}
 use Rattle.dbtg_unit.specs.Hands.EditsOf.{ring_edits, slot_edit}
-use Rattle.dbtg_unit.specs.Database.Statements.Effect.{StatementEffect, remove_checks, removed, version_of, without}
+use Rattle.dbtg_unit.specs.Database.Statements.Effect.{remove_checks, removed, version_of, without}
 use Rattle.dbtg_unit.specs.Hands.Guesses.{noted_guesses}
 use Rattle.dbtg_unit.specs.Hands.Hands.{Hands}
 use Rattle.dbtg_unit.specs.Hands.InHand.{owner_in, in_hand}
@@ -33,7 +32,7 @@ use Rattle.dbtg_unit.specs.Hands.Local.{Agrees, holds}
 use Rattle.dbtg_unit.specs.Hands.Making.{CanFinish, CanMake, HaveNextVersions, MayPrepare}
 use Rattle.dbtg_unit.specs.Hands.Needs.{is_wrong_guess, ring_names, slot_names}
 use Rattle.dbtg_unit.specs.Hands.Prepared.{IsEffect, IsPrepared, unit_after}
-use Rattle.dbtg_unit.specs.Database.Statements.StoredFacts.{StoredFacts, whole}
+use Rattle.dbtg_unit.specs.Database.Statements.StoredFacts.{whole}
 use Rattle.dbtg_unit.specs.Inside.PlanOf.{plan_of}
 use Rattle.dbtg_unit.specs.Hands.PlanOf.{removing}
 use Rattle.dbtg_plan.proofs.Plans.EffectIsPlan.{current_plan_is_effect, effect_in_hand, planned_cells}

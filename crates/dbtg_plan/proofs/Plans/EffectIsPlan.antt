@@ -1,23 +1,18 @@
 -- What is planned over a view is a statement's effect: on each database that agrees with the held cells, by those cells.
 -- k is a key, s a set, db a database.
-use Rattle.std.proofs.Common.{◌≡◌, refl, sym, ◌∙◌, ap, subst, ℕ, ◌+◌, Bool, true, false, List, [], ◌∷◌, ◌++◌, Option, Some, None}
-use Rattle.std.specs.Prelude.{◌==◌}
+use Rattle.std.proofs.Common.{◌≡◌, refl, sym, ◌∙◌, ap, subst, ℕ, Bool, true, false, List, [], Option, Some, None}
 use Rattle.dbtg_schema.specs.Lists.{Lists}
 use Rattle.dbtg_schema.specs.Lookups.{first_cause}
 use Rattle.dbtg_cells.specs.declared.key.DbKey.{DbKey}
-use Rattle.dbtg_cells.specs.declared.usage.Mode.{Mode}
 use Rattle.dbtg_unit.specs.declared.edit.CellEdit.{CellEdit}
-use Rattle.dbtg_unit.specs.declared.edit.Edit.TheVariants.{EnterUser, LeaveUser}
-use Rattle.dbtg_unit.specs.declared.edit.UnitEdit.TheVariants.{Forget, ForgetAll, Keep as KeepEdit, Same}
 use Rattle.dbtg_unit.specs.declared.statement.Statement.{Statement}
-use Rattle.dbtg_unit.specs.declared.statement.Statement.TheVariants.{OpenArea, CloseArea, Find, Get, Store, Insert, Remove, Modify, Delete, Keep, Free}
 use Rattle.dbtg_unit.specs.declared.unit.Cause.{Cause}
-use Rattle.dbtg_unit.specs.declared.unit.Cause.TheVariants.{NoCurrentOfRunUnit, NotMember}
+use Rattle.dbtg_unit.specs.declared.unit.Cause.TheVariants.{NoCurrentOfRunUnit}
 use Rattle.dbtg_unit.specs.declared.unit.Status.TheVariants.{Done}
 use Rattle.dbtg_unit.specs.declared.unit.Unit.{Unit}
 use Rattle.dbtg_unit.specs.Database.State.Base.{Database}
 use Rattle.dbtg_unit.specs.Database.Statements.Checks.{about, refused_at_once}
-use Rattle.dbtg_unit.specs.Database.Statements.Effect.{StatementEffect, done, done_on_current, effect, effect_on_cells, unless_refused}
+use Rattle.dbtg_unit.specs.Database.Statements.Effect.{StatementEffect, done_on_current, effect, effect_on_cells, unless_refused}
 use Rattle.dbtg_unit.specs.Database.Statements.StoredFacts.{whole}
 use Rattle.dbtg_unit.specs.Hands.EditsOf.{edits_of, is_delete}
 use Rattle.dbtg_unit.specs.Hands.Guesses.{guesses_after}
@@ -26,7 +21,7 @@ use Rattle.dbtg_unit.specs.Hands.InHand.{in_hand}
 use Rattle.dbtg_unit.specs.Hands.Local.{Agrees}
 use Rattle.dbtg_unit.specs.Hands.PlanOf.{planned_on_current}
 use Rattle.dbtg_unit.specs.Inside.PlanOf.{plan_of}
-use Rattle.dbtg_unit.specs.Hands.Prepared.{IsEffect, IsPrepared, Plan, guesses_edited, unit_after}
+use Rattle.dbtg_unit.specs.Hands.Prepared.{IsEffect, Plan, guesses_edited, unit_after}
 use Rattle.dbtg_unit.specs.Inside.Prepared.{unless_refusal}
 use Rattle.dbtg_unit.proofs.Public.{MayPlan}
 use Rattle.dbtg_plan.proofs.Plans.IsEffect.{done_is_effect, effect_is_on_cells, refusal_is_effect}

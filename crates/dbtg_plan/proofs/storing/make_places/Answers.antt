@@ -1,4 +1,4 @@
-use Rattle.std.proofs.Common.{◌≡◌, ◌+◌, sym, ◌∙◌, ap, subst, ℕ, List, eqb, drop, rules}
+use Rattle.std.proofs.Common.{◌+◌, sym, ◌∙◌, ap, subst, ℕ, List, eqb, drop, rules}
 use Rattle.std.specs.List.{list_any}
 use Rattle.std.proofs.lemmas.Bool.{false≢true}
 use Rattle.std.proofs.lemmas.List.{drop_all}

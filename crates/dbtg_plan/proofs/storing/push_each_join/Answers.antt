@@ -1,4 +1,4 @@
-use Rattle.std.proofs.Common.{◌≡◌, ◌+◌, ◌++◌, sym, ◌∙◌, ap, ℕ, List, drop, append_assoc}
+use Rattle.std.proofs.Common.{◌+◌, ◌++◌, sym, ◌∙◌, ap, ℕ, List, drop, append_assoc}
 use Rattle.std.specs.List.{flat_map}
 use Rattle.dbtg_unit.specs.declared.edit.CellEdit.{CellEdit}
 use Rattle.dbtg_unit.specs.Database.State.Base.{key_item}
