@@ -1,11 +1,11 @@
 -- Owners by set, of which one alone may be there.
-use Rattle.std.proofs.Common.{◌≡◌, ◌≢◌, ◌≤◌, ◌∙◌, ℕ, zero, suc, true, false, List, [], ◌∷◌, length, take, drop, None, Some, Option, replicate, slice_set, refl, sym, ap, arith, is_none, is_some}
+use Rattle.std.proofs.Common.{◌≡◌, ◌≢◌, ◌∙◌, ℕ, zero, suc, true, false, List, [], ◌∷◌, length, take, drop, None, Some, Option, replicate, slice_set, refl, sym, ap, is_none, is_some}
 use Rattle.std.specs.List.{list_all}
 use Rattle.dbtg_schema.specs.Lookups.{at}
 use Rattle.dbtg_cells.specs.declared.key.Owner.{Owner}
 use Rattle.dbtg_cells.specs.Inside.RecordOwners.{alone}
 
--- where there is no owner, they are so many times none
+-- a list without an owner
 pub none_each : (xs : List (Option Owner)) → list_all is_none xs ≡ true → xs ≡ replicate (length xs) None
 none_each [] none = refl
 none_each (None ∷ xs) none = ap (λ l. None ∷ l) (none_each xs none)
@@ -45,11 +45,11 @@ none_behind (None ∷ xs) (suc set) before rest front back nothing none = ap (λ
 none_behind (Some o ∷ xs) (suc set) before rest front back nothing none = absurd (cc (ap (list_all is_none) (sym front) ∙ none))
 
 -- the same with one in that place, and none behind it
-pub none_but_between : (xs : List (Option Owner)) (set : ℕ) (before behind : List (Option Owner)) (x : Option Owner) → set ≤ length xs → before ≡ take set xs → drop set xs ≡ x ∷ behind
+pub none_but_between : (xs : List (Option Owner)) (set : ℕ) (before behind : List (Option Owner)) (x : Option Owner) → before ≡ take set xs → drop set xs ≡ x ∷ behind
     → list_all is_none before ≡ true → list_all is_none behind ≡ true → xs ≡ alone (length xs) set (at xs set)
-none_but_between [] zero before behind x within front back none after = absurd (cc (back))
-none_but_between [] (suc set) before behind x within front back none after = absurd (cc (back))
-none_but_between (y ∷ xs) zero before behind x within front back none after = ap (λ l. y ∷ l) (none_each xs (ap (list_all is_none) (let same : xs ≡ behind = cc in same) ∙ after))
-none_but_between (None ∷ xs) (suc set) before behind x within front back none after =
-    ap (λ l. None ∷ l) (none_but_between xs set (take set xs) behind x (omega arith) refl back (ap (list_all is_none) (sym front) ∙ none) after)
-none_but_between (Some o ∷ xs) (suc set) before behind x within front back none after = absurd (cc (ap (list_all is_none) (sym front) ∙ none))
+none_but_between [] zero before behind x front back none after = absurd (cc (back))
+none_but_between [] (suc set) before behind x front back none after = absurd (cc (back))
+none_but_between (y ∷ xs) zero before behind x front back none after = ap (λ l. y ∷ l) (none_each xs (ap (list_all is_none) (let same : xs ≡ behind = cc in same) ∙ after))
+none_but_between (None ∷ xs) (suc set) before behind x front back none after =
+    ap (λ l. None ∷ l) (none_but_between xs set (take set xs) behind x refl back (ap (list_all is_none) (sym front) ∙ none) after)
+none_but_between (Some o ∷ xs) (suc set) before behind x front back none after = absurd (cc (ap (list_all is_none) (sym front) ∙ none))

@@ -59,7 +59,7 @@ impl NewOwner {
     }
 }
 
-// For each set an owner or none: one alone, in a set of so many, or a row of them.
+// An owner or none for each set: at most one owner, noted with its set and with the number of sets, or a row of them.
 #[derive(Drop)]
 enum Joined {
     Alone {

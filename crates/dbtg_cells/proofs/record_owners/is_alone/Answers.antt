@@ -7,6 +7,6 @@ returns-in-None c = λ none. none_behind c.args.owners.now c.args.set c.split_at
 
 pub returns-then-are_none : goal.returns-then-are_none
 returns-then-are_none c = λ none.
-    none_but_between c.args.owners.now c.args.set c.split_at.result.0.now c.in-Some.behind.now c.in-Some.field-0-0.now c.requires
+    none_but_between c.args.owners.now c.args.set c.split_at.result.0.now c.in-Some.behind.now c.in-Some.field-0-0.now
     c.split_at.ensures.front (sym c.split_at.ensures.back ∙ c.in-Some.ensures.cases.0)
     (sym c.are_none-in-Some.ensures ∙ c.if-are_none.true) (sym c.are_none-then-are_none.ensures ∙ none)
