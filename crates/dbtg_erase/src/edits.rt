@@ -126,7 +126,14 @@ fn lose_owner(
     ensures { OnOk result (edits.new ≡ edits.old ++ map (lose_owner key.now) (filter (λ s. some_and (is_gone gone.now) (owner_in held.now s key.now)) (set ∷ []))) }
 {
     if is_lost(gone, owner_in(held, set, key)) {
-        push_slot_edit(key, Edit::ChangeOwner { set, owner: NewOwner::none() }, edits)?;
+        push_slot_edit(
+            key,
+            Edit::ChangeOwner {
+                set,
+                owner: NewOwner::none(),
+            },
+            edits,
+        )?;
     }
     Ok(())
 }

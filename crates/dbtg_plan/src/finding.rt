@@ -22,7 +22,9 @@ use crate::missing::{missing, missing_ring, missing_slot};
 use crate::unit_alone::{done_plan, refusal};
 use dbtg_cells::{CellName, DbKey, Owners};
 use dbtg_schema::{MOST_SETS, Schema};
-use dbtg_unit::{Answer, Cause, Form, Held, Prepared, Status, Suppress, Unit, UnitEdit, refused, stored};
+use dbtg_unit::{
+    Answer, Cause, Form, Held, Prepared, Status, Suppress, Unit, UnitEdit, refused, stored,
+};
 use std::alloc::Global;
 
 // The key that is found, or the cause if none is.

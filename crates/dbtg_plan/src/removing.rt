@@ -62,7 +62,14 @@ fn edits_of(
 {
     let mut edits = Row::of(Vec::new(alloc));
     push_taking_out(&mut edits, set, owner, key)?;
-    push_slot(&mut edits, key, Edit::ChangeOwner { set, owner: NewOwner::none() })?;
+    push_slot(
+        &mut edits,
+        key,
+        Edit::ChangeOwner {
+            set,
+            owner: NewOwner::none(),
+        },
+    )?;
     Ok(edits)
 }
 
@@ -129,7 +136,14 @@ fn remove_record(unit: &mut Unit, set: SetNo, held: &mut Held, key: &DbKey) -> A
 {
     let version = next_version(held, key);
     take_out(held, set, owner_in(held, set, key), key);
-    change_slot(held, key, Edit::ChangeOwner { set, owner: NewOwner::none() });
+    change_slot(
+        held,
+        key,
+        Edit::ChangeOwner {
+            set,
+            owner: NewOwner::none(),
+        },
+    );
     unit.renote(*key, version);
     held.set_guess(set, None);
     done_answer()

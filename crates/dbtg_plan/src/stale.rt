@@ -12,7 +12,9 @@ ghost use Rattle.dbtg_plan.specs.Inside.Stale.{has_wrong_owner_in, need_of_guess
 
 use dbtg_cells::{DbKey, Owner, Owners, owner_eq};
 use dbtg_schema::{RecordNo, Schema, SetNo};
-use dbtg_unit::{Change, Held, Need, Statement, Unit, is_rekeyed_in, owner_in, set_count, with_owners};
+use dbtg_unit::{
+    Change, Held, Need, Statement, Unit, is_rekeyed_in, owner_in, set_count, with_owners,
+};
 
 // Is this one of the sets in which a MODIFY moves the record?
 fn is_moved_in(schema: &Schema, set: SetNo, rtype: RecordNo, changes: &[Change]) -> bool

@@ -26,7 +26,10 @@ use crate::missing::{missing, missing_ring, missing_slot};
 use crate::unit_alone;
 use dbtg_cells::{CellName, DbKey, NewRecord, Owner, Owners, RecordOwners, SharedItems, Value};
 use dbtg_schema::{RecordNo, Row, Schema, SetNo};
-use dbtg_unit::{Answer, Cause, CellEdit, Edit, Held, Prepared, Status, Suppress, Unit, UnitEdit, edit_each_cell, edit_held, is_automatic_in, numbers, refused, set_count};
+use dbtg_unit::{
+    Answer, Cause, CellEdit, Edit, Held, Prepared, Status, Suppress, Unit, UnitEdit,
+    edit_each_cell, edit_held, is_automatic_in, numbers, refused, set_count,
+};
 use std::alloc::{AllocError, Global};
 
 // Does STORE connect a record of this type in the set?

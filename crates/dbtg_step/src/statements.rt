@@ -16,8 +16,8 @@ ghost use Rattle.dbtg_step.specs.Core.Courses.{CellsMatch, IsAtCells, CourseMatc
 ghost use Rattle.dbtg_step.specs.Inside.Courses.{IsBehindAreas};
 ghost use Rattle.dbtg_step.specs.Machine.NeedOrder.{AreCellsOf, HasItsAreas, IsAboveHands, LiesInHeldArea, WasTakenInTurn};
 
-use dbtg_cells::Owners;
 use crate::course::Course;
+use dbtg_cells::Owners;
 use dbtg_schema::{AreaNo, Schema};
 use dbtg_unit::{Erase, Held, Need, Prepared, Statement, Unit, next_area, refused_at_once};
 use std::alloc::{AllocError, Global};

@@ -1,5 +1,6 @@
-//! Copies of values that own memory. If memory is refused, the original stays as it is.
-ghost use Rattle.std.specs.Prelude.{◌≡◌, IfOk, List};
+//! Copies. Those of statements, answers and entries share what these own; the others take memory, and if it is refused, the original
+//! stays as it is.
+ghost use Rattle.std.specs.Prelude.{◌≡◌, IfOk};
 
 use crate::statement::{Form, Statement};
 use crate::unit::{Answer, Currency, Entry, Unit};

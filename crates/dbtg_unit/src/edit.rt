@@ -6,9 +6,7 @@ use crate::in_hand::ring_name;
 use crate::kept::Kept;
 use crate::statement::Suppress;
 use crate::unit::Place;
-use dbtg_cells::{
-    CellName, DbKey, Mode, NewOwner, NewRecord, Owner, Owners, SharedItems, Value,
-};
+use dbtg_cells::{CellName, DbKey, Mode, NewOwner, NewRecord, Owner, Owners, SharedItems, Value};
 use dbtg_schema::{AreaNo, Order, Row, SetNo};
 use std::alloc::AllocError;
 
