@@ -230,7 +230,8 @@ fn all_records(
     };
     let types = schema.types().len() as u8;
     for rtype in 0..types {
-        add_each_record(schema, capacity, source, RecordNo::new(rtype), &mut all)?;
+        let rtype = RecordNo::new(rtype);
+        add_each_record(schema, capacity, source, rtype, &mut all)?;
     }
     Ok(all)
 }

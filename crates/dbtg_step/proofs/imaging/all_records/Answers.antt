@@ -10,7 +10,7 @@ loop-rtype-preserved c =
     let new = c.add_each_record.new.all in
     record {
       records = flat_pushed (records_of found) 0 c.loop-rtype.rtype c.loop-rtype.rtype (omega arith) [] old.records.items new.records.items c.loop-rtype.invariant.records
-          (c.in_ok-add_each_record.ensures.records ∙ ap (λ t. old.records.items ++ records_of found t) c.new.ensures);
+          (c.in_ok-add_each_record.ensures.records ∙ ap (λ t. old.records.items ++ records_of found t) c.new-rtype.ensures);
       versions = flat_pushed (versions_of found) 0 c.loop-rtype.rtype c.loop-rtype.rtype (omega arith) [] old.versions.items new.versions.items c.loop-rtype.invariant.versions
-          (c.in_ok-add_each_record.ensures.versions ∙ ap (λ t. old.versions.items ++ versions_of found t) c.new.ensures);
+          (c.in_ok-add_each_record.ensures.versions ∙ ap (λ t. old.versions.items ++ versions_of found t) c.new-rtype.ensures);
     }
