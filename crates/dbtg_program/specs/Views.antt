@@ -1,19 +1,10 @@
 -- The spec-level view of the code's results: without their references.
 use Rattle.std.specs.Prelude.{ℕ, ◌<◌, length}
-use Rattle.dbtg_cells.specs.declared.key.Value.{Value}
-use Rattle.dbtg_cells.specs.declared.key.Value.TheVariants.{Num, Text}
-use Rattle.dbtg_program.specs.declared.borrowed.Borrowed.{Borrowed}
-use Rattle.dbtg_program.specs.declared.borrowed.Borrowed.TheVariants as borrowed
 use Rattle.dbtg_program.specs.declared.going.Due as going
 use Rattle.dbtg_program.specs.declared.going.Due.TheVariants as code_due
 use Rattle.dbtg_program.specs.declared.program.Program.{Program}
 use Rattle.dbtg_program.specs.States.{ProgramState}
 use Rattle.dbtg_program.specs.Going.{Due, due, ended}
-
--- a value that is borrowed
-abbrev pub view : Borrowed → Value
-view (borrowed.Number n) = Num n
-view (borrowed.Text t) = Text t.now
 
 -- a result of the code with the state in which it leaves the program
 abbrev pub view_due : ProgramState → going.Due → Due

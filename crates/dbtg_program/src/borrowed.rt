@@ -4,7 +4,7 @@ ghost use Rattle.dbtg_cells.specs.declared.key.Value.{Value as SaidValue};
 ghost use Rattle.dbtg_program.specs.Conditions.{is_less, stand_so};
 ghost use Rattle.dbtg_cells.specs.Keys.{bytes_below};
 ghost use Rattle.dbtg_script.specs.Values.{filled};
-ghost use Rattle.dbtg_program.specs.Views.{view};
+ghost use Rattle.dbtg_program.specs.Inside.Views.{view};
 ghost use Rattle.std.specs.Prelude.{◌≡◌, IfOk, length, replicate};
 
 use crate::program::Relation;

@@ -4,8 +4,8 @@ ghost use Rattle.dbtg_program.specs.Conditions.{holds};
 ghost use Rattle.dbtg_program.specs.Going.{at_line, done, ends, goes, has_room, line_at, line_number, made, next, onward, put};
 ghost use Rattle.dbtg_program.specs.States.{ProgramState};
 ghost use Rattle.dbtg_program.specs.Values.{added, can_hold, subtracted};
-ghost use Rattle.dbtg_program.specs.Inside.Views.{Stays, Stood, view_step};
-ghost use Rattle.dbtg_program.specs.Views.{Stands, view, view_due};
+ghost use Rattle.dbtg_program.specs.Inside.Views.{Stays, Stood, view_step, view};
+ghost use Rattle.dbtg_program.specs.Views.{Stands, view_due};
 ghost use Rattle.std.specs.Prelude.{◌≡◌, ◌+◌, ◌<◌, ◌^◌, IfOk, if◌then◌else◌, length, nat_lt};
 
 use crate::borrowed::{Borrowed, lent, owned};

@@ -5,7 +5,7 @@ ghost use Rattle.dbtg_schema.specs.Texts.Spelling.{among};
 ghost use Rattle.dbtg_script.specs.Tokens.{Token as SeenToken, view};
 ghost use Rattle.dbtg_program.specs.Faults.{are_two_kinds, faults_from, is_no_counter_name, is_text, is_text_picture, is_too_great, is_too_great_for, literal_value, names_no_field, said, when};
 ghost use Rattle.dbtg_program.specs.Sentences.{counters_of, fields_in, picture_in};
-ghost use Rattle.dbtg_program.specs.Views.{view as seen};
+ghost use Rattle.dbtg_program.specs.Inside.Views.{view as seen};
 ghost use Rattle.dbtg_program.specs.declared.grammar.Role.TheVariants as role;
 ghost use Rattle.dbtg_program.specs.Values.{can_hold};
 ghost use Rattle.std.specs.Prelude.{◌≡◌, List, ℕ, length, map, option_map, take};

@@ -5,7 +5,7 @@ ghost use Rattle.dbtg_program.specs.Reading.{condition_of, field_in, is_negated,
 ghost use Rattle.dbtg_script.specs.Printing.Spelling.{number};
 ghost use Rattle.dbtg_script.specs.Values.{up_to};
 ghost use Rattle.dbtg_program.specs.Faults.{literal_value};
-ghost use Rattle.dbtg_program.specs.Views.{view as seen};
+ghost use Rattle.dbtg_program.specs.Inside.Views.{view as seen};
 ghost use Rattle.dbtg_cells.specs.declared.key.Value.TheVariants.{Num};
 ghost use Rattle.dbtg_program.specs.Sentences.{word_at};
 ghost use Rattle.std.specs.Prelude.{◌≡◌, ◌+◌, ◌≤◌, IfOk, map, unwrap_or};

@@ -4,7 +4,7 @@ ghost use Rattle.dbtg_program.specs.Conditions.{asked, field_value, holds, value
 ghost use Rattle.dbtg_program.specs.Going.{filled, placed, told, with_record};
 ghost use Rattle.dbtg_program.specs.States.{beginning, beginning_with};
 ghost use Rattle.dbtg_program.specs.Values.{as_field, empty_value, stripped};
-ghost use Rattle.dbtg_program.specs.Views.{view};
+ghost use Rattle.dbtg_program.specs.Inside.Views.{view};
 ghost use Rattle.std.specs.Prelude.{◌≡◌, ◌+◌, ◌<◌, ◌≤◌, IfOk, OnErr, OnOk, length, map, slice_set, take};
 
 use crate::borrowed::{Borrowed, lent, stand_so};

@@ -1,6 +1,5 @@
 pub mod Views
 pub mod Entries
-pub mod Posed
 pub mod UnitView
 pub mod Drawn
 pub mod Outcomes

@@ -1,6 +1,6 @@
 //! Seats at the table: one is cut from another, one joins another, and one that has all units learns the history.
 ghost use Rattle.std.specs.Prelude.{◌≡◌, ℕ, ◌+◌, ◌<◌, ◌≤◌, List, [], ◌∷◌, length, true};
-ghost use Rattle.dbtg_run.specs.Views.{lone};
+ghost use Rattle.dbtg_run.specs.Inside.Views.{lone};
 ghost use Rattle.dbtg_run.specs.Inside.LatchRule.{Whole, gathered, one_of, others_of};
 ghost use Rattle.dbtg_run.specs.declared.view.SeatUnit.{SeatUnit};
 

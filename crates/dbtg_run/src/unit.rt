@@ -1,8 +1,8 @@
 //! A run-unit as callers see it. Between statements it holds nothing.
 ghost use Rattle.std.specs.Prelude.{◌≡◌, ◌<◌, [], Bool, IfOk};
-ghost use Rattle.dbtg_run.specs.Posed.{IsOurs};
-ghost use Rattle.dbtg_run.specs.Settling.{resting};
-ghost use Rattle.dbtg_run.specs.Views.{lone};
+ghost use Rattle.dbtg_run.specs.Inside.Posed.{IsOurs};
+ghost use Rattle.dbtg_run.specs.Inside.Settling.{resting};
+ghost use Rattle.dbtg_run.specs.Inside.Views.{lone};
 ghost use Rattle.dbtg_run.specs.Inside.Works.{IsAtWork};
 
 use crate::rule::Chair;
@@ -20,12 +20,11 @@ pub struct RunUnit {
 }
 
 impl Model for RunUnit {
+    ghost use Rattle.dbtg_run.specs.Inside.Works.{IsAtWork};
     ghost use Rattle.std.specs.Prelude.{◌≡◌, []};
     ghost use Rattle.dbtg_run.specs.UnitView.{UnitView};
 
     ghost Value = { UnitView };
-
-    ghost use Rattle.dbtg_run.specs.Inside.Works.{IsAtWork};
 
     ghost view = { λ r. record { table = r.work.value.seat.table_id; about = r.work.value.about; unit = r.work.value.unit; journal = r.work.value.journal.items } };
 

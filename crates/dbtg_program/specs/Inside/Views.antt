@@ -18,6 +18,11 @@ use Rattle.dbtg_program.specs.Conditions.{field_value}
 use Rattle.dbtg_program.specs.States.{ProgramState}
 use Rattle.dbtg_program.specs.Going.{Step, ends, goes, makes}
 
+-- a value that is borrowed
+abbrev pub view : Borrowed → Value
+view (borrowed.Number n) = Num n
+view (borrowed.Text t) = Text t.now
+
 -- a step of the code, which leaves the program in this state
 abbrev pub view_step : ProgramState → Progress → Step
 view_step state progress.Goes = goes state

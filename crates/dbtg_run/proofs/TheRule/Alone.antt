@@ -25,8 +25,7 @@ use Rattle.dbtg_step.proofs.Public.{in_reverse, network_names_cells, versions_ne
 use Rattle.dbtg_run.specs.declared.view.About.{About}
 use Rattle.dbtg_run.specs.declared.view.SeatUnit.{SeatUnit}
 use Rattle.dbtg_run.specs.declared.view.SeatKnowledge.{SeatKnowledge}
-use Rattle.dbtg_run.specs.Views.{lone}
-use Rattle.dbtg_run.specs.Inside.Views.{total_below}
+use Rattle.dbtg_run.specs.Inside.Views.{lone, total_below}
 use Rattle.dbtg_run.specs.Inside.LatchRule.{net, cell_word, progress_of, hands_of, database_after, IsReal, LatchRule, TellsReal, CellFreeAlone}
 use Rattle.dbtg_run.proofs.TheRule.Base.{below_le}
 use Rattle.dbtg_run.proofs.TheRule.Facts.{database_now, database_is, agrees_now, once_now}

@@ -8,8 +8,8 @@ use Rattle.atomic_table.proofs.Lists.{at_set}
 use Rattle.dbtg_run.specs.declared.view.About.{About}
 use Rattle.dbtg_run.specs.declared.view.SeatUnit.{SeatUnit}
 use Rattle.dbtg_run.specs.declared.view.SeatKnowledge.{SeatKnowledge}
-use Rattle.dbtg_run.specs.Views.{Has, lone}
-use Rattle.dbtg_run.specs.Inside.Views.{total, total_below, put, one_if, Sits, Seated, times_place}
+use Rattle.dbtg_run.specs.Views.{Has}
+use Rattle.dbtg_run.specs.Inside.Views.{lone, total, total_below, put, one_if, Sits, Seated, times_place}
 use Rattle.dbtg_unit.specs.declared.limits.TheConstants.{MOST_STATEMENTS}
 
 module _ {A : Type 0} where

@@ -31,8 +31,7 @@ use Rattle.dbtg_step.proofs.Public.{SafeUpdate, back_is_safe, held_behind, reloc
 use Rattle.dbtg_run.specs.declared.view.About.{About}
 use Rattle.dbtg_run.specs.declared.view.SeatUnit.{SeatUnit}
 use Rattle.dbtg_run.specs.declared.view.SeatKnowledge.{SeatKnowledge}
-use Rattle.dbtg_run.specs.Inside.Views.{put, latched, with_cell, less_cell, bare, init}
-use Rattle.dbtg_run.specs.Views.{lone}
+use Rattle.dbtg_run.specs.Inside.Views.{put, latched, with_cell, less_cell, bare, init, lone}
 use Rattle.dbtg_run.specs.Inside.LatchRule.{net, opens, area_count, cells_of_table, area_word, cell_word, slot_name, progress_of, hands_of, Sat, AtHome, AreaOk, LatchRule, TakesAt, TakesCell, PutsCell}
 use Rattle.dbtg_run.proofs.TheRule.Base.{each_put}
 use Rattle.dbtg_run.proofs.TheRule.Areas.{ok_same}

@@ -11,8 +11,8 @@ use Rattle.dbtg_cells.specs.declared.cell.Cell.{Cell}
 use Rattle.dbtg_run.specs.declared.view.About.{About}
 use Rattle.dbtg_run.specs.declared.view.SeatUnit.{SeatUnit}
 use Rattle.dbtg_run.specs.declared.view.SeatKnowledge.{SeatKnowledge}
-use Rattle.dbtg_run.specs.Views.{Has, lone}
-use Rattle.dbtg_run.specs.Inside.Views.{total, put, one_if, once_below, times_place, Sits, Seated}
+use Rattle.dbtg_run.specs.Views.{Has}
+use Rattle.dbtg_run.specs.Inside.Views.{lone, total, put, one_if, once_below, times_place, Sits, Seated}
 use Rattle.dbtg_run.specs.Inside.LatchRule.{LatchRule, vacated, Whole, Learns}
 use Rattle.dbtg_run.proofs.TheRule.Base.{put_here, put_else, total_set, total_snoc, total_at, total_alone}
 use Rattle.dbtg_run.proofs.TheRule.History.{is_history, unit_is}

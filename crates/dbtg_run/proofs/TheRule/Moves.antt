@@ -26,8 +26,7 @@ use Rattle.dbtg_step.proofs.Public.{SafeUpdate, any_reverse, network_is_sequenti
 use Rattle.dbtg_run.specs.declared.view.About.{About}
 use Rattle.dbtg_run.specs.declared.view.SeatUnit.{SeatUnit}
 use Rattle.dbtg_run.specs.declared.view.SeatKnowledge.{SeatKnowledge}
-use Rattle.dbtg_run.specs.Inside.Views.{put, Sits, latched, times, one_if}
-use Rattle.dbtg_run.specs.Views.{lone}
+use Rattle.dbtg_run.specs.Inside.Views.{put, Sits, latched, times, one_if, lone}
 use Rattle.dbtg_run.specs.Inside.LatchRule.{net, opens, area_count, area_word, cell_word, slot_name, progress_of, Shows, AreaOk, AtHome, TableShows, LatchRule, FreeAlone}
 use Rattle.dbtg_run.proofs.TheRule.Base.{each_put, below_same, seats_changed}
 use Rattle.dbtg_run.proofs.TheRule.Areas.{had, ok_same, free_word}

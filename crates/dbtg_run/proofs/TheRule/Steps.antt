@@ -15,8 +15,7 @@ use Rattle.dbtg_step.proofs.Public.{SafeUpdate, leave_is_safe}
 use Rattle.dbtg_run.specs.declared.view.About.{About}
 use Rattle.dbtg_run.specs.declared.view.SeatUnit.{SeatUnit}
 use Rattle.dbtg_run.specs.declared.view.SeatKnowledge.{SeatKnowledge}
-use Rattle.dbtg_run.specs.Views.{lone}
-use Rattle.dbtg_run.specs.Inside.Views.{latched, times, one_if, with_area, less_area, init}
+use Rattle.dbtg_run.specs.Inside.Views.{lone, latched, times, one_if, with_area, less_area, init}
 use Rattle.dbtg_run.specs.Inside.LatchRule.{net, opens, area_count, area_word, progress_of, Sat, AreaOk, LatchRule, FreeAlone, LooksAtArea, TakesArea, LeavesArea}
 use Rattle.dbtg_run.proofs.TheRule.Areas.{had, clear, takes_shared, takes_alone, leaves_shared, leaves_alone}
 use Rattle.dbtg_run.proofs.TheRule.Facts.{init_more}

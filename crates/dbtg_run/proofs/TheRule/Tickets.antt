@@ -31,8 +31,7 @@ use Rattle.dbtg_step.proofs.Public.{Drawn, draws as draws_anew, fits_more, held_
 use Rattle.dbtg_run.specs.declared.view.About.{About}
 use Rattle.dbtg_run.specs.declared.view.SeatUnit.{SeatUnit}
 use Rattle.dbtg_run.specs.declared.view.SeatKnowledge.{SeatKnowledge}
-use Rattle.dbtg_run.specs.Inside.Views.{put, latched, drawn, total_below}
-use Rattle.dbtg_run.specs.Views.{lone}
+use Rattle.dbtg_run.specs.Inside.Views.{put, latched, drawn, total_below, lone}
 use Rattle.dbtg_run.specs.Inside.LatchRule.{net, opens, area_word, cell_word, progress_of, hands_of, AtHome, AreaOk, Shows, TableShows, LatchRule, Recorded, Draws}
 use Rattle.dbtg_run.specs.Entries.{entry}
 use Rattle.dbtg_run.proofs.TheRule.Base.{put_here, put_else, each_put, below_put, below_same, seats_changed}

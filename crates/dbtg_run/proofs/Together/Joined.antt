@@ -8,12 +8,11 @@ use native.Mathlib.Decide.{ℕ_discrete}
 use Rattle.dbtg_unit.specs.Database.Laws.Replay.{entries_of, opening_state, replay as replay_entries, unit_of}
 use Rattle.dbtg_run.specs.declared.view.About.{About}
 use Rattle.dbtg_run.specs.declared.view.SeatUnit.{SeatUnit}
-use Rattle.dbtg_run.specs.Views.{Has, lone}
-use Rattle.dbtg_run.specs.Inside.Views.{one_if, once_below, times_place}
+use Rattle.dbtg_run.specs.Views.{Has}
+use Rattle.dbtg_run.specs.Inside.Views.{lone, one_if, once_below, times_place}
 use Rattle.dbtg_run.specs.Inside.LatchRule.{Sat, Whole, gathered}
 use Rattle.dbtg_run.specs.UnitView.{UnitView}
-use Rattle.dbtg_run.specs.Inside.Settling.{AreAll, HaveJoined, gathering}
-use Rattle.dbtg_run.specs.Settling.{resting}
+use Rattle.dbtg_run.specs.Inside.Settling.{AreAll, HaveJoined, gathering, resting}
 use Rattle.dbtg_run.proofs.TheRule.Ends.{once_le}
 
 -- all but the last, and the last

@@ -36,12 +36,11 @@ use Rattle.dbtg_step.proofs.Public.{guesses_length}
 use Rattle.dbtg_run.specs.declared.view.About.{About}
 use Rattle.dbtg_run.specs.declared.view.SeatUnit.{SeatUnit}
 use Rattle.dbtg_run.specs.declared.view.SeatKnowledge.{SeatKnowledge}
-use Rattle.dbtg_run.specs.Views.{Has, lone}
-use Rattle.dbtg_run.specs.Inside.Views.{bare, bared, changed, drawn}
+use Rattle.dbtg_run.specs.Views.{Has}
+use Rattle.dbtg_run.specs.Inside.Views.{lone, bare, bared, changed, drawn}
 use Rattle.dbtg_run.specs.Inside.LatchRule.{Sat, LatchRule, Draws, IsReal, Recorded, TellsReal, area_count, hands_of}
 use Rattle.dbtg_run.specs.Entries.{entry}
-use Rattle.dbtg_run.specs.Inside.Posed.{AreInside, posed, member_of, empty_slot, empty_slots, number_or_0}
-use Rattle.dbtg_run.specs.Posed.{IsOurs}
+use Rattle.dbtg_run.specs.Inside.Posed.{AreInside, posed, member_of, empty_slot, empty_slots, number_or_0, IsOurs}
 use Rattle.dbtg_run.specs.Drawn.{IsDone}
 use Rattle.dbtg_run.specs.Inside.Drawn.{cells_after}
 use Rattle.dbtg_run.proofs.TheRule.Facts.{shown_bare, values_bared}

@@ -26,10 +26,9 @@ use Rattle.dbtg_step.specs.Core.Openings.{homes_of, homes_shown}
 use Rattle.dbtg_run.specs.declared.view.About.{About}
 use Rattle.dbtg_run.specs.declared.view.SeatUnit.{SeatUnit}
 use Rattle.dbtg_run.specs.declared.view.SeatKnowledge.{SeatKnowledge}
-use Rattle.dbtg_run.specs.Views.{lone}
+use Rattle.dbtg_run.specs.Inside.Views.{lone}
 use Rattle.dbtg_run.specs.Inside.LatchRule.{Sat, IsReal, LatchRule, first_view, numbered, one_of, others_of}
-use Rattle.dbtg_run.specs.Posed.{IsOurs}
-use Rattle.dbtg_run.specs.Inside.Posed.{posed}
+use Rattle.dbtg_run.specs.Inside.Posed.{IsOurs, posed}
 use Rattle.dbtg_run.specs.UnitView.{BelongsTo, UnitView, opening_view, opening_views}
 use Rattle.dbtg_run.specs.declared.database.Database.{Database}
 use Rattle.dbtg_run.proofs.TheRule.Opens.{newcomer, opens}

@@ -20,7 +20,7 @@ use Rattle.dbtg_unit.specs.Hands.Needs.{need}
 use Rattle.dbtg_unit.specs.Hands.Prepared.{values_of}
 use Rattle.dbtg_unit.proofs.Public.{agrees_same, slot_shown}
 use Rattle.dbtg_run.specs.declared.view.About.{About}
-use Rattle.dbtg_run.specs.Views.{lone}
+use Rattle.dbtg_run.specs.Inside.Views.{lone}
 use Rattle.dbtg_run.specs.Inside.LatchRule.{IsReal, Sat, area_count}
 use Rattle.dbtg_run.specs.Inside.Posed.{AreInside, member_of, posed}
 use Rattle.dbtg_run.proofs.Units.Commits.{inside_named, names_of_values, slots_after}

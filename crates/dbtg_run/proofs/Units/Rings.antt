@@ -21,7 +21,7 @@ use Rattle.dbtg_step.specs.Inside.Events.{HaveRings}
 use Rattle.dbtg_step.proofs.Public.{cell_wanted, cells_exist, made_have_rings, not_beyond, turned_have_rings}
 use Rattle.dbtg_run.specs.declared.view.About.{About}
 use Rattle.dbtg_run.specs.Inside.LatchRule.{IsReal}
-use Rattle.dbtg_run.specs.Posed.{IsOurs}
+use Rattle.dbtg_run.specs.Inside.Posed.{IsOurs}
 
 module _ (about : About) (unit : Unit) (journal : List Entry) (hands : Hands) (x : Statement) (ours : IsOurs about unit) (real : IsReal about unit journal hands)
     (fit : fits about.schema.value x ≡ true) (rings : HaveRings about.schema.value about.capacity hands.guesses) where

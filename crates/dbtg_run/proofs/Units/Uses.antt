@@ -35,8 +35,7 @@ use Rattle.dbtg_step.proofs.Public.{need_of_holding}
 use Rattle.dbtg_run.specs.declared.view.About.{About}
 use Rattle.dbtg_run.specs.declared.view.SeatUnit.{SeatUnit}
 use Rattle.dbtg_run.specs.declared.view.SeatKnowledge.{SeatKnowledge}
-use Rattle.dbtg_run.specs.Views.{lone}
-use Rattle.dbtg_run.specs.Inside.Views.{latched, times, bare, bared, with_cell}
+use Rattle.dbtg_run.specs.Inside.Views.{lone, latched, times, bare, bared, with_cell}
 use Rattle.dbtg_run.specs.Inside.LatchRule.{Sat, LatchRule, area_count, area_word, LooksAtArea, TakesArea, TakesCell, FreeAlone, CellFreeAlone, TookAt, slot_of_word, PutsCell, LeavesArea, IsReal, TellsReal, hands_of, cells_of_table, cell_word, slot_name}
 use Rattle.dbtg_run.specs.Inside.Posed.{posed, member_of, empty_slot, empty_slots}
 use Rattle.dbtg_run.proofs.TheRule.Facts.{bared_more, shown_bare}

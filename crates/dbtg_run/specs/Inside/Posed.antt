@@ -1,19 +1,20 @@
 -- What a unit's seat knows, from what the unit is and holds.
-use Rattle.std.specs.Prelude.{◌≡◌, ℕ, ◌+◌, ◌-◌, ◌*◌, ◌^◌, ◌<◌, Bool, true, not, nat_lt, is_some, unwrap_or, List, [], map, reverse, length, Option, None, ◌⊎◌, ◌==◌}
+use Rattle.std.specs.Prelude.{◌≡◌, ℕ, ◌+◌, ◌-◌, ◌*◌, ◌^◌, ◌<◌, ◌≤◌, Bool, true, not, nat_lt, is_some, unwrap_or, List, [], map, reverse, length, Option, None, ◌⊎◌, ◌==◌}
 use Rattle.std.specs.List.{list_all, list_any, range_with_len}
 use Rattle.atomic_table.specs.Seated.{TableId}
+use Rattle.dbtg_schema.specs.Sound.{IsSound}
 use Rattle.dbtg_cells.specs.declared.cell.Cell.{Cell}
 use Rattle.dbtg_cells.specs.declared.name.CellName.{CellName}
 use Rattle.dbtg_cells.specs.CellNumbers.{cell_number, cells_in_order}
 use Rattle.dbtg_cells.specs.Names.{name_eq}
 use Rattle.dbtg_unit.specs.declared.unit.Entry.{Entry}
 use Rattle.dbtg_unit.specs.declared.unit.Unit.{Unit}
+use Rattle.dbtg_unit.specs.Database.State.Belongs.{IsUnitOf, IsWithin}
 use Rattle.dbtg_unit.specs.Hands.Hands.{Hands}
 use Rattle.dbtg_step.specs.Machine.TurningBack.{count}
 use Rattle.dbtg_run.specs.declared.view.About.{About}
 use Rattle.dbtg_run.specs.declared.view.SeatUnit.{SeatUnit}
-use Rattle.dbtg_run.specs.Views.{lone}
-use Rattle.dbtg_run.specs.Inside.Views.{bared}
+use Rattle.dbtg_run.specs.Inside.Views.{lone, bared}
 use Rattle.dbtg_run.specs.Inside.LatchRule.{Sat, area_count, cells_of_table}
 
 -- the unit as a member of a view: its held cells without room
@@ -61,3 +62,12 @@ not_held about hands =
 -- each need that is met, each try, brings the end nearer
 abbrev pub turns_left : About → ℕ → Hands → ℕ
 turns_left about tries hands = tries * (area_count about + cells_of_table about + 1) + not_held about hands
+
+-- a unit of this database
+pub record IsOurs (about : About) (unit : Unit) : Type 0 where
+  pub sound : IsSound about.schema.value
+  pub of_schema : IsUnitOf about.schema.value unit
+  pub within : IsWithin about.capacity unit
+  pub numbered : 0 < unit.number
+  pub inside : unit.number ≤ about.units
+  pub few : about.units ≤ 8

@@ -71,6 +71,10 @@ rest_of (x ∷ xs) = xs
 abbrev pub init : {A : Type 0} → List A → List A
 init xs = reverse (rest_of (reverse xs))
 
+-- the view of one member
+abbrev pub lone : About → SeatUnit → SeatKnowledge
+lone about m = record { live = true; about = about; members = m ∷ [] }
+
 -- the view with each member changed in this way
 abbrev pub changed : (SeatUnit → SeatUnit) → SeatKnowledge → SeatKnowledge
 changed f v = record { live = v.live; about = v.about; members = map f v.members }

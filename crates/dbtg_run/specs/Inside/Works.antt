@@ -6,7 +6,7 @@ use Rattle.dbtg_step.specs.Inside.Events.{HaveRings}
 use Rattle.dbtg_run.specs.Inside.LatchRule.{IsReal, database_after}
 use Rattle.dbtg_run.specs.declared.database.Database.{Database}
 use Rattle.dbtg_run.specs.declared.work.Work.{Work}
-use Rattle.dbtg_run.specs.Posed.{IsOurs}
+use Rattle.dbtg_run.specs.Inside.Posed.{IsOurs}
 
 -- the unit is of this database: it was made with the same, and its seat is at the same table
 pub record Belongs (db : Database) (w : Work) : Type 0 where

@@ -8,7 +8,7 @@ use Rattle.dbtg_unit.specs.Database.State.Units.{opening_unit}
 use Rattle.dbtg_step.specs.Inside.Events.{HaveRings}
 use Rattle.dbtg_step.proofs.Public.{none_guessed}
 use Rattle.dbtg_run.specs.declared.view.About.{About}
-use Rattle.dbtg_run.specs.Posed.{IsOurs}
+use Rattle.dbtg_run.specs.Inside.Posed.{IsOurs}
 use Rattle.dbtg_run.specs.Inside.LatchRule.{IsReal}
 use Rattle.dbtg_run.proofs.Units.Made.{at_work_as}
 use Rattle.dbtg_run.proofs.making.newcomer.Goals as goal

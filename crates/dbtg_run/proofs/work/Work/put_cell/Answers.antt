@@ -8,8 +8,7 @@ use Rattle.dbtg_unit.specs.Hands.Hands.{Hands}
 use Rattle.dbtg_step.specs.Inside.Events.{HaveRings}
 use Rattle.dbtg_step.proofs.Public.{number_within}
 use Rattle.dbtg_run.specs.declared.view.About.{About}
-use Rattle.dbtg_run.specs.Views.{lone}
-use Rattle.dbtg_run.specs.Inside.Views.{bared}
+use Rattle.dbtg_run.specs.Inside.Views.{lone, bared}
 use Rattle.dbtg_run.specs.Inside.Posed.{member_of, empty_slots}
 use Rattle.dbtg_run.proofs.Units.Uses.{real_less, puts_as, pushed}
 use Rattle.dbtg_run.proofs.work.Work.put_cell.Goals as goal

@@ -15,8 +15,7 @@ use Rattle.dbtg_step.proofs.Public.{needed_not_in_hand, number_within}
 use Rattle.dbtg_run.specs.declared.view.About.{About}
 use Rattle.dbtg_cells.specs.Cells.{shown}
 use Rattle.dbtg_cells.proofs.Public.{stands_at}
-use Rattle.dbtg_run.specs.Inside.Views.{bare, bared, with_cell}
-use Rattle.dbtg_run.specs.Views.{lone}
+use Rattle.dbtg_run.specs.Inside.Views.{bare, bared, with_cell, lone}
 use Rattle.dbtg_run.specs.Inside.LatchRule.{area_count, cells_of_table, slot_name}
 use Rattle.dbtg_run.specs.Inside.Posed.{AreInside, empty_slots, member_of, posed}
 use Rattle.dbtg_run.proofs.TheRule.Facts.{bared_more}

@@ -1,6 +1,6 @@
 use Rattle.std.proofs.Common.{◌≡◌, ℕ, ◌+◌, ◌<◌, arith, refl, sym, ap, ◌∙◌, subst}
 use Rattle.dbtg_run.specs.declared.view.About.{About}
-use Rattle.dbtg_run.specs.Views.{lone}
+use Rattle.dbtg_run.specs.Inside.Views.{lone}
 use Rattle.dbtg_run.specs.Inside.LatchRule.{area_count}
 use Rattle.dbtg_run.specs.Inside.Posed.{member_of, empty_slots}
 use Rattle.dbtg_run.proofs.Units.Uses.{looks_as, shared_as, free_as}
