@@ -2,7 +2,7 @@
 ghost use Rattle.std.specs.Prelude.{◌≡◌, IfOk, IfSome, Some, option_map};
 ghost use Rattle.inventory_clerks.specs.Orders.{change_of, find_of, is_after, stock_shown};
 
-use dbtg_cells::Value;
+use dbtg_cells::{Shared, Value};
 use dbtg_schema::{ItemNo, RecordNo, Row};
 use dbtg_unit::{Answer, Change, Form, Statement, Suppress};
 use std::alloc::{AllocError, AllocFailed, Global};
@@ -69,9 +69,10 @@ pub fn change(alloc: Global, stock: u64) -> Result<Statement, AllocError>
         item: ItemNo::new(STOCK),
         value: Value::Num(stock),
     };
+    let changes = Row::of(Vec::from_array(alloc, [change])?);
     Ok(Statement::Modify {
         rtype: RecordNo::new(WARE),
-        changes: Row::of(Vec::from_array(alloc, [change])?),
+        changes: Shared::new(alloc, changes)?,
     })
 }
 
@@ -82,7 +83,7 @@ pub fn stock_shown(answer: &Answer) -> Option<u64>
     let Some(items) = &answer.items else {
         return None;
     };
-    match items.get(STOCK as usize) {
+    match items.get().get(STOCK as usize) {
         Some(Value::Num(stock)) => Some(*stock),
         _ => None,
     }
