@@ -129,12 +129,16 @@ all_so p [] all k d below = absurd (omega (arith, below))
 all_so p (x ∷ xs) all zero d below = (and_parts (p x) (list_all p xs) all).0
 all_so p (x ∷ xs) all (suc k) d below = all_so p xs (and_parts (p x) (list_all p xs) all).1 k d (omega (arith, below))
 
+-- each statement of scripts that fit
+pub all_fit : (lists : Lists) (scripts : List (List Statement)) → scripts_fit lists scripts ≡ true → All (λ (script : List Statement). All (λ x. fits lists x ≡ true) script) scripts
+all_fit lists scripts fit k d below = all_so (fits lists) (get_or scripts k d) (all_so (list_all (fits lists)) scripts fit k d below)
+
 -- the statements of the scripts that are left fit
 pub left_fit : (lists : Lists) (scripts left : List (List Statement)) (before after : List UnitView) → HasMadeFirst scripts before left after → scripts_fit lists scripts ≡ true
     → All (λ (script : List Statement). All (λ x. fits lists x ≡ true) script) left
 left_fit lists scripts left before after first fit =
     all_but_last (λ (script : List Statement). All (λ x. fits lists x ≡ true) script) first.others scripts left first.script [] first.scripts_are first.left_are
-    (λ k d below. all_so (fits lists) (get_or scripts k d) (all_so (list_all (fits lists)) scripts fit k d below)) (λ k d below. absurd (omega (arith, below)))
+    (all_fit lists scripts fit) (λ k d below. absurd (omega (arith, below)))
 
 -- a run of units that were opened with their database, the last of which had made its script before: its history is that of all
 -- scripts

@@ -1,11 +1,17 @@
-use Rattle.std.proofs.Common.{◌∙◌, subst, sym, ap, length, arith}
+use Rattle.std.proofs.Common.{◌≡◌, ◌∙◌, true, All, List, subst, sym, ap, length, arith}
+use Rattle.dbtg_unit.specs.declared.statement.Statement.{Statement}
+use Rattle.dbtg_unit.specs.Database.Statements.Fits.{fits}
 use Rattle.dbtg_run.specs.Running.{IsRun}
 use Rattle.dbtg.specs.Threading.{IsHistoryOfAll}
-use Rattle.dbtg.proofs.OnThreads.{history_of_all}
+use Rattle.dbtg.proofs.OnThreads.{all_fit, history_of_all}
 use Rattle.dbtg.proofs.threads.run_of.Goals as goal
 
 pub run_units-requires-clause-belong : goal.run_units-requires-clause-belong
 run_units-requires-clause-belong g c κs within = c.in_ok-db.ensures.belong
+
+pub run_units-requires-clause-fit : goal.run_units-requires-clause-fit
+run_units-requires-clause-fit g c κs within =
+    subst (λ schema. All (λ (script : List Statement). All (λ x. fits schema x ≡ true) script) c.args.scripts.now) (sym c.in_ok-db.ensures.database.0) (all_fit c.args.schema c.args.scripts.now c.requires.fit)
 
 pub run_units-requires-clause-scripts : goal.run_units-requires-clause-scripts
 run_units-requires-clause-scripts g c κs within = let e = c.in_ok-db.ensures.count in omega arith
