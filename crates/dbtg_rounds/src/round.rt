@@ -1,0 +1,111 @@
+//! A way round that begins in a given state.
+
+ghost use Rattle.std.specs.Prelude.{◌≡◌, ◌<◌, ℕ, List, None, true, false, length, Contains, IfOk, IfSome};
+ghost use Rattle.dbtg_rounds.specs.Rounds.{IsRound, Leads};
+ghost use Rattle.dbtg_rounds.specs.declared.edge.Edge.{Edge as EdgeOf};
+ghost use Rattle.dbtg_rounds.specs.Inside.Graphs.{AreReversed};
+ghost use Rattle.dbtg_rounds.specs.Inside.Reaching.{GoesOn, IsIn, LeadsIn, has_met, meets};
+
+use crate::graph::Graph;
+use crate::reach::reach;
+use crate::walk::{Goal, Walk, walk_to};
+use std::alloc::{AllocError, Global};
+
+/// A way round: the state in which it begins, and the units that have the turns.
+#[derive(Drop)]
+pub struct Round {
+    pub start: usize,
+    pub units: Vec<u8>,
+}
+
+// Marks the states that lead to this one, and it.
+fn leading_to(alloc: Global, back: &Graph, state: usize) -> Result<Vec<bool>, AllocError>
+    requires { state < back.now.states }
+    ensures forth { IfOk result (λ marks. (es : List EdgeOf) (i : ℕ) → AreReversed es back.now.edges → IsIn marks.items i → (us : List ℕ) × Leads es i us state) }
+    ensures back { IfOk result (λ marks. (es : List EdgeOf) (i : ℕ) (us : List ℕ) → AreReversed es back.now.edges → Leads es i us state → IsIn marks.items i) }
+{
+    let all = Vec::from_elem(alloc, true, back.states())?;
+    let reached = reach(alloc, back, state, all.as_slice())?;
+    Ok(reached.seen)
+}
+
+// Appends a walk to the goal, by way of marked states, to turns that lead to where it begins. Whether there is one.
+fn walk_on(
+    alloc: Global,
+    graph: &Graph,
+    within: &[bool],
+    taken: &mut Walk,
+    goal: Goal,
+) -> Result<bool, AllocError>
+    requires end { taken.old.end < graph.now.states }
+    ensures leads { IfOk result (λ there. there ≡ true → GoesOn graph.now.edges within.now taken.old taken.new) }
+    ensures met { IfOk result (λ there. there ≡ true → has_met goal taken.new.units.items taken.new.end) }
+    ensures none { IfOk result (λ there. there ≡ false → (us : List ℕ) (e : EdgeOf) → LeadsIn graph.now.edges within.now taken.old.end us e.from → Contains graph.now.edges e → IsIn within.now e.to → meets goal e ≡ true → ⊥) }
+{
+    match walk_to(alloc, graph, taken.end, within, goal)? {
+        None => Ok(false),
+        Some(further) => {
+            taken.units.extend_from_slice(further.units.as_slice())?;
+            taken.end = further.end;
+            Ok(true)
+        }
+    }
+}
+
+// Turns from a state by way of marked states, one of each unit that can have one there among them, and the state to which they lead. None if
+// a unit's turn cannot be had.
+fn take_each(
+    alloc: Global,
+    graph: &Graph,
+    start: usize,
+    within: &[bool],
+) -> Result<Option<Walk>, AllocError> {
+    let mut taken = Walk {
+        units: Vec::new(alloc),
+        end: start,
+    };
+    for edge in graph.at(start) {
+        if !taken.units.contains(&edge.unit) {
+            if !walk_on(alloc, graph, within, &mut taken, Goal::Unit(edge.unit))? {
+                return Ok(None);
+            }
+        }
+    }
+    Ok(Some(taken))
+}
+
+/// A way round that begins in this state, if there is one. `back` has the edges of the graph, reversed.
+pub(crate) fn round_from(
+    alloc: Global,
+    graph: &Graph,
+    back: &Graph,
+    start: usize,
+) -> Result<Option<Round>, AllocError>
+    requires start { start < graph.now.states }
+    requires back { (back.now.states ≡ graph.now.states) × AreReversed graph.now.edges back.now.edges }
+    ensures round { IfOk result (λ found. IfSome found (λ r. (r.start ≡ start) × IsRound graph.now.edges start r.units.items)) }
+    ensures none { IfOk result (λ found. found ≡ None → (units : List ℕ) → IsRound graph.now.edges start units → ⊥) }
+{
+    let within = leading_to(alloc, back, start)?;
+    let Some(mut taken) = take_each(alloc, graph, start, within.as_slice())? else {
+        return Ok(None);
+    };
+    if taken.units.is_empty() {
+        return Ok(None);
+    }
+    if taken.end != start {
+        if !walk_on(
+            alloc,
+            graph,
+            within.as_slice(),
+            &mut taken,
+            Goal::State(start),
+        )? {
+            return Ok(None);
+        }
+    }
+    Ok(Some(Round {
+        start,
+        units: taken.units,
+    }))
+}
