@@ -1,8 +1,9 @@
 //! A way round that begins in a given state.
 
 ghost use Rattle.std.specs.Prelude.{◌≡◌, ◌<◌, ℕ, List, None, true, false, length, Contains, IfOk, IfSome};
-ghost use Rattle.dbtg_rounds.specs.Rounds.{IsRound, Leads};
+ghost use Rattle.dbtg_rounds.specs.Rounds.{HasEdge, IsRound, Leads};
 ghost use Rattle.dbtg_rounds.specs.declared.edge.Edge.{Edge as EdgeOf};
+ghost use Rattle.dbtg_rounds.specs.Inside.CutOff.{HasCutOff, IsCutOff};
 ghost use Rattle.dbtg_rounds.specs.Inside.Graphs.{AreReversed};
 ghost use Rattle.dbtg_rounds.specs.Inside.Reaching.{GoesOn, IsIn, LeadsIn, has_met, meets};
 
@@ -24,13 +25,14 @@ fn leading_to(alloc: Global, back: &Graph, state: usize) -> Result<Vec<bool>, Al
     ensures forth { IfOk result (λ marks. (es : List EdgeOf) (i : ℕ) → AreReversed es back.now.edges → IsIn marks.items i → (us : List ℕ) × Leads es i us state) }
     ensures back { IfOk result (λ marks. (es : List EdgeOf) (i : ℕ) (us : List ℕ) → AreReversed es back.now.edges → Leads es i us state → IsIn marks.items i) }
 {
+    back.is_within();
     let all = Vec::from_elem(alloc, true, back.states())?;
     let reached = reach(alloc, back, state, all.as_slice())?;
     Ok(reached.seen)
 }
 
 // Appends a walk to the goal, by way of marked states, to turns that lead to where it begins. Whether there is one.
-fn walk_on(
+fn go_on(
     alloc: Global,
     graph: &Graph,
     within: &[bool],
@@ -52,6 +54,44 @@ fn walk_on(
     }
 }
 
+// The same for a turn of the unit, unless there is one among the turns.
+fn take_one(
+    alloc: Global,
+    graph: &Graph,
+    within: &[bool],
+    taken: &mut Walk,
+    unit: u8,
+) -> Result<bool, AllocError>
+    requires end { IsIn within.now taken.old.end × (taken.old.end < graph.now.states) }
+    ensures leads { IfOk result (λ there. there ≡ true → GoesOn graph.now.edges within.now taken.old taken.new) }
+    ensures met { IfOk result (λ there. there ≡ true → Contains taken.new.units.items unit) }
+    ensures none { IfOk result (λ there. there ≡ false → IsCutOff graph.now.edges within.now taken.old.end unit) }
+{
+    if taken.units.contains(&unit) {
+        return Ok(true);
+    }
+    go_on(alloc, graph, within, taken, Goal::Unit(unit))
+}
+
+// The same for a state, unless the turns end there.
+fn come_to(
+    alloc: Global,
+    graph: &Graph,
+    within: &[bool],
+    taken: &mut Walk,
+    state: usize,
+) -> Result<bool, AllocError>
+    requires end { IsIn within.now taken.old.end × (taken.old.end < graph.now.states) }
+    ensures leads { IfOk result (λ there. there ≡ true → GoesOn graph.now.edges within.now taken.old taken.new) }
+    ensures met { IfOk result (λ there. there ≡ true → taken.new.end ≡ state) }
+    ensures none { IfOk result (λ there. there ≡ false → (us : List ℕ) → LeadsIn graph.now.edges within.now taken.old.end us state → ⊥) }
+{
+    if taken.end == state {
+        return Ok(true);
+    }
+    go_on(alloc, graph, within, taken, Goal::State(state))
+}
+
 // Turns from a state by way of marked states, one of each unit that can have one there among them, and the state to which they lead. None if
 // a unit's turn cannot be had.
 fn take_each(
@@ -59,16 +99,22 @@ fn take_each(
     graph: &Graph,
     start: usize,
     within: &[bool],
-) -> Result<Option<Walk>, AllocError> {
+) -> Result<Option<Walk>, AllocError>
+    requires start { start < graph.now.states }
+    requires marked { IsIn within.now start }
+    ensures leads { IfOk result (λ found. IfSome found (λ w. LeadsIn graph.now.edges within.now start w.units.items w.end)) }
+    ensures end { IfOk result (λ found. IfSome found (λ w. IsIn within.now w.end × (w.end < graph.now.states))) }
+    ensures each { IfOk result (λ found. IfSome found (λ w. (u j : ℕ) → HasEdge graph.now.edges start u j → Contains w.units.items u)) }
+    ensures none { IfOk result (λ found. found ≡ None → HasCutOff graph.now.edges within.now start) }
+{
+    graph.is_within();
     let mut taken = Walk {
         units: Vec::new(alloc),
         end: start,
     };
     for edge in graph.at(start) {
-        if !taken.units.contains(&edge.unit) {
-            if !walk_on(alloc, graph, within, &mut taken, Goal::Unit(edge.unit))? {
-                return Ok(None);
-            }
+        if !take_one(alloc, graph, within, &mut taken, edge.unit)? {
+            return Ok(None);
         }
     }
     Ok(Some(taken))
@@ -93,16 +139,8 @@ pub(crate) fn round_from(
     if taken.units.is_empty() {
         return Ok(None);
     }
-    if taken.end != start {
-        if !walk_on(
-            alloc,
-            graph,
-            within.as_slice(),
-            &mut taken,
-            Goal::State(start),
-        )? {
-            return Ok(None);
-        }
+    if !come_to(alloc, graph, within.as_slice(), &mut taken, start)? {
+        return Ok(None);
     }
     Ok(Some(Round {
         start,

@@ -2,7 +2,7 @@
 
 ghost use Rattle.std.specs.Prelude.{◌≡◌, ◌<◌, ℕ, List, None, Contains, true, IfOk, IfSome};
 ghost use Rattle.dbtg_rounds.specs.declared.edge.Edge.{Edge as EdgeOf};
-ghost use Rattle.dbtg_rounds.specs.Inside.Reaching.{IsIn, LeadsIn, has_met, meets};
+ghost use Rattle.dbtg_rounds.specs.Inside.Reaching.{IsIn, IsReached, LeadsIn, has_met, meets};
 
 use crate::edge::Edge;
 use crate::graph::Graph;
@@ -36,7 +36,11 @@ impl Goal {
 }
 
 // An edge from a state to a marked state which reaches the goal.
-fn last_edge(graph: &Graph, state: usize, within: &[bool], goal: Goal) -> Option<Edge> {
+fn last_edge(graph: &Graph, state: usize, within: &[bool], goal: Goal) -> Option<Edge>
+    ensures edge { IfSome result (λ e. Contains graph.now.edges e × (e.from ≡ state)) }
+    ensures met { IfSome result (λ e. IsIn within.now e.to × (meets goal e ≡ true)) }
+    ensures none { result ≡ None → (e : EdgeOf) → Contains graph.now.edges e → e.from ≡ state → IsIn within.now e.to → meets goal e ≡ true → ⊥ }
+{
     for edge in graph.at(state) {
         if is_in(within, edge.to as usize) && goal.is_met(*edge) {
             return Some(*edge);
@@ -46,13 +50,19 @@ fn last_edge(graph: &Graph, state: usize, within: &[bool], goal: Goal) -> Option
 }
 
 // A walk to the goal, by way of states that are reached.
-fn walk_on(
+fn walk_by(
     alloc: Global,
     graph: &Graph,
     reached: &Reached,
     within: &[bool],
     goal: Goal,
-) -> Result<Option<Walk>, AllocError> {
+) -> Result<Option<Walk>, AllocError>
+    requires reached { (start : ℕ) × IsReached graph.now.edges within.now start reached.now }
+    ensures leads { IfOk result (λ found. IfSome found (λ w. (start : ℕ) → IsReached graph.now.edges within.now start reached.now → LeadsIn graph.now.edges within.now start w.units.items w.end)) }
+    ensures within { IfOk result (λ found. IfSome found (λ w. IsIn within.now w.end)) }
+    ensures met { IfOk result (λ found. IfSome found (λ w. has_met goal w.units.items w.end)) }
+    ensures none { IfOk result (λ found. found ≡ None → (e : EdgeOf) → Contains reached.now.states.items e.from → Contains graph.now.edges e → IsIn within.now e.to → meets goal e ≡ true → ⊥) }
+{
     for place in 0..reached.states.len() {
         if let Some(edge) = last_edge(graph, reached.states[place], within, goal) {
             let mut units = reached.units_to(alloc, place)?;
@@ -79,5 +89,5 @@ pub(crate) fn walk_to(
     ensures none { IfOk result (λ found. found ≡ None → (us : List ℕ) (e : EdgeOf) → LeadsIn graph.now.edges within.now start us e.from → Contains graph.now.edges e → IsIn within.now e.to → meets goal e ≡ true → ⊥) }
 {
     let reached = reach(alloc, graph, start, within)?;
-    walk_on(alloc, graph, &reached, within, goal)
+    walk_by(alloc, graph, &reached, within, goal)
 }
