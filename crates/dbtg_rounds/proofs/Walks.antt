@@ -2,7 +2,8 @@
 -- es are the edges of a graph, marks say of each state whether it is marked, i, j and k are states, u is a unit, us and vs are units.
 use Rattle.std.proofs.Common.{◌≡◌, refl, sym, ◌∙◌, ap, subst, ℕ, zero, suc, ◌+◌, ◌<◌, ◌≤◌, Bool, true, false, List, [], ◌∷◌, ◌++◌, length, get_or, inl, inr, ◌⊎◌, ⊎_elim, Some, arith}
 use Rattle.std.specs.Prelude.{Contains, slice_get}
-use Rattle.std.proofs.lemmas.Option.{get_or_from_slice_get, slice_get-get_or}
+use Rattle.std.proofs.lemmas.List.{get_or_default}
+use Rattle.std.proofs.lemmas.Option.{get_or_from_slice_get}
 use Rattle.dbtg_rounds.specs.declared.edge.Edge.{Edge}
 use Rattle.dbtg_rounds.specs.declared.reach.Reached as given
 use Rattle.dbtg_rounds.specs.Rounds.{AreWithin, HasEdge, Leads}
@@ -101,21 +102,30 @@ pub record HasLast (es : List Edge) (marks : List Bool) (i j : ℕ) : Type 0 whe
   pub unit : ℕ
   pub leads : LeadsIn es marks i before from
   pub has : HasEdge es from unit j
+  pub marked : IsIn marks j
 
 -- a walk has no turn, or a last one
 pub last_turn : (es : List Edge) (marks : List Bool) (i j : ℕ) (us : List ℕ) → LeadsIn es marks i us j → (i ≡ j) ⊎ HasLast es marks i j
 unfolding LeadsIn
 last_turn es marks i j [] leads = inl leads
 last_turn es marks i j (u ∷ us) leads = ⊎_elim
-    (λ (none : leads.0 ≡ j). inr (record { before = []; from = i; unit = u; leads = refl; has = subst (λ (n : ℕ). HasEdge es i u n) none leads.1 }))
+    (λ (none : leads.0 ≡ j). inr (record { before = []; from = i; unit = u; leads = refl; has = subst (λ (n : ℕ). HasEdge es i u n) none leads.1; marked = subst (IsIn marks) none leads.2 }))
     (λ (last : HasLast es marks leads.0 j). inr (record {
       before = u ∷ last.before;
       from = last.from;
       unit = last.unit;
       leads = (leads.0, leads.1, leads.2, last.leads);
       has = last.has;
+      marked = last.marked;
     }))
     (last_turn es marks leads.0 j us leads.3)
+
+-- no walk leads to another state if none leads to an edge that ends there
+pub none_there : (es : List Edge) (marks : List Bool) (i j : ℕ) → (i ≡ j → ⊥) → ((us : List ℕ) (e : Edge) → LeadsIn es marks i us e.from → Contains es e → IsIn marks e.to → e.to ≡ j → ⊥)
+    → (us : List ℕ) → LeadsIn es marks i us j → ⊥
+none_there es marks i j other none us leads = ⊎_elim other
+    (λ (last : HasLast es marks i j). none last.before (record { from = last.from; unit = last.unit; to = j }) last.leads last.has last.marked refl)
+    (last_turn es marks i j us leads)
 
 -- WHAT IS REACHED
 
@@ -141,6 +151,5 @@ pub led_to : (es : List Edge) (marks : List Bool) (start i : ℕ) (r : given.Rea
 led_to es marks start i r reached seen =
     let there = reached.seen i seen in
     let led = led_at es marks start r reached (suc there.0) there.0 (omega arith) there.1 in
-    (led.0, subst (λ (n : ℕ). LeadsIn es marks start led.0 n) (at there.0 there.1 there.2) led.1) where
-  at : (place : ℕ) → place < length r.states.items → get_or r.states.items place i ≡ i → get_or r.states.items place 0 ≡ i
-  at place low is = get_or_from_slice_get r.states.items place (get_or r.states.items place i) 0 (slice_get-get_or r.states.items place i low) ∙ is
+    let at : get_or r.states.items there.0 0 ≡ i = get_or_default r.states.items there.0 0 i there.1 ∙ there.2 in
+    (led.0, subst (λ (n : ℕ). LeadsIn es marks start led.0 n) at led.1)
