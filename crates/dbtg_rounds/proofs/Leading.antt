@@ -1,6 +1,6 @@
 -- The states that lead to a first one, and the ways round that begin in it.
 -- es and bs are the edges of graphs, marks say of each state whether it is marked, i, j and k are states, u is a unit, us and vs are units.
-use Rattle.std.proofs.Common.{◌≡◌, refl, sym, ◌∙◌, ap, subst, ℕ, zero, suc, ◌+◌, ◌<◌, ◌≤◌, Bool, true, false, List, [], ◌∷◌, ◌++◌, length, length-append, get_or, arith}
+use Rattle.std.proofs.Common.{◌≡◌, refl, sym, subst, ℕ, ◌<◌, Bool, List, [], ◌∷◌, ◌++◌, length, length-append, arith}
 use Rattle.std.specs.Prelude.{Contains}
 use Rattle.std.proofs.lemmas.List.Elements.{Contains-append_left}
 use Rattle.dbtg_rounds.specs.declared.edge.Edge.{Edge}

@@ -1,13 +1,13 @@
 -- Walks in a graph of states: one after another, in parts, and where they end.
 -- es are the edges of a graph, marks say of each state whether it is marked, i, j and k are states, u is a unit, us and vs are units.
-use Rattle.std.proofs.Common.{◌≡◌, refl, sym, ◌∙◌, ap, subst, ℕ, zero, suc, ◌+◌, ◌<◌, ◌≤◌, Bool, true, false, List, [], ◌∷◌, ◌++◌, length, get_or, inl, inr, ◌⊎◌, ⊎_elim, Some, arith}
+use Rattle.std.proofs.Common.{◌≡◌, refl, sym, ◌∙◌, ap, subst, ℕ, zero, suc, ◌+◌, ◌<◌, Bool, List, [], ◌∷◌, ◌++◌, length, get_or, inl, inr, ◌⊎◌, ⊎_elim, arith}
 use Rattle.std.specs.Prelude.{Contains, slice_get}
 use Rattle.std.proofs.lemmas.List.{get_or_default}
 use Rattle.std.proofs.lemmas.Option.{get_or_from_slice_get}
 use Rattle.dbtg_rounds.specs.declared.edge.Edge.{Edge}
 use Rattle.dbtg_rounds.specs.declared.reach.Reached as given
 use Rattle.dbtg_rounds.specs.Rounds.{AreWithin, HasEdge, Leads}
-use Rattle.dbtg_rounds.specs.Inside.Reaching.{IsIn, IsLinked, IsReached, LeadsIn}
+use Rattle.dbtg_rounds.specs.Inside.Reaching.{IsIn, IsReached, LeadsIn}
 
 -- WALKS ONE AFTER ANOTHER
 
@@ -33,7 +33,7 @@ unfolding Leads
 no_turn_leads es i = refl
 
 -- one turn
-pub one_turn : (es : List Edge) (marks : List Bool) (i u j : ℕ) → HasEdge es i u j → IsIn marks j → LeadsIn es marks i (u ∷ []) j
+one_turn : (es : List Edge) (marks : List Bool) (i u j : ℕ) → HasEdge es i u j → IsIn marks j → LeadsIn es marks i (u ∷ []) j
 unfolding LeadsIn
 one_turn es marks i u j has marked = (j, has, marked, refl)
 

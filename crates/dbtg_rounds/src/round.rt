@@ -1,6 +1,6 @@
 //! A way round that begins in a given state.
 
-ghost use Rattle.std.specs.Prelude.{◌≡◌, ◌<◌, ℕ, List, None, true, false, length, Contains, IfOk, IfSome};
+ghost use Rattle.std.specs.Prelude.{◌≡◌, ◌<◌, ℕ, List, None, true, false, Contains, IfOk, IfSome};
 ghost use Rattle.dbtg_rounds.specs.Rounds.{HasEdge, IsRound, Leads};
 ghost use Rattle.dbtg_rounds.specs.declared.edge.Edge.{Edge as EdgeOf};
 ghost use Rattle.dbtg_rounds.specs.Inside.CutOff.{HasCutOff, IsCutOff};

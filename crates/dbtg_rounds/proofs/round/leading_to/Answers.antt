@@ -1,5 +1,5 @@
 -- What is reached among the reversed edges is what leads to the state.
-use Rattle.std.proofs.Common.{◌≡◌, ◌<◌, ℕ, List, Bool, true, false, subst, ap, ◌∙◌, get_or, arith}
+use Rattle.std.proofs.Common.{◌<◌, ℕ, List, Bool, true, false, ap, ◌∙◌, get_or, arith}
 use Rattle.std.proofs.lemmas.List.{get_or-replicate}
 use Rattle.dbtg_rounds.specs.Inside.Reaching.{IsIn}
 use Rattle.dbtg_rounds.proofs.Leading.{reversed_walk, walk_reversed}

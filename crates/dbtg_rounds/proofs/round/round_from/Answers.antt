@@ -1,11 +1,9 @@
 -- The marked states are those that lead to the start, so where a walk is missing no way round begins there.
-use Rattle.std.proofs.Common.{◌≡◌, refl, sym, subst, ap, ◌∙◌, ℕ, ◌<◌, List, [], Bool, Option, Some, None, length, arith}
+use Rattle.std.proofs.Common.{◌≡◌, refl, sym, subst, ◌∙◌, ℕ, ◌<◌, List, Bool, length, arith}
 use Rattle.std.specs.Prelude.{Contains}
 use Rattle.std.proofs.lemmas.Grind.{common_steps}
 use Rattle.dbtg_rounds.specs.declared.edge.Edge.{Edge}
-use Rattle.dbtg_rounds.specs.declared.walk.Walk as given
 use Rattle.dbtg_rounds.specs.Rounds.{HasEdge, Leads}
-use Rattle.dbtg_rounds.specs.Inside.CutOff.{HasCutOff}
 use Rattle.dbtg_rounds.specs.Inside.Graphs.{AreReversed}
 use Rattle.dbtg_rounds.specs.Inside.Reaching.{IsIn, LeadsIn}
 use Rattle.dbtg_rounds.proofs.Leading.{AreLeading, comes_back, cut_off, first_marked, is_round, no_first_turn}

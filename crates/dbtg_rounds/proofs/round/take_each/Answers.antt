@@ -1,11 +1,10 @@
 -- Each edge at the state gives its unit a turn, or shows that the unit is cut off from where the turns end.
-use Rattle.std.proofs.Common.{◌≡◌, ◌≢◌, ◌<◌, ◌≤◌, ◌+◌, ℕ, List, ◌++◌, refl, sym, subst, ap, ◌∙◌, get_or, length, inl, inr, arith}
+use Rattle.std.proofs.Common.{◌≡◌, ◌<◌, ◌+◌, ℕ, List, ◌++◌, refl, sym, subst, ap, ◌∙◌, get_or, length, inl, inr, arith}
 use Rattle.std.specs.Prelude.{Contains}
 use Rattle.std.proofs.lemmas.Bool.{cases_lt}
 use Rattle.std.proofs.lemmas.List.{get_or_default}
 use Rattle.std.proofs.lemmas.List.Elements.{Contains-append_left, Contains-get_or}
 use Rattle.dbtg_rounds.specs.declared.edge.Edge.{Edge}
-use Rattle.dbtg_rounds.specs.declared.walk.Walk as given
 use Rattle.dbtg_rounds.specs.Rounds.{HasEdge}
 use Rattle.dbtg_rounds.specs.Inside.Reaching.{GoesOn, LeadsIn}
 use Rattle.dbtg_rounds.proofs.Walks.{end_within, leads_in_on, no_turn}

@@ -1,6 +1,6 @@
 -- The edge that is found is one of the graph, and those at the state were all tried.
+use Rattle.std.proofs.Common.{arith}
 use Rattle.std.proofs.lemmas.List.Elements.{Contains-get_or}
-use Rattle.std.proofs.Common.{◌<◌, arith}
 use Rattle.dbtg_rounds.proofs.walk.last_edge.Goals as goal
 
 pub returns-then-is_met-clause-edge : goal.returns-then-is_met-clause-edge

@@ -1,5 +1,5 @@
 -- The turns to the state, and the last turn.
-use Rattle.std.proofs.Common.{◌≡◌, ℕ, List, [], ◌∷◌, ◌++◌, sym, subst, ◌∙◌, get_or, arith}
+use Rattle.std.proofs.Common.{◌≡◌, ℕ, List, sym, subst, get_or, arith}
 use Rattle.std.proofs.lemmas.Grind.{common_steps}
 use Rattle.dbtg_rounds.specs.Inside.Reaching.{LeadsIn}
 use Rattle.dbtg_rounds.proofs.Walks.{one_turn_on}
