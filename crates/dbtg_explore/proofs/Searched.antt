@@ -1,12 +1,14 @@
 -- A search through all states, stated for whatever orders need: what is an order, what can follow one, the state to which one leads.
--- o and p are orders, u and v units, i a place among the orders that are found.
-use Rattle.std.proofs.Common.{◌≡◌, ℕ, zero, suc, ◌+◌, ◌<◌, ◌≤◌, Bool, true, false, List, [], ◌∷◌, ◌++◌, length, refl, sym, ◌∙◌, ap, subst, arith, inl, inr, ◌⊎◌, get_or, ⊎_elim}
+-- o and p are orders, u and v units, i, j and k places among the orders that are found, es the turns that are noted from place to place.
+use Rattle.std.proofs.Common.{◌≡◌, ℕ, zero, suc, ◌+◌, ◌<◌, ◌≤◌, Bool, true, false, List, [], ◌∷◌, ◌++◌, append_assoc, append-nil, length, refl, sym, ◌∙◌, ap, subst, arith, inl, inr, ◌⊎◌, get_or, ⊎_elim}
 use Rattle.std.specs.Prelude.{Contains}
 use Rattle.std.proofs.lemmas.Bool.{cases_lt}
-use Rattle.std.proofs.lemmas.List.{get_or_append_left, get_or_default, length_push}
+use Rattle.std.proofs.lemmas.List.{get_or_append_left, get_or_default, get_or_push, length_push}
 use Rattle.std.proofs.lemmas.List.Elements.{Contains-get_or, Contains-append_left, Contains-push, Contains-push_cases}
-use Rattle.dbtg_explore.specs.Orders.{IsBefore}
-use Rattle.dbtg_explore.specs.Inside.Search.{AreFirsts, HasFirst, IsUnderWay, LeadApart}
+use Rattle.dbtg_rounds.specs.Rounds.{HasEdge, Leads}
+use Rattle.dbtg_rounds.specs.declared.edge.Edge.{Edge}
+use Rattle.dbtg_explore.specs.Orders.{IsBefore, IsNoLater}
+use Rattle.dbtg_explore.specs.Inside.Search.{AreFirsts, HasFirst, IsTurn, IsUnderWay, LeadApart}
 use Rattle.dbtg_explore.specs.Pairwise.{ArePairwise}
 use Rattle.dbtg_explore.proofs.Before.{before_last, before_next, before_push, before_trans, no_later_push, no_later_trans}
 
@@ -48,6 +50,12 @@ pairwise_push R (x ∷ xs) y h all = (
   pairwise_push R xs y h.1 (λ z c. all z (contains_behind x xs z c)),
 )
 
+apart_at : {S : Type 0} (state : List ℕ → S) (xs : List (List ℕ)) (i j : ℕ) → ArePairwise (LeadApart state) xs → i < j → j < length xs → LeadApart state (get_or xs i []) (get_or xs j [])
+apart_at state [] i j h low in_range = absurd (omega arith)
+apart_at state (x ∷ xs) i zero h low in_range = absurd (omega arith)
+apart_at state (x ∷ xs) zero (suc j) h low in_range = h.0 (get_or xs j []) (Contains-get_or xs j [] (omega arith))
+apart_at state (x ∷ xs) (suc i) (suc j) h low in_range = apart_at state xs i j h.1 (omega arith) (omega arith)
+
 -- the order at the earlier of two places is before that at the other
 pub in_order_at : (xs : List (List ℕ)) (i j : ℕ) → ArePairwise IsBefore xs → i < j → j < length xs → IsBefore (get_or xs i []) (get_or xs j [])
 in_order_at [] i j h low in_range = absurd (omega arith)
@@ -67,80 +75,141 @@ pub record GoOn {S : Type 0} (IsOrder : List ℕ → Type 0) (can : List ℕ →
   pub state_alike : (o p : List ℕ) (u : ℕ) → IsOrder (o ++ u ∷ []) → IsOrder (p ++ u ∷ []) → state o ≡ state p → state (o ++ u ∷ []) ≡ state (p ++ u ∷ [])
 
 module _ {S : Type 0} (IsOrder : List ℕ → Type 0) (can : List ℕ → ℕ → Bool) (state : List ℕ → S) (on : GoOn IsOrder can state) where
+  abbrev Under : List (List ℕ) → List Edge → ℕ → ℕ → Type 0
+  Under = IsUnderWay IsOrder can state
+
+  -- a turn of unit u, from place i to place k
+  abbrev edge : ℕ → ℕ → ℕ → Edge
+  edge i u k = record { from = i; unit = u; to = k }
+
+  -- an order with a turn more leads to a state whose order was found
+  pub turn_first : (found : List (List ℕ)) (e : Edge) → IsTurn can state found e → HasFirst state found (get_or found e.from [] ++ e.unit ∷ [])
+  turn_first found e t = record { first = get_or found e.to []; is_found = Contains-get_or found e.to [] t.to_there; same = t.same; no_later = t.no_later }
+
   first_more : (found : List (List ℕ)) (p o : List ℕ) → HasFirst state found o → HasFirst state (found ++ p ∷ []) o
   first_more found p o h = record { first = h.first; is_found = Contains-append_left found (p ∷ []) h.first h.is_found; same = h.same; no_later = h.no_later }
 
-  pub at_beginning : IsUnderWay IsOrder can state ([] ∷ []) 0 0
+  -- a noted turn is still one when another order is found
+  turn_more : (found : List (List ℕ)) (p : List ℕ) (e : Edge) → IsTurn can state found e → IsTurn can state (found ++ p ∷ []) e
+  turn_more found p e t =
+      let long = length_push found p in
+      let at_from = get_or_append_left found (p ∷ []) [] e.from t.from_there in
+      let at_to = get_or_append_left found (p ∷ []) [] e.to t.to_there in
+      let low = t.from_there in
+      let high = t.to_there in
+      record {
+        from_there = omega (arith, long, low);
+        to_there = omega (arith, long, high);
+        can_turn = ap (λ o. can o e.unit) at_from ∙ t.can_turn;
+        same = ap state at_to ∙ t.same ∙ ap (λ o. state (o ++ e.unit ∷ [])) (sym at_from);
+        no_later = subst (λ o. IsNoLater o (get_or (found ++ p ∷ []) e.from [] ++ e.unit ∷ [])) (sym at_to) (subst (λ o. IsNoLater (get_or found e.to []) (o ++ e.unit ∷ [])) (sym at_from) t.no_later);
+      }
+
+  edge_more : (es : List Edge) (e : Edge) (j v : ℕ) → (k : ℕ) × HasEdge es j v k → (k : ℕ) × HasEdge (es ++ e ∷ []) j v k
+  edge_more es e j v h = (h.0, Contains-append_left es (e ∷ []) (edge j v h.0) h.1)
+
+  pub at_beginning : Under ([] ∷ []) [] 0 0
   at_beginning = record {
     are_orders = λ o c. ⊎_elim (λ e. subst IsOrder e on.first) (λ d. absurd (contains_none o d)) (contains_cases [] [] o c);
     apart = ((λ p c. absurd (contains_none p c)), tt);
     in_order = ((λ p c. absurd (contains_none p c)), tt);
     begun = record { first = []; is_found = contains_here [] []; same = refl; no_later = inl refl };
+    are_turns = λ e c. absurd (contains_none e c);
     behind = λ j v low. absurd (omega arith);
     here = λ v low. absurd (omega arith);
     earlier = λ o v in_range c le. ⊎_elim (λ e. subst (λ w. IsBefore w (v ∷ [])) e (before_next [] v)) (λ d. absurd (contains_none o d)) (contains_cases [] [] o c);
   }
 
-  module _ (found : List (List ℕ)) (i u : ℕ) (in_range : i < length found) (h : IsUnderWay IsOrder can state found i u) where
-    further : ((v : ℕ) → v ≡ u → can (get_or found i []) v ≡ true → HasFirst state found (get_or found i [] ++ v ∷ [])) → IsUnderWay IsOrder can state found i (u + 1)
-    further last = record {
+  module _ (found : List (List ℕ)) (es : List Edge) (i u : ℕ) (in_range : i < length found) (h : Under found es i u) where
+    -- the unit cannot have its turn there
+    pub no_turn : can (get_or found i []) u ≡ false → Under found es i (u + 1)
+    no_turn not_u = record {
       are_orders = h.are_orders;
       apart = h.apart;
       in_order = h.in_order;
       begun = h.begun;
+      are_turns = h.are_turns;
       behind = h.behind;
       here = λ v low can_v. elim (cases_lt v u) [
         | inl below ↦ h.here v below can_v
-        | inr above ↦ let e : v ≡ u = omega arith in last v e can_v
+        | inr above ↦
+            let e : v ≡ u = omega arith in
+            absurd (let both : can (get_or found i []) u ≡ true = subst (λ (w : ℕ). can (get_or found i []) w ≡ true) e can_v in cc)
       ];
       earlier = λ o v r c le. h.earlier o v r c (omega arith);
     }
 
-    -- the unit cannot have its turn there
-    pub no_turn : can (get_or found i []) u ≡ false → IsUnderWay IsOrder can state found i (u + 1)
-    no_turn not_u = further (λ v e can_v. absurd (let both : can (get_or found i []) u ≡ true = subst (λ (w : ℕ). can (get_or found i []) w ≡ true) e can_v in cc))
+    here_more : (k v : ℕ) → v < u + 1 → can (get_or found i []) v ≡ true → (j : ℕ) × HasEdge (es ++ edge i u k ∷ []) i v j
+    here_more k v low can_v = elim (cases_lt v u) [
+      | inl below ↦ edge_more es (edge i u k) i v (h.here v below can_v)
+      | inr above ↦
+          let e : u ≡ v = omega arith in
+          subst (λ (w : ℕ). (j : ℕ) × HasEdge (es ++ edge i u k ∷ []) i w j) e (k, Contains-push es (edge i u k))
+    ]
 
-    -- its turn leads to a known state
-    pub known_state : (o : List ℕ) → Contains found o → state o ≡ state (get_or found i [] ++ u ∷ []) → IsUnderWay IsOrder can state found i (u + 1)
-    known_state o c same = further (λ v e can_v.
-        subst (λ (w : ℕ). HasFirst state found (get_or found i [] ++ w ∷ [])) (sym e)
-        (record { first = o; is_found = c; same = same; no_later = inr (h.earlier o u in_range c (omega arith)) }))
+    module _ (can_u : can (get_or found i []) u ≡ true) where
+      -- its turn leads to a known state
+      pub known_state : (k : ℕ) → k < length found → state (get_or found k []) ≡ state (get_or found i [] ++ u ∷ []) → Under found (es ++ edge i u k ∷ []) i (u + 1)
+      known_state k low same = record {
+        are_orders = h.are_orders;
+        apart = h.apart;
+        in_order = h.in_order;
+        begun = h.begun;
+        are_turns = λ e c. ⊎_elim (h.are_turns e) (λ is. subst (IsTurn can state found) is (record {
+          from_there = in_range;
+          to_there = low;
+          can_turn = can_u;
+          same = same;
+          no_later = inr (h.earlier (get_or found k []) u in_range (Contains-get_or found k [] low) (omega arith));
+        })) (Contains-push_cases es (edge i u k) e c);
+        behind = λ j v below can_v. edge_more es (edge i u k) j v (h.behind j v below can_v);
+        here = here_more k;
+        earlier = λ o v r c le. h.earlier o v r c (omega arith);
+      }
 
-    -- its turn leads to a new state
-    pub new_state : can (get_or found i []) u ≡ true → ((o : List ℕ) → Contains found o → state o ≡ state (get_or found i [] ++ u ∷ []) → ⊥) → IsUnderWay IsOrder can state (found ++ (get_or found i [] ++ u ∷ []) ∷ []) i (u + 1)
-    new_state can_u is_new =
-        let next = get_or found i [] ++ u ∷ [] in
-        let same : (j : ℕ) → j < length found → get_or (found ++ next ∷ []) j [] ≡ get_or found j [] = λ j low. get_or_append_left found (next ∷ []) [] j low in
-        let turn : (o : List ℕ) (v : ℕ) → u + 1 ≤ v → Contains (found ++ next ∷ []) o → IsBefore o (get_or found i [] ++ v ∷ []) =
-        λ o v le c. ⊎_elim (λ d. h.earlier o v in_range d (omega arith)) (λ e. subst (λ w. IsBefore w (get_or found i [] ++ v ∷ [])) e (before_last (get_or found i []) u v (omega arith))) (Contains-push_cases found next o c) in
-        record {
-          are_orders = λ o c. ⊎_elim (h.are_orders o) (λ e. subst IsOrder e (on.more (get_or found i []) u (h.are_orders _ (Contains-get_or found i [] in_range)) can_u)) (Contains-push_cases found next o c);
-          apart = pairwise_push (LeadApart state) found next h.apart is_new;
-          in_order = pairwise_push IsBefore found next h.in_order (λ o c. h.earlier o u in_range c (omega arith));
-          begun = first_more found next [] h.begun;
-          behind = λ j v low. rw (same j (omega arith)) (λ can_v. first_more found next _ (h.behind j v low can_v));
-          here = λ v low. rw (same i in_range) (λ can_v. elim (cases_lt v u) [
-            | inl below ↦ first_more found next _ (h.here v below can_v)
-            | inr above ↦
-                let e : u ≡ v = omega arith in
-                subst (λ (w : ℕ). HasFirst state (found ++ next ∷ []) (get_or found i [] ++ w ∷ [])) e (record { first = next; is_found = Contains-push found next; same = refl; no_later = inl refl })
-          ]);
-          earlier = λ o v r c le. rw (same i in_range) (turn o v le c);
-        }
+      -- its turn leads to a new state
+      pub new_state : ((o : List ℕ) → Contains found o → state o ≡ state (get_or found i [] ++ u ∷ []) → ⊥) → Under (found ++ (get_or found i [] ++ u ∷ []) ∷ []) (es ++ edge i u (length found) ∷ []) i (u + 1)
+      new_state is_new =
+          let next = get_or found i [] ++ u ∷ [] in
+          let new = edge i u (length found) in
+          let long = length_push found next in
+          let same : (j : ℕ) → j < length found → get_or (found ++ next ∷ []) j [] ≡ get_or found j [] = λ j low. get_or_append_left found (next ∷ []) [] j low in
+          let last : get_or (found ++ next ∷ []) (length found) [] ≡ next = get_or_push found next [] (length found) refl in
+          let turn : (o : List ℕ) (v : ℕ) → u + 1 ≤ v → Contains (found ++ next ∷ []) o → IsBefore o (get_or found i [] ++ v ∷ []) =
+          λ o v le c. ⊎_elim (λ d. h.earlier o v in_range d (omega arith)) (λ e. subst (λ w. IsBefore w (get_or found i [] ++ v ∷ [])) e (before_last (get_or found i []) u v (omega arith))) (Contains-push_cases found next o c) in
+          let to_next : get_or (found ++ next ∷ []) (length found) [] ≡ get_or (found ++ next ∷ []) i [] ++ u ∷ [] = last ∙ ap (λ o. o ++ u ∷ []) (sym (same i in_range)) in
+          let is_turn : IsTurn can state (found ++ next ∷ []) new = record {
+            from_there = omega (arith, long, in_range);
+            to_there = omega (arith, long);
+            can_turn = ap (λ o. can o u) (same i in_range) ∙ can_u;
+            same = ap state to_next;
+            no_later = inl to_next;
+          } in
+          record {
+            are_orders = λ o c. ⊎_elim (h.are_orders o) (λ e. subst IsOrder e (on.more (get_or found i []) u (h.are_orders _ (Contains-get_or found i [] in_range)) can_u)) (Contains-push_cases found next o c);
+            apart = pairwise_push (LeadApart state) found next h.apart is_new;
+            in_order = pairwise_push IsBefore found next h.in_order (λ o c. h.earlier o u in_range c (omega arith));
+            begun = first_more found next [] h.begun;
+            are_turns = λ e c. ⊎_elim (λ d. turn_more found next e (h.are_turns e d)) (λ is. subst (IsTurn can state (found ++ next ∷ [])) is is_turn) (Contains-push_cases es new e c);
+            behind = λ j v low. rw (same j (omega arith)) (λ can_v. edge_more es new j v (h.behind j v low can_v));
+            here = λ v low. rw (same i in_range) (λ can_v. here_more (length found) v low can_v);
+            earlier = λ o v r c le. rw (same i in_range) (turn o v le c);
+          }
 
     -- all units have had their turns there
-    pub next_place : ((v : ℕ) → u ≤ v → can (get_or found i []) v ≡ false) → IsUnderWay IsOrder can state found (i + 1) 0
+    pub next_place : ((v : ℕ) → u ≤ v → can (get_or found i []) v ≡ false) → Under found es (i + 1) 0
     next_place no_more = record {
       are_orders = h.are_orders;
       apart = h.apart;
       in_order = h.in_order;
       begun = h.begun;
+      are_turns = h.are_turns;
       behind = λ j v low can_v. elim (cases_lt j i) [
         | inl below ↦ h.behind j v below can_v
         | inr above ↦
             let e : j ≡ i = omega arith in
             let can_i : can (get_or found i []) v ≡ true = subst (λ (k : ℕ). can (get_or found k []) v ≡ true) e can_v in
-            subst (λ (k : ℕ). HasFirst state found (get_or found k [] ++ v ∷ [])) (sym e)
+            subst (λ (j : ℕ). (k : ℕ) × HasEdge es j v k) (sym e)
             (elim (cases_lt v u) [
               | inl low ↦ h.here v low can_i
               | inr high ↦ let none = no_more v (omega arith) in absurd (cc)
@@ -152,35 +221,91 @@ module _ {S : Type 0} (IsOrder : List ℕ → Type 0) (can : List ℕ → ℕ �
           before_trans o (get_or found i [] ++ u ∷ []) (get_or found (i + 1) [] ++ v ∷ []) last (before_push (get_or found i []) (get_or found (i + 1) []) u v (in_order_at found i (i + 1) h.in_order (omega arith) r));
     }
 
-  -- at the end, each order has a first order that leads to the same state
-  pub all_found : (found : List (List ℕ)) (i : ℕ) → length found ≤ i → IsUnderWay IsOrder can state found i 0 → (o : List ℕ) → IsOrder o → HasFirst state found o
-  all_found found i through h o is = by (length o) o refl is where
-    by : (n : ℕ) (o : List ℕ) → length o ≡ n → IsOrder o → HasFirst state found o
-    by zero [] e is = h.begun
-    by zero (v ∷ o) e is = absurd (omega arith)
-    by (suc n) o e is =
-        elim (ending o) [
-          | inl none ↦ absurd (let short = ap length none in omega arith)
-          | inr end ↦
-              let here : IsOrder (end.front ++ end.last ∷ []) = subst IsOrder end.is is in
-              let long = length_push end.front end.last in
-              let short = ap length end.is in
-              let before = by n end.front (omega arith) (on.front end.front end.last here) in
-              subst (HasFirst state found) (sym end.is) (next end.front end.last before here)
-        ] where
-          next : (p : List ℕ) (u : ℕ) → HasFirst state found p → IsOrder (p ++ u ∷ []) → HasFirst state found (p ++ u ∷ [])
-          next p u before is =
-              let at : get_or found before.is_found.0 [] ≡ before.first = get_or_default found before.is_found.0 [] before.first before.is_found.1 ∙ before.is_found.2 in
-              let can_u : can before.first u ≡ true = on.can_alike before.first p u before.same ∙ on.last p u is in
-              let low = before.is_found.1 in
-              let goes : HasFirst state found (before.first ++ u ∷ []) = subst (λ q. can q u ≡ true → HasFirst state found (q ++ u ∷ [])) at (h.behind before.is_found.0 u (omega arith)) can_u in
-              let same = on.state_alike before.first p u (on.more before.first u (h.are_orders before.first before.is_found) can_u) is before.same in
-              record {
-                first = goes.first;
-                is_found = goes.is_found;
-                same = goes.same ∙ same;
-                no_later = no_later_trans goes.first (before.first ++ u ∷ []) (p ++ u ∷ []) goes.no_later (no_later_push before.first p u before.no_later);
-              }
+  -- AT THE END
+
+  module _ (found : List (List ℕ)) (es : List Edge) (i : ℕ) (through : length found ≤ i) (h : Under found es i 0) where
+    -- each order has a first order that leads to the same state
+    pub all_found : (o : List ℕ) → IsOrder o → HasFirst state found o
+    all_found o is = by (length o) o refl is where
+      by : (n : ℕ) (o : List ℕ) → length o ≡ n → IsOrder o → HasFirst state found o
+      by zero [] e is = h.begun
+      by zero (v ∷ o) e is = absurd (omega arith)
+      by (suc n) o e is =
+          elim (ending o) [
+            | inl none ↦ absurd (let short = ap length none in omega arith)
+            | inr end ↦
+                let here : IsOrder (end.front ++ end.last ∷ []) = subst IsOrder end.is is in
+                let long = length_push end.front end.last in
+                let short = ap length end.is in
+                let before = by n end.front (omega arith) (on.front end.front end.last here) in
+                subst (HasFirst state found) (sym end.is) (next end.front end.last before here)
+          ] where
+            next : (p : List ℕ) (u : ℕ) → HasFirst state found p → IsOrder (p ++ u ∷ []) → HasFirst state found (p ++ u ∷ [])
+            next p u before is =
+                let j = before.is_found.0 in
+                let low = before.is_found.1 in
+                let at : get_or found j [] ≡ before.first = get_or_default found j [] before.first low ∙ before.is_found.2 in
+                let can_u : can before.first u ≡ true = on.can_alike before.first p u before.same ∙ on.last p u is in
+                let there = h.behind j u (omega arith) (ap (λ q. can q u) at ∙ can_u) in
+                let goes : HasFirst state found (before.first ++ u ∷ []) = subst (λ q. HasFirst state found (q ++ u ∷ [])) at (turn_first found (edge j u there.0) (h.are_turns (edge j u there.0) there.1)) in
+                let same = on.state_alike before.first p u (on.more before.first u (h.are_orders before.first before.is_found) can_u) is before.same in
+                record {
+                  first = goes.first;
+                  is_found = goes.is_found;
+                  same = goes.same ∙ same;
+                  no_later = no_later_trans goes.first (before.first ++ u ∷ []) (p ++ u ∷ []) goes.no_later (no_later_push before.first p u before.no_later);
+                }
+
+    -- WAYS FROM PLACE TO PLACE
+
+    is_order_at : (j : ℕ) → j < length found → IsOrder (get_or found j [])
+    is_order_at j low = h.are_orders (get_or found j []) (Contains-get_or found j [] low)
+
+    -- turns that lead from place to place can be taken after any order to the state of the first, and lead to that of the last
+    pub leads_on : (us : List ℕ) (j k : ℕ) (o : List ℕ) → j < length found → IsOrder o → state o ≡ state (get_or found j []) → Leads es j us k → IsOrder (o ++ us) × (state (o ++ us) ≡ state (get_or found k [])) × (k < length found)
+    unfolding Leads
+    leads_on [] j k o low is same l =
+        (subst IsOrder (sym (append-nil o)) is, ap state (append-nil o) ∙ same ∙ ap (λ n. state (get_or found n [])) l, subst (λ n. n < length found) l low)
+    leads_on (u ∷ us) j k o low is same l =
+        let t = h.are_turns (edge j u l.0) l.1 in
+        let can_u : can o u ≡ true = on.can_alike o (get_or found j []) u same ∙ t.can_turn in
+        let there = on.more o u is can_u in
+        let first = on.state_alike o (get_or found j []) u there (on.more (get_or found j []) u (is_order_at j low) t.can_turn) same in
+        subst (λ q. IsOrder q × (state q ≡ state (get_or found k [])) × (k < length found)) (append_assoc o (u ∷ []) us)
+        (leads_on us l.0 k (o ++ u ∷ []) t.to_there there (first ∙ sym t.same) l.2)
+
+    -- an order that goes on from an order to the state of a place leads on from that place
+    pub has_way : ((p vs : List ℕ) → IsOrder (p ++ vs) → IsOrder p) → (us : List ℕ) (j : ℕ) (o : List ℕ) → j < length found → state o ≡ state (get_or found j []) → IsOrder (o ++ us) → (k : ℕ) × (k < length found) × Leads es j us k
+    unfolding Leads
+    has_way front [] j o low same is = (j, low, refl)
+    has_way front (u ∷ us) j o low same is =
+        let on_again : IsOrder ((o ++ u ∷ []) ++ us) = subst IsOrder (sym (append_assoc o (u ∷ []) us)) is in
+        let there = front (o ++ u ∷ []) us on_again in
+        let can_j : can (get_or found j []) u ≡ true = on.can_alike (get_or found j []) o u (sym same) ∙ on.last o u there in
+        let found_edge = h.behind j u (omega (arith, low, through)) can_j in
+        let t = h.are_turns (edge j u found_edge.0) found_edge.1 in
+        let first = on.state_alike o (get_or found j []) u there (on.more (get_or found j []) u (is_order_at j low) can_j) same in
+        let rest = has_way front us found_edge.0 (o ++ u ∷ []) t.to_there (first ∙ sym t.same) on_again in
+        (rest.0, rest.1, (found_edge.0, found_edge.1, rest.2))
+
+    -- two places have different states
+    pub one_place : (j k : ℕ) → j < length found → k < length found → state (get_or found j []) ≡ state (get_or found k []) → j ≡ k
+    one_place j k low high same = elim (cases_lt j k) [
+      | inl below ↦ absurd (apart_at state found j k h.apart below high same)
+      | inr above ↦ elim (cases_lt k j) [
+        | inl below ↦ absurd (apart_at state found k j h.apart below low (sym same))
+        | inr equal ↦ omega (arith, above, equal)
+      ]
+    ]
+
+    -- the first order to the state of a place is no later than any other to it
+    pub no_later_at : (j : ℕ) (o : List ℕ) → j < length found → IsOrder o → state (get_or found j []) ≡ state o → IsNoLater (get_or found j []) o
+    no_later_at j o low is same =
+        let first = all_found o is in
+        let k = first.is_found.0 in
+        let at : get_or found k [] ≡ first.first = get_or_default found k [] first.first first.is_found.1 ∙ first.is_found.2 in
+        let equal = one_place j k low first.is_found.1 (same ∙ sym first.same ∙ ap state (sym at)) in
+        subst (λ p. IsNoLater p o) (sym (ap (λ n. get_or found n []) equal ∙ at)) first.no_later
 
 -- RESULTS
 

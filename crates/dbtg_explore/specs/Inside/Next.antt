@@ -40,4 +40,5 @@ pub record Reaches (m : Meeting) (o : List ℕ) (old new : search.Search) (n : �
   pub keeps : Grow old.numbers new.numbers
   pub seen : AreSeen m new.numbers.contents new.seen
   pub found_is : new.found ≡ old.found
+  pub edges_are : new.edges.items ≡ old.edges.items
   pub limit_is : new.limit ≡ old.limit

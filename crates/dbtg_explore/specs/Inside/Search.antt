@@ -1,6 +1,8 @@
 -- What a search holds, stated for whatever it needs of orders: which there are, what can follow one, and the state to which one leads.
--- o and p are orders, u and v units, found are the orders that are found, i is the place of one of them.
+-- o and p are orders, u and v units, found are the orders that are found, i is the place of one of them, e is a turn from one to another.
 use Rattle.std.specs.Prelude.{ℕ, ◌≡◌, ◌<◌, ◌≤◌, Bool, true, List, [], ◌∷◌, ◌++◌, Contains, length, slice_index_or}
+use Rattle.dbtg_rounds.specs.Rounds.{HasEdge}
+use Rattle.dbtg_rounds.specs.declared.edge.Edge.{Edge}
 use Rattle.dbtg_explore.specs.Orders.{IsBefore, IsNoLater}
 use Rattle.dbtg_explore.specs.Pairwise.{ArePairwise}
 
@@ -15,14 +17,24 @@ pub record HasFirst {S : Type 0} (state : List ℕ → S) (found : List (List �
 abbrev pub LeadApart : {S : Type 0} → (List ℕ → S) → List ℕ → List ℕ → Type 0
 LeadApart state o p = state o ≡ state p → ⊥
 
--- the search is at place i and unit u: it has gone on from all earlier places by each unit, and from this one by each unit below u
-pub record IsUnderWay {S : Type 0} (IsOrder : List ℕ → Type 0) (can : List ℕ → ℕ → Bool) (state : List ℕ → S) (found : List (List ℕ)) (i u : ℕ) : Type 0 where
+-- a turn after the order at one place leads to the state of the order at another, which is no later
+pub record IsTurn {S : Type 0} (can : List ℕ → ℕ → Bool) (state : List ℕ → S) (found : List (List ℕ)) (e : Edge) : Type 0 where
+  pub from_there : e.from < length found
+  pub to_there : e.to < length found
+  pub can_turn : can (slice_index_or found e.from []) e.unit ≡ true
+  pub same : state (slice_index_or found e.to []) ≡ state (slice_index_or found e.from [] ++ e.unit ∷ [])
+  pub no_later : IsNoLater (slice_index_or found e.to []) (slice_index_or found e.from [] ++ e.unit ∷ [])
+
+-- the search is at place i and unit u: it has noted the turns of each unit after the orders at all earlier places, and of each unit below u
+-- after this one
+pub record IsUnderWay {S : Type 0} (IsOrder : List ℕ → Type 0) (can : List ℕ → ℕ → Bool) (state : List ℕ → S) (found : List (List ℕ)) (edges : List Edge) (i u : ℕ) : Type 0 where
   pub are_orders : (o : List ℕ) → Contains found o → IsOrder o
   pub apart : ArePairwise (LeadApart state) found
   pub in_order : ArePairwise IsBefore found
   pub begun : HasFirst state found []
-  pub behind : (j v : ℕ) → j < i → can (slice_index_or found j []) v ≡ true → HasFirst state found (slice_index_or found j [] ++ v ∷ [])
-  pub here : (v : ℕ) → v < u → can (slice_index_or found i []) v ≡ true → HasFirst state found (slice_index_or found i [] ++ v ∷ [])
+  pub are_turns : (e : Edge) → Contains edges e → IsTurn can state found e
+  pub behind : (j v : ℕ) → j < i → can (slice_index_or found j []) v ≡ true → (k : ℕ) × HasEdge edges j v k
+  pub here : (v : ℕ) → v < u → can (slice_index_or found i []) v ≡ true → (k : ℕ) × HasEdge edges i v k
   pub earlier : (o : List ℕ) (v : ℕ) → i < length found → Contains found o → u ≤ v → IsBefore o (slice_index_or found i [] ++ v ∷ [])
 
 -- RESULTS

@@ -14,7 +14,7 @@ can_follow m o u = can_turn m (history_of m o) u
 
 -- the search is at place i and unit u, has each order with the number of its state, and knows of what it has seen where it leads
 pub record IsAt (m : Meeting) (i u : ℕ) (s : given.Search) : Type 0 where
-  pub under_way : IsUnderWay (IsOrder m) (can_follow m) (essence_of m) s.found.orders i u
+  pub under_way : IsUnderWay (IsOrder m) (can_follow m) (essence_of m) s.found.orders s.edges.items i u
   pub known : AreNumbered m s.numbers s.found.keys s.found.orders
   pub seen : AreSeen m s.numbers.contents s.seen
   pub few : length s.found.orders ≤ s.limit
