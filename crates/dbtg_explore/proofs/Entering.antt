@@ -1,6 +1,6 @@
 -- Keys without repetition, seen by what they say.
 -- ks are keys, k is a key, items gives what a key says, alike tests whether two keys say the same.
-use Rattle.std.proofs.Common.{◌≡◌, refl, sym, ◌∙◌, ap, subst, ℕ, Bool, true, false, not, List, [], ◌∷◌, ◌++◌, map, inl, inr, if◌then◌else◌}
+use Rattle.std.proofs.Common.{◌≡◌, refl, sym, ◌∙◌, ap, subst, ℕ, Bool, true, false, not, List, [], ◌∷◌, ◌++◌, map, inl, inr, if◌then◌else◌, Some, slice_get}
 use Rattle.std.specs.Prelude.{◌==◌, ◌↔◌, Contains}
 use Rattle.std.specs.List.{list_any}
 use Rattle.std.proofs.lemmas.Bool.{cases_Bool, eq-eqb, eqb-true, or_parts, true≢false}
@@ -70,6 +70,10 @@ all_same (n ∷ ns) = ap (λ l. n ∷ l) (all_same ns)
 
 same_or_not : (j k : ℕ) → ((j == k) ≡ true) ↔ (j ≡ k)
 same_or_not j k = (eqb-true j k, eq-eqb j k)
+
+-- a number stands where one stands that equals it
+pub number_stored : (ks : List ℕ) (i n : ℕ) → (k : ℕ) × (slice_get ks i ≡ Some k) × ((n == k) ≡ true) → slice_get ks i ≡ Some n
+number_stored ks i n h = h.1 ∙ ap Some (sym (eqb-true n h.0 h.2))
 
 module _ (ks new_ks : List ℕ) (k : ℕ) (is_new : Bool) (told : is_new ≡ not (list_any (λ j. k == j) ks)) (are : new_ks ≡ (if list_any (λ j. k == j) ks then ks else ks ++ k ∷ [])) (orders : List (List ℕ)) (old : FoundOrders ℕ) (old_is : record { keys = ks; orders = orders } ≡ old) (order : List ℕ) where
   pub number_entered : (new_orders : List (List ℕ)) → is_new ≡ true → new_orders ≡ orders ++ order ∷ [] → IsEntered old k order (record { keys = new_ks; orders = new_orders })

@@ -1,66 +1,117 @@
--- A way round, as the code follows it.
--- m is a meeting, u is a unit, o is an order.
-use Rattle.std.proofs.Common.{◌≡◌, refl, sym, ◌∙◌, ap, subst, ℕ, zero, suc, ◌+◌, ◌<◌, ◌≤◌, ◌==◌, true, false, List, ◌++◌, length, arith, inl, inr, true≢false}
+-- Ways round: those of the turns that a search has noted are those of the meeting.
+-- m is a meeting, u a unit, i, j and k are places of orders that are found, e is a turn from one to another, o a way round.
+use Rattle.std.proofs.Common.{◌≡◌, refl, sym, ◌∙◌, ap, subst, ℕ, ◌+◌, ◌<◌, ◌≤◌, true, List, [], ◌∷◌, ◌++◌, length, get_or, arith, inl, inr}
 use Rattle.std.specs.Prelude.{Contains}
 use Rattle.std.proofs.lemmas.Bool.{cases_lt}
-use Rattle.dbtg_unit.specs.declared.unit.Entry.{Entry}
-use Rattle.dbtg_explore.specs.declared.walk.Walk.{Walk}
+use Rattle.std.proofs.lemmas.List.{get_or_default}
+use Rattle.std.proofs.lemmas.List.Elements.{Contains-get_or}
+use Rattle.dbtg_rounds.specs.Rounds.{AreWithin, HasEdge, IsRound, Leads}
+use Rattle.dbtg_rounds.specs.declared.edge.Edge.{Edge}
+use Rattle.dbtg_explore.specs.declared.explored.Endless.{Endless}
+use Rattle.dbtg_explore.specs.declared.search.Search as given
 use Rattle.dbtg_explore.specs.Explored.{IsEndless}
-use Rattle.dbtg_outcomes.specs.Numbers.{Grow, Numbers}
-use Rattle.dbtg_explore.specs.Inside.Parts.{IsNumberOf}
-use Rattle.dbtg_explore.specs.Inside.Walks.{Stands, StandsAt, order_of}
-use Rattle.dbtg_explore.specs.Inside.Rounds.{ComesBack, HasEach}
-use Rattle.dbtg_explore.specs.Orders.{IsMeeting, Meeting, can_turn}
-use Rattle.dbtg_explore.proofs.Numbered.{number_later}
-use Rattle.dbtg_explore.proofs.Parts.{same_state}
-use Rattle.dbtg_explore.proofs.Steps.{none_before, none_beyond}
+use Rattle.dbtg_explore.specs.Inside.Search.{HasFirst}
+use Rattle.dbtg_explore.specs.Inside.Steps.{IsAt, can_follow}
+use Rattle.dbtg_explore.specs.Orders.{IsNoLater, IsOrder, Meeting, beginning}
+use Rattle.dbtg_explore.specs.States.{essence_of}
+use Rattle.dbtg_explore.proofs.Before.{no_later_trans}
+use Rattle.dbtg_explore.proofs.Searched.{all_found, has_way, in_order_at, leads_on, no_later_at, one_place}
+use Rattle.dbtg_explore.proofs.Steps.{goes_on}
+use Rattle.dbtg_explore.proofs.Turning.{follow_front}
 
--- units up to n have turns in the round, if they can have any
-abbrev pub HasEachTo : Meeting → List Entry → List ℕ → ℕ → Type 0
-HasEachTo m history round n = (u : ℕ) → u ≤ n → can_turn m history u ≡ true → Contains round u
+module _ (m : Meeting) (s : given.Search) (at : IsAt m (length s.found.orders) 0 s) where
+  abbrev orders : List (List ℕ)
+  orders = s.found.orders
 
-pub is_some : (n : ℕ) → false ≡ (n == 0) → 0 < n
-is_some zero e = absurd (true≢false (sym e))
-is_some (suc n) e = omega arith
+  abbrev edges : List Edge
+  edges = s.edges.items
 
-module _ (m : Meeting) where
-  cannot_before : (history : List Entry) → can_turn m history 0 ≡ false
-  cannot_before history = rw (none_before m.programs) refl
+  abbrev order_at : ℕ → List ℕ
+  order_at i = get_or orders i []
 
-  cannot_beyond : (history : List Entry) (u : ℕ) → length m.programs < u → can_turn m history u ≡ false
-  cannot_beyond history u h = rw (none_beyond m.programs u h) refl
+  pub are_within : AreWithin (length orders) edges
+  are_within e c = let t = at.under_way.are_turns e c in (t.from_there, t.to_there)
 
-  pub has_first : (history : List Entry) (round : List ℕ) → HasEachTo m history round 0
-  has_first history round u low can =
-      let is : u ≡ 0 = omega arith in
-      absurd (true≢false (sym can ∙ ap (can_turn m history) is ∙ cannot_before history))
+  is_order_at : (i : ℕ) → i < length orders → IsOrder m (order_at i)
+  is_order_at i low = at.under_way.are_orders (order_at i) (Contains-get_or orders i [] low)
 
-  pub has_next : (history : List Entry) (round : List ℕ) (n : ℕ) → HasEachTo m history round n → (can_turn m history (n + 1) ≡ true → Contains round (n + 1)) → HasEachTo m history round (n + 1)
-  has_next history round n h one u low can =
-      elim (cases_lt n u) [
-        | inl above ↦ let is : u ≡ n + 1 = omega arith in subst (Contains round) (sym is) (one (sym (ap (can_turn m history) is) ∙ can))
-        | inr below ↦ h u (omega arith) can
+  front : (p vs : List ℕ) → IsOrder m (p ++ vs) → IsOrder m p
+  front p vs is = follow_front m (beginning m) p vs is
+
+  -- a way round among the turns begins at a place
+  pub begins_within : (start : ℕ) (units : List ℕ) → IsRound edges start units → start < length orders
+  begins_within start units round = by units round.goes round.comes_back where
+    by : (us : List ℕ) → 0 < length us → Leads edges start us start → start < length orders
+    unfolding Leads
+    by [] some l = absurd (omega (arith, some))
+    by (u ∷ us) some l = (at.under_way.are_turns (record { from = start; unit = u; to = l.0 }) l.1).from_there
+
+  -- and is one of the meeting
+  pub is_endless : (start : ℕ) (units : List ℕ) → IsRound edges start units → IsEndless m (record { turns = order_at start; round = units })
+  is_endless start units round =
+      let low = begins_within start units round in
+      let on = leads_on (IsOrder m) (can_follow m) (essence_of m) (goes_on m) orders edges (length orders) (omega arith) at.under_way units start start (order_at start) low (is_order_at start low) refl round.comes_back in
+      record {
+        is_order = on.0;
+        comes_back = on.1;
+        goes = round.goes;
+        fair = λ u can. let turn = at.under_way.behind start u low can in round.fair u turn.0 turn.1;
+      }
+
+  record HasRound (o : Endless) : Type 0 where
+    start : ℕ
+    low : start < length orders
+    same : essence_of m (order_at start) ≡ essence_of m o.turns
+    round : IsRound edges start o.round
+
+  -- each way round of the meeting is one among the turns
+  has_round : (o : Endless) → IsEndless m o → HasRound o
+  has_round o is = record {
+    start = k;
+    low = low;
+    same = same;
+    round = record {
+      goes = is.goes;
+      comes_back = subst (Leads edges k o.round) back way.2;
+      fair = λ u j c.
+          let turn = at.under_way.are_turns (record { from = k; unit = u; to = j }) c in
+          is.fair u ((goes_on m).can_alike o.turns (order_at k) u (sym same) ∙ turn.can_turn);
+    };
+  } where
+    turns_are : IsOrder m o.turns
+    turns_are = front o.turns o.round is.is_order
+
+    first : HasFirst (essence_of m) orders o.turns
+    first = all_found (IsOrder m) (can_follow m) (essence_of m) (goes_on m) orders edges (length orders) (omega arith) at.under_way o.turns turns_are
+
+    k : ℕ
+    k = first.is_found.0
+
+    low : k < length orders
+    low = first.is_found.1
+
+    same : essence_of m (order_at k) ≡ essence_of m o.turns
+    same = ap (essence_of m) (get_or_default orders k [] first.first first.is_found.1 ∙ first.is_found.2) ∙ first.same
+
+    way : (j : ℕ) × (j < length orders) × Leads edges k o.round j
+    way = has_way (IsOrder m) (can_follow m) (essence_of m) (goes_on m) orders edges (length orders) (omega arith) at.under_way front o.round k o.turns low (sym same) is.is_order
+
+    back : way.0 ≡ k
+    back =
+        let on = leads_on (IsOrder m) (can_follow m) (essence_of m) (goes_on m) orders edges (length orders) (omega arith) at.under_way o.round k way.0 o.turns low turns_are (sym same) way.2 in
+        one_place (IsOrder m) (can_follow m) (essence_of m) (goes_on m) orders edges (length orders) (omega arith) at.under_way way.0 k way.1 low (sym on.1 ∙ is.comes_back ∙ sym same)
+
+  -- if there is none among the turns, the meeting has none
+  pub none_endless : ((start : ℕ) (units : List ℕ) → IsRound edges start units → ⊥) → (o : Endless) → IsEndless m o → ⊥
+  none_endless none o is = let has = has_round o is in none has.start o.round has.round
+
+  -- that of the first place is no later than any other
+  pub first_endless : (start : ℕ) → start < length orders → ((k : ℕ) (units : List ℕ) → IsRound edges k units → start ≤ k) → (o : Endless) → IsEndless m o → IsNoLater (order_at start) o.turns
+  first_endless start within first o is =
+      let has = has_round o is in
+      let le = first has.start o.round has.round in
+      let later : IsNoLater (order_at has.start) o.turns = no_later_at (IsOrder m) (can_follow m) (essence_of m) (goes_on m) orders edges (length orders) (omega arith) at.under_way has.start o.turns has.low (front o.turns o.round is.is_order) has.same in
+      elim (cases_lt start has.start) [
+        | inl below ↦ no_later_trans (order_at start) (order_at has.start) o.turns (inr (in_order_at orders start has.start at.under_way.in_order below has.low)) later
+        | inr above ↦ let same : has.start ≡ start = omega (arith, le, above) in subst (λ i. IsNoLater (order_at i) o.turns) same later
       ]
-
-  pub has_all : (history : List Entry) (round : List ℕ) (n : ℕ) → n ≡ length m.programs → HasEachTo m history round n → HasEach m history round
-  has_all history round n is h u can =
-      elim (cases_lt (length m.programs) u) [
-        | inl beyond ↦ absurd (true≢false (sym can ∙ cannot_beyond history u beyond))
-        | inr within ↦ h u (omega arith) can
-      ]
-
-  pub come_back : IsMeeting m → (round : List ℕ) (n : ℕ) (a b : Numbers) (old new : Walk) → IsNumberOf m a old.database.making.history n → Stands m old → Grow a b → IsNumberOf m b new.database.making.history n → StandsAt m (order_of old.turns.items ++ round) new
-      → ComesBack m (order_of old.turns.items) round
-  come_back meets round n a b old new before at grown after there =
-      let o = order_of old.turns.items in
-      let first = subst (λ (es : List Entry). IsNumberOf m b es n) there.history_is after in
-      let last = subst (λ (es : List Entry). IsNumberOf m b es n) at.history_is (number_later m a b after.number.kept_once grown old.database.making.history n before) in
-      record { is_order = there.is_order; same = same_state m meets b (o ++ round) o n first last }
-
-  pub goes_for_ever : (round : List ℕ) (old : Walk) → 0 < length round → HasEach m old.database.making.history round → Stands m old → ComesBack m (order_of old.turns.items) round → IsEndless m (record { turns = order_of old.turns.items; round = round })
-  goes_for_ever round old some each at back = record {
-    is_order = back.is_order;
-    comes_back = back.same;
-    goes = some;
-    fair = λ u can. each u (ap (λ (es : List Entry). can_turn m es u) at.history_is ∙ can);
-  }

@@ -1,12 +1,14 @@
 -- The steps of a search, as the code makes them.
--- m is a meeting, o and p are orders, u is a unit, i is the place of an order that is found.
-use Rattle.std.proofs.Common.{◌≡◌, refl, sym, ◌∙◌, ap, subst, ℕ, zero, suc, ◌+◌, ◌<◌, ◌≤◌, true, false, List, [], ◌∷◌, ◌++◌, append_assoc, append-nil, length, length-append, map, get_or, None, arith, inl, inr, ⊎_elim}
+-- m is a meeting, o and p are orders, u is a unit, i and k are places of orders that are found, es are turns that are noted.
+use Rattle.std.proofs.Common.{◌≡◌, refl, sym, ◌∙◌, ap, subst, ℕ, zero, suc, ◌+◌, ◌<◌, ◌≤◌, true, false, List, [], ◌∷◌, ◌++◌, append_assoc, append-nil, length, length-append, map, get_or, None, Some, arith, inl, inr, ⊎_elim}
 use Rattle.std.specs.Prelude.{Contains, slice_get}
 use Rattle.std.proofs.lemmas.List.{get_or_append_left}
 use Rattle.std.proofs.lemmas.List.Elements.{Contains-get_or}
+use Rattle.std.proofs.lemmas.Option.{same_Some}
 use Rattle.dbtg_unit.specs.declared.unit.Entry.{Entry}
 use Rattle.dbtg_step.specs.Machine.SequentialDatabase.{unit_at}
 use Rattle.dbtg_outcomes.specs.Numbers.{Grow, Numbers}
+use Rattle.dbtg_rounds.specs.declared.edge.Edge.{Edge}
 use Rattle.dbtg_explore.specs.declared.search.Search as given
 use Rattle.dbtg_explore.specs.Inside.Found.{FoundOrders, IsEntered, IsPut}
 use Rattle.dbtg_explore.specs.Inside.Search.{IsUnderWay}
@@ -16,7 +18,7 @@ use Rattle.dbtg_explore.specs.Inside.Transitions.{AreSeen}
 use Rattle.dbtg_explore.specs.Orders.{IsMeeting, IsOrder, Meeting, beginning, can_turn, history_of}
 use Rattle.dbtg_explore.specs.States.{HasMoreStates, essence_of}
 use Rattle.dbtg_explore.proofs.Alike.{can_turn_alike, same_after}
-use Rattle.dbtg_explore.proofs.Numbered.{numbered_later, numbered_more, numbered_order, order_numbered}
+use Rattle.dbtg_explore.proofs.Numbered.{numbered_later, numbered_long, numbered_more, order_numbered, state_at}
 use Rattle.dbtg_explore.proofs.Parts.{same_number, same_state}
 use Rattle.dbtg_explore.proofs.Searched.{GoOn, at_beginning, contains_behind, contains_cases, contains_here, contains_none, known_state, new_state, next_place, no_turn}
 use Rattle.dbtg_explore.proofs.Turning.{follow_front, last_can, none_follow, order_on}
@@ -72,7 +74,7 @@ module _ (m : Meeting) where
     state_alike = λ o p u _ _ e. same_after m o p u e;
   }
 
-  abbrev Under : List (List ℕ) → ℕ → ℕ → Type 0
+  abbrev Under : List (List ℕ) → List Edge → ℕ → ℕ → Type 0
   Under = IsUnderWay (IsOrder m) (can_follow m) (essence_of m)
 
   -- the first order of all
@@ -80,11 +82,11 @@ module _ (m : Meeting) where
     begins : found.orders ≡ [] ∷ []
     begins = ap (λ (f : FoundOrders ℕ). f.orders) is
 
-    pub at_first : (s : given.Search) → s.found ≡ found → IsNumberOf m s.numbers (history_of m []) n → AreSeen m s.numbers.contents s.seen → length found.orders ≤ s.limit → IsAt m 0 0 s
-    at_first s found_is number seen few =
+    pub at_first : (s : given.Search) → s.found ≡ found → s.edges.items ≡ [] → IsNumberOf m s.numbers (history_of m []) n → AreSeen m s.numbers.contents s.seen → length found.orders ≤ s.limit → IsAt m 0 0 s
+    at_first s found_is edges_are number seen few =
         let orders : s.found.orders ≡ [] ∷ [] = ap (λ (f : FoundOrders ℕ). f.orders) found_is ∙ begins in
         record {
-          under_way = subst (λ os. Under os 0 0) (sym orders) (at_beginning (IsOrder m) (can_follow m) (essence_of m) goes_on);
+          under_way = subst (λ os. Under os s.edges.items 0 0) (sym orders) (subst (λ es. Under ([] ∷ []) es 0 0) (sym edges_are) (at_beginning (IsOrder m) (can_follow m) (essence_of m) goes_on));
           known = subst (λ (f : FoundOrders ℕ). AreNumbered m s.numbers f.keys f.orders) (sym (found_is ∙ is)) (number, tt);
           seen = seen;
           few = let long = ap (λ (f : FoundOrders ℕ). length f.orders) found_is in omega arith;
@@ -92,15 +94,27 @@ module _ (m : Meeting) where
 
     pub over_first : (limit : ℕ) → limit < length found.orders → HasMoreStates m limit
     over_first limit more =
-        let way = subst (λ os. Under os 0 0) (sym begins) (at_beginning (IsOrder m) (can_follow m) (essence_of m) goes_on) in
+        let way = subst (λ os. Under os [] 0 0) (sym begins) (at_beginning (IsOrder m) (can_follow m) (essence_of m) goes_on) in
         record { orders = found.orders; are_apart = record { are_orders = way.are_orders; apart = way.apart }; more = more }
 
   -- ONE MORE TURN
 
-  record Turned (old new : FoundOrders ℕ) (i u : ℕ) : Type 0 where
-    way : Under new.orders i u
+  record Turned (old new : FoundOrders ℕ) (es : List Edge) (i u : ℕ) : Type 0 where
+    way : Under new.orders es i u
     more : List (List ℕ)
     kept : new.orders ≡ old.orders ++ more
+
+  -- the place of a new key is that behind all others
+  last_place : (ns : List ℕ) (n k : ℕ) → (Contains ns n → ⊥) → slice_get (ns ++ n ∷ []) k ≡ Some n → k ≡ length ns
+  last_place [] n zero absent at = refl
+  last_place [] n (suc k) absent at = absurd (cc)
+  last_place (j ∷ ns) n zero absent at = absurd (absent (subst (Contains (j ∷ ns)) (same_Some j n at) (contains_here j ns)))
+  last_place (j ∷ ns) n (suc k) absent at = ap suc (last_place ns n k (λ c. absent (contains_behind j ns n c)) at)
+
+  there_within : (ns : List ℕ) (n k : ℕ) → slice_get ns k ≡ Some n → (k < length ns) × (n ≡ get_or ns k 0)
+  there_within [] n k at = absurd (cc)
+  there_within (j ∷ ns) n zero at = (omega arith, sym (same_Some j n at))
+  there_within (j ∷ ns) n (suc k) at = let r = there_within ns n k at in let low = r.0 in (omega (arith, low), r.1)
 
   -- the order found at place i, with a turn of unit u
   abbrev turned : List (List ℕ) → ℕ → ℕ → List ℕ
@@ -114,26 +128,35 @@ module _ (m : Meeting) where
       known : AreNumbered m kept old.found.keys old.found.orders
       known = numbered_later m old.numbers kept number.number.kept_once grown old.found.keys old.found.orders at.known
 
-      known_turn : Contains old.found.keys n → Turned old.found old.found i (u + 1)
-      known_turn c =
-          let r = numbered_order m kept old.found.keys old.found.orders n known c in
+      -- a turn of the unit to the state at place k
+      abbrev with_turn : ℕ → List Edge
+      with_turn k = old.edges.items ++ record { from = i; unit = u; to = k } ∷ []
+
+      known_turn : (k : ℕ) → slice_get old.found.keys k ≡ Some n → Turned old.found old.found (with_turn k) i (u + 1)
+      known_turn k there =
+          let long = numbered_long m kept old.found.keys old.found.orders known in
+          let within = there_within old.found.keys n k there in
+          let below = within.0 in
+          let low : k < length old.found.orders = omega (arith, below, long) in
+          let same = same_state m meets kept (get_or old.found.orders k []) (turned old.found.orders i u) n (state_at m kept old.found.keys old.found.orders k n known low within.1) number in
           record {
-            way = known_state (IsOrder m) (can_follow m) (essence_of m) goes_on old.found.orders i u in_range at.under_way r.0 r.1 (same_state m meets kept r.0 (turned old.found.orders i u) n r.2 number);
+            way = known_state (IsOrder m) (can_follow m) (essence_of m) goes_on old.found.orders old.edges.items i u in_range at.under_way can k low same;
             more = [];
             kept = sym (append-nil old.found.orders);
           }
 
-      new_turn : (new : FoundOrders ℕ) → IsPut old.found n (turned old.found.orders i u) new → Turned old.found new i (u + 1)
-      new_turn new put = record {
-        way = subst (λ os. Under os i (u + 1)) (sym put.orders_are)
-            (new_state (IsOrder m) (can_follow m) (essence_of m) goes_on old.found.orders i u in_range at.under_way can (λ o c e.
+      new_turn : (new : FoundOrders ℕ) (k : ℕ) → IsPut old.found n (turned old.found.orders i u) new → slice_get new.keys k ≡ Some n → Turned old.found new (with_turn k) i (u + 1)
+      new_turn new k put there = record {
+        way = subst (λ os. Under os (with_turn k) i (u + 1)) (sym put.orders_are)
+            (subst (λ j. Under (old.found.orders ++ turned old.found.orders i u ∷ []) (with_turn j) i (u + 1)) (sym (last_place old.found.keys n k put.absent (subst (λ ns. slice_get ns k ≡ Some n) put.keys_are there) ∙ numbered_long m kept old.found.keys old.found.orders known))
+            (new_state (IsOrder m) (can_follow m) (essence_of m) goes_on old.found.orders old.edges.items i u in_range at.under_way can (λ o c e.
             let k = order_numbered m kept old.found.keys old.found.orders o known c in
-            put.absent (subst (Contains old.found.keys) (same_number m meets kept o (turned old.found.orders i u) k.0 n e k.2 number) k.1)));
+            put.absent (subst (Contains old.found.keys) (same_number m meets kept o (turned old.found.orders i u) k.0 n e k.2 number) k.1))));
         more = turned old.found.orders i u ∷ [];
         kept = put.orders_are;
       }
 
-      module _ (found : FoundOrders ℕ) (entered : IsEntered old.found n (turned old.found.orders i u) found) where
+      module _ (found : FoundOrders ℕ) (k : ℕ) (entered : IsEntered old.found n (turned old.found.orders i u) found) (there : slice_get found.keys k ≡ Some n) where
         -- each order still has its number
         still_numbered : AreNumbered m kept found.keys found.orders
         still_numbered =
@@ -143,17 +166,17 @@ module _ (m : Meeting) where
                   (subst (AreNumbered m kept (old.found.keys ++ n ∷ [])) (sym put.orders_are) (numbered_more m kept old.found.keys old.found.orders n (turned old.found.orders i u) known number))
             ]
 
-        has_turned : Turned old.found found i (u + 1)
+        has_turned : Turned old.found found (with_turn k) i (u + 1)
         has_turned =
             elim entered [
-              | inl same ↦ subst (λ f. Turned old.found f i (u + 1)) (sym same.1) (known_turn same.0)
-              | inr put ↦ new_turn found put
+              | inl same ↦ subst (λ f. Turned old.found f (with_turn k) i (u + 1)) (sym same.1) (known_turn k (subst (λ (f : FoundOrders ℕ). slice_get f.keys k ≡ Some n) same.1 there))
+              | inr put ↦ new_turn found k put there
             ]
 
         -- the search goes on
-        pub goes_further : (new : given.Search) → new.found ≡ found → new.numbers ≡ kept → AreSeen m new.numbers.contents new.seen → new.limit ≡ old.limit → length found.orders ≤ old.limit → Goes m i (u + 1) old new
-        goes_further new found_is numbers_is seen limit_is few =
-            let t = subst (λ (f : FoundOrders ℕ). Turned old.found f i (u + 1)) (sym found_is) has_turned in
+        pub goes_further : (new : given.Search) → new.found ≡ found → new.edges.items ≡ with_turn k → new.numbers ≡ kept → AreSeen m new.numbers.contents new.seen → new.limit ≡ old.limit → length found.orders ≤ old.limit → Goes m i (u + 1) old new
+        goes_further new found_is edges_are numbers_is seen limit_is few =
+            let t = subst (λ (f : FoundOrders ℕ). Turned old.found f new.edges.items i (u + 1)) (sym found_is) (subst (λ es. Turned old.found found es i (u + 1)) (sym edges_are) has_turned) in
             let long = ap (λ (f : FoundOrders ℕ). length f.orders) found_is in
             let numbered = subst (λ k. AreNumbered m k new.found.keys new.found.orders) (sym numbers_is) (subst (λ (f : FoundOrders ℕ). AreNumbered m kept f.keys f.orders) (sym found_is) still_numbered) in
             record { at = record { under_way = t.way; known = numbered; seen = seen; few = omega arith }; more = t.more; kept = t.kept; limit_is = limit_is }
@@ -168,7 +191,7 @@ module _ (m : Meeting) where
 
   pub stays : (s : given.Search) (i u : ℕ) (in_range : i < length s.found.orders) (at : IsAt m i u s) → can_follow m (get_or s.found.orders i []) u ≡ false → Goes m i (u + 1) s s
   stays s i u in_range at cannot = record {
-    at = record { under_way = no_turn (IsOrder m) (can_follow m) (essence_of m) goes_on s.found.orders i u in_range at.under_way cannot; known = at.known; seen = at.seen; few = at.few };
+    at = record { under_way = no_turn (IsOrder m) (can_follow m) (essence_of m) goes_on s.found.orders s.edges.items i u in_range at.under_way cannot; known = at.known; seen = at.seen; few = at.few };
     more = [];
     kept = sym (append-nil s.found.orders);
     limit_is = refl;
@@ -192,7 +215,7 @@ module _ (m : Meeting) where
   pub goes_to_next : (i : ℕ) (a b : given.Search) → i < length a.found.orders → Goes m i (length m.programs + 1) a b → Goes m (i + 1) 0 a b
   goes_to_next i a b low g = record {
     at = record {
-      under_way = next_place (IsOrder m) (can_follow m) (essence_of m) goes_on b.found.orders i (length m.programs + 1) (kept_range i i (length m.programs + 1) a b g low) g.at.under_way (λ v le. cannot_beyond (get_or b.found.orders i []) v (omega arith));
+      under_way = next_place (IsOrder m) (can_follow m) (essence_of m) goes_on b.found.orders b.edges.items i (length m.programs + 1) (kept_range i i (length m.programs + 1) a b g low) g.at.under_way (λ v le. cannot_beyond (get_or b.found.orders i []) v (omega arith));
       known = g.at.known;
       seen = g.at.seen;
       few = g.at.few;

@@ -1,7 +1,7 @@
 -- All states, and what they lead to.
 -- m is a meeting, o and p are orders, i is the place of an order that is found.
 use Rattle.std.proofs.Common.{◌≡◌, refl, sym, ◌∙◌, ap, subst, ℕ, ◌+◌, ◌<◌, ◌≤◌, Bool, true, false, List, [], ◌∷◌, ◌++◌, length, get_or, take, Option, None, Some, arith, if◌then◌else◌}
-use Rattle.std.specs.Prelude.{IfSome, option_and_then}
+use Rattle.std.specs.Prelude.{option_and_then}
 use Rattle.std.proofs.lemmas.List.{get_or-take, get_or_default, length-take, take-append-le, take_all, take_more}
 use Rattle.dbtg_program.specs.declared.program.End.{End}
 use Rattle.dbtg_program.specs.States.{ProgramState}
@@ -11,7 +11,7 @@ use Rattle.dbtg_explore.specs.declared.ends.Ends as ends
 use Rattle.dbtg_explore.specs.declared.explored.Explored as given
 use Rattle.dbtg_explore.specs.declared.explored.Failure.{Failure}
 use Rattle.dbtg_explore.specs.declared.search.Search as search
-use Rattle.dbtg_explore.specs.Explored.{IsEndless, IsExplored}
+use Rattle.dbtg_explore.specs.Explored.{IsExplored, IsFirstEndless}
 use Rattle.dbtg_explore.specs.Inside.Ends.{AreEndsOf, FailsIn, IsBehind, Notes}
 use Rattle.dbtg_explore.specs.Inside.Walks.{failure_by}
 use Rattle.dbtg_explore.specs.Inside.Search.{HasFirst}
@@ -93,7 +93,7 @@ module _ (m : Meeting) where
     noted = subst (λ os. AreEndsOf m os e) seen through.visited.ends
 
     first_of : (o : List ℕ) → IsOrder m o → HasFirst (essence_of m) s.found.orders o
-    first_of = all_found (IsOrder m) (can_follow m) (essence_of m) (goes_on m) s.found.orders (length s.found.orders) (omega arith) through.visited.at.under_way
+    first_of = all_found (IsOrder m) (can_follow m) (essence_of m) (goes_on m) s.found.orders s.edges.items (length s.found.orders) (omega arith) through.visited.at.under_way
 
     pub counts : CountsStates m (length s.found.orders)
     counts = record {
@@ -138,7 +138,7 @@ module _ (m : Meeting) where
     is_within = let few = through.visited.at.few in let same = through.limit_is in omega arith
 
     -- so everything is explored, except for ways round
-    pub is_explored : (all : given.Explored) → all.states ≡ length s.found.orders → all.results ≡ e.results.orders → all.failures ≡ e.failures.items → IfSome all.endless (IsEndless m) → IsExplored m all
+    pub is_explored : (all : given.Explored) → all.states ≡ length s.found.orders → all.results ≡ e.results.orders → all.failures ≡ e.failures.items → IsFirstEndless m all.endless → IsExplored m all
     is_explored all states_are results_are failures_are endless = record {
       states = subst (CountsStates m) (sym states_are) counts;
       results = subst (AreResults m) (sym results_are) are_results;

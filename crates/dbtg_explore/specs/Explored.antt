@@ -1,9 +1,9 @@
 -- Everything that programs can come to when they meet.
--- m is a meeting, u a unit.
-use Rattle.std.specs.Prelude.{ℕ, ◌≡◌, ◌<◌, ◌++◌, true, IfSome, Contains, length}
+-- m is a meeting, u a unit, e and o are ways round.
+use Rattle.std.specs.Prelude.{ℕ, ◌≡◌, ◌<◌, ◌++◌, true, Option, Some, None, Contains, length}
 use Rattle.dbtg_explore.specs.declared.explored.Endless.{Endless}
 use Rattle.dbtg_explore.specs.declared.explored.Explored as given
-use Rattle.dbtg_explore.specs.Orders.{IsOrder, Meeting, can_turn, history_of}
+use Rattle.dbtg_explore.specs.Orders.{IsNoLater, IsOrder, Meeting, can_turn, history_of}
 use Rattle.dbtg_explore.specs.Results.{AreFailures, AreResults}
 use Rattle.dbtg_explore.specs.States.{CountsStates, essence_of}
 
@@ -15,9 +15,14 @@ pub record IsEndless (m : Meeting) (e : Endless) : Type 0 where
   pub goes : 0 < length e.round
   pub fair : (u : ℕ) → can_turn m (history_of m e.turns) u ≡ true → Contains e.round u
 
--- the number of states, all results, all failures, and perhaps a way round
+-- a way round to which no other's turns lead earlier; or there is no way round
+abbrev pub IsFirstEndless : Meeting → Option Endless → Type 0
+IsFirstEndless m (Some e) = IsEndless m e × ((o : Endless) → IsEndless m o → IsNoLater e.turns o.turns)
+IsFirstEndless m None = (o : Endless) → IsEndless m o → ⊥
+
+-- the number of states, all results, all failures, and a way round if there is one
 pub record IsExplored (m : Meeting) (all : given.Explored) : Type 0 where
   pub states : CountsStates m all.states
   pub results : AreResults m all.results
   pub failures : AreFailures m all.failures
-  pub endless : IfSome all.endless (IsEndless m)
+  pub endless : IsFirstEndless m all.endless

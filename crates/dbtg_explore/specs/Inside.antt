@@ -7,7 +7,6 @@ pub mod Keys
 pub mod Links
 pub mod Next
 pub mod Parts
-pub mod Rounds
 pub mod Search
 pub mod Standing
 pub mod Steps

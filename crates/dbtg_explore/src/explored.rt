@@ -33,7 +33,8 @@ pub struct Endless {
     pub round: Row<u8>,
 }
 
-/// Everything that programs can come to: how many states there are, the turns that lead to each result, the failures, and maybe a way round.
+/// Everything that programs can come to: how many states there are, the turns that lead to each result, the failures, and a way round if
+/// there is one.
 #[derive(Drop)]
 pub struct Explored {
     pub states: u64,
@@ -130,9 +131,9 @@ fn explored_by<'a, W: Watch>(
     ensures within { IfOk result (λ all. all.states ≤ limit) }
     ensures stopped { IfErr result (λ stop. stop ≡ States → HasMoreStates meeting.now limit) }
 {
-    let (mut search, ends) = visit_all(alloc, watch, meeting, walk, limit)?;
+    let (search, ends) = visit_all(alloc, watch, meeting, walk, limit)?;
     let states = search.found.len() as u64;
-    let endless = endless_in(alloc, meeting, walk, &mut search)?;
+    let endless = endless_in(alloc, search)?;
     let Ends { results, failures } = ends;
     Ok(Explored {
         states,

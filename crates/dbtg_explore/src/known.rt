@@ -1,7 +1,7 @@
 //! States that were found, each by the first order that leads there.
 
 ghost use Rattle.dbtg_explore.specs.Inside.Found.{IsEntered};
-ghost use Rattle.std.specs.Prelude.{◌≡◌, ◌<◌, ◌++◌, ◌∷◌, [], length, slice_index_or, IfOk, OnOk};
+ghost use Rattle.std.specs.Prelude.{◌≡◌, ◌<◌, ◌++◌, ◌∷◌, [], Some, length, slice_get, slice_index_or, IfOk, OnOk};
 
 use crate::orders::Orders;
 use indexmap::IndexSet;
@@ -60,10 +60,11 @@ impl Known {
         self.orders.order(alloc, place)
     }
 
-    /// Appends the state to which one turn more leads, if its number is new. Gives its place.
+    /// Appends the state to which one turn more leads, if its number is new. Gives the number's place.
     pub fn enter(&mut self, number: u32, before: usize, unit: u8) -> Result<usize, AllocError>
         requires { before < length self.old.orders }
-        ensures { OnOk result (IsEntered self.old number (slice_index_or self.old.orders before [] ++ unit ∷ []) self.new) }
+        ensures entered { OnOk result (IsEntered self.old number (slice_index_or self.old.orders before [] ++ unit ∷ []) self.new) }
+        ensures place { IfOk result (λ place. slice_get self.new.keys place ≡ Some number) }
     {
         let (place, is_new) = self.keys.insert_full(number)?;
         if is_new {

@@ -6,7 +6,6 @@ mod ends;
 mod explored;
 mod failures;
 mod found;
-mod graph;
 mod key;
 mod known;
 mod laws;
