@@ -1,2 +1,5 @@
 pub mod Walks
 pub mod Leading
+pub mod Ranks
+pub mod Rows
+pub mod SameEdges

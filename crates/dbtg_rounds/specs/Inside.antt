@@ -3,3 +3,4 @@
 pub mod CutOff
 pub mod Graphs
 pub mod Reaching
+pub mod Ruling

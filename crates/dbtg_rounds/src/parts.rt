@@ -1,5 +1,7 @@
 //! A guess at the parts of a graph: states from each of which turns lead to all others. What counts on it is checked first.
 
+ghost use Rattle.std.specs.Prelude.{◌≡◌, length, IfOk};
+
 use crate::graph::Graph;
 use std::alloc::{AllocError, Global};
 
@@ -61,7 +63,9 @@ pub(crate) fn guess_ranks(
     alloc: Global,
     graph: &Graph,
     back: &Graph,
-) -> Result<Vec<usize>, AllocError> {
+) -> Result<Vec<usize>, AllocError>
+    ensures { IfOk result (λ ranks. length ranks.items ≡ graph.now.states) }
+{
     let states = graph.states();
     let steps = graph
         .edges()
@@ -74,7 +78,7 @@ pub(crate) fn guess_ranks(
     let mut marks = Vec::from_elem(alloc, false, states)?;
     for (behind, last) in order.iter().rev().enumerate() {
         let part = led_to(alloc, back, *last, marks.as_mut_slice(), steps)?;
-        rank_each(ranks.as_mut_slice(), part.as_slice(), states - behind);
+        rank_each(ranks.as_mut_slice(), part.as_slice(), states.saturating_sub(behind));
     }
     Ok(ranks)
 }

@@ -1,45 +1,88 @@
 //! States in which no way round can begin, as ranks show that fall along ways.
 
-ghost use Rattle.std.specs.Prelude.{◌≡◌, ℕ, List, length, IfOk};
-ghost use Rattle.dbtg_rounds.specs.Rounds.{IsRound};
+ghost use Rattle.std.specs.Prelude.{◌≡◌, ◌≢◌, ◌==◌, ◌⊎◌, ◌<◌, ℕ, List, true, Contains, length, IfOk};
+ghost use Rattle.dbtg_rounds.specs.Rounds.{AreWithin, IsRound};
+ghost use Rattle.dbtg_rounds.specs.declared.edge.Edge.{Edge as EdgeOf};
 ghost use Rattle.dbtg_rounds.specs.Inside.Graphs.{AreReversed};
 ghost use Rattle.dbtg_rounds.specs.Inside.Reaching.{IsIn};
+ghost use Rattle.dbtg_rounds.specs.Inside.Ruling.{AreFalling, AreLeft, AreRuled, LeavesRank, rank_of};
 
 use crate::edge::Edge;
 use crate::graph::Graph;
 use crate::parts::guess_ranks;
+use crate::reach::is_in;
 use std::alloc::{AllocError, Global};
 
 // Does the edge stay on one rank?
-fn is_level(ranks: &[usize], edge: Edge) -> bool {
-    ranks[edge.from as usize] == ranks[edge.to as usize]
+fn is_level(ranks: &[usize], edge: Edge) -> bool
+    requires from { edge.from < length ranks.now }
+    requires to { edge.to < length ranks.now }
+    ensures { result ≡ (rank_of ranks.now edge.to == rank_of ranks.now edge.from) }
+{
+    ranks[edge.to as usize] == ranks[edge.from as usize]
 }
 
 // Does no edge lead to a higher rank?
-fn are_falling(ranks: &[usize], edges: &[Edge]) -> bool {
-    edges.iter().all(|edge| ranks[edge.to as usize] <= ranks[edge.from as usize])
+fn are_falling(ranks: &[usize], edges: &[Edge]) -> bool
+    requires within { AreWithin (length ranks.now) edges.now }
+    ensures { result ≡ true → AreFalling ranks.now edges.now }
+{
+    for edge in edges {
+        if ranks[edge.from as usize] < ranks[edge.to as usize] {
+            return false;
+        }
+    }
+    true
 }
 
-// For each rank whether a turn of the unit stays on it.
-fn levels_of(
+// Takes the mark from a place, if there is such a place.
+fn unmark(marks: &mut [bool], place: usize)
+    ensures { (i : ℕ) → IsIn marks.new i → IsIn marks.old i × (i ≢ place) }
+{
+    if place < marks.len() {
+        marks[place] = false;
+    }
+}
+
+// Marks the states in which no unit can have a turn.
+fn idle_states(alloc: Global, states: usize, edges: &[Edge]) -> Result<Vec<bool>, AllocError>
+    ensures each { IfOk result (λ idle. length idle.items ≡ states) }
+    ensures right { IfOk result (λ idle. (e : EdgeOf) → Contains edges.now e → IsIn idle.items e.from → ⊥) }
+{
+    let mut idle = Vec::from_elem(alloc, true, states)?;
+    for edge in edges {
+        unmark(idle.as_mut_slice(), edge.from as usize);
+    }
+    Ok(idle)
+}
+
+// Marks ranks on which no turn of the unit stays.
+fn left_by(
     alloc: Global,
     ranks: &[usize],
     edges: &[Edge],
     unit: u8,
-) -> Result<Vec<bool>, AllocError> {
-    let mut levels = Vec::from_elem(alloc, false, ranks.len() + 1)?;
+) -> Result<Vec<bool>, AllocError>
+    requires within { AreWithin (length ranks.now) edges.now }
+    ensures { IfOk result (λ left. AreLeft ranks.now edges.now unit left.items) }
+{
+    let mut left = Vec::from_elem(alloc, true, ranks.len() + 1)?;
     for edge in edges {
         if edge.unit == unit && is_level(ranks, *edge) {
-            levels[ranks[edge.from as usize]] = true;
+            unmark(left.as_mut_slice(), ranks[edge.from as usize]);
         }
     }
-    Ok(levels)
+    Ok(left)
 }
 
-// Rules out the states in which the unit can have a turn, if it can have none that stays on their rank.
-fn rule_out(edges: &[Edge], ranks: &[usize], levels: &[bool], unit: u8, ruled: &mut [bool]) {
+// Rules out the states in which the unit can have a turn, if their rank is marked.
+fn rule_out(edges: &[Edge], ranks: &[usize], left: &[bool], unit: u8, ruled: &mut [bool])
+    requires within { AreWithin (length ranks.now) edges.now }
+    requires ruled { length ruled.old ≡ length ranks.now }
+    ensures { (i : ℕ) → IsIn ruled.new i → IsIn ruled.old i ⊎ LeavesRank ranks.now edges.now unit left.now i }
+{
     for edge in edges {
-        if edge.unit == unit && !levels[ranks[edge.from as usize]] {
+        if edge.unit == unit && is_in(left, ranks[edge.from as usize]) {
             ruled[edge.from as usize] = true;
         }
     }
@@ -50,6 +93,25 @@ fn last_unit(edges: &[Edge]) -> u8 {
     edges.iter().map(|edge| edge.unit).max().unwrap_or(0)
 }
 
+// Rules out states that turns of a unit lead to leave their rank for ever, for each unit.
+fn rule_out_each(
+    alloc: Global,
+    edges: &[Edge],
+    ranks: &[usize],
+    ruled: &mut [bool],
+) -> Result<(), AllocError>
+    requires within { AreWithin (length ranks.now) edges.now }
+    requires falling { AreFalling ranks.now edges.now }
+    requires ruled { length ruled.old ≡ length ranks.now }
+    ensures { IfOk result (λ _. AreRuled edges.now ruled.old → AreRuled edges.now ruled.new) }
+{
+    for unit in 0..=last_unit(edges) {
+        let left = left_by(alloc, ranks, edges, unit)?;
+        rule_out(edges, ranks, left.as_slice(), unit, ruled);
+    }
+    Ok(())
+}
+
 /// For each state whether it is ruled out that a way round begins in it. Those that are not need not have one. `back` has the edges of the
 /// graph, reversed.
 pub(crate) fn ruled_out(alloc: Global, graph: &Graph, back: &Graph) -> Result<Vec<bool>, AllocError>
@@ -57,20 +119,12 @@ pub(crate) fn ruled_out(alloc: Global, graph: &Graph, back: &Graph) -> Result<Ve
     ensures each { IfOk result (λ ruled. length ruled.items ≡ graph.now.states) }
     ensures right { IfOk result (λ ruled. (start : ℕ) (units : List ℕ) → IsIn ruled.items start → IsRound graph.now.edges start units → ⊥) }
 {
+    graph.is_within();
     let ranks = guess_ranks(alloc, graph, back)?;
-    let mut ruled = Vec::from_elem(alloc, false, graph.states())?;
     let edges = graph.edges();
+    let mut ruled = idle_states(alloc, graph.states(), edges)?;
     if are_falling(ranks.as_slice(), edges) {
-        for unit in 0..=last_unit(edges) {
-            let levels = levels_of(alloc, ranks.as_slice(), edges, unit)?;
-            rule_out(
-                edges,
-                ranks.as_slice(),
-                levels.as_slice(),
-                unit,
-                ruled.as_mut_slice(),
-            );
-        }
+        rule_out_each(alloc, edges, ranks.as_slice(), ruled.as_mut_slice())?;
     }
     Ok(ruled)
 }

@@ -1,0 +1,1 @@
+-- Worked rows: what the definitions of ways round say of small graphs.
