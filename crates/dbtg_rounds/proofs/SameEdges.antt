@@ -1,6 +1,6 @@
 -- Ways round in a graph, where the same edges stand in another order.
 -- es and fs are edges, us are units of turns, i and j are states, u is a unit.
-use Rattle.std.proofs.Common.{◌≡◌, sym, subst, ℕ, ◌+◌, ◌<◌, inl, inr, List, [], ◌∷◌, length, arith}
+use Rattle.std.proofs.Common.{◌≡◌, subst, ℕ, ◌+◌, ◌<◌, inl, inr, List, [], ◌∷◌, length, arith}
 use Rattle.std.proofs.lemmas.Bool.{cases_lt}
 use Rattle.dbtg_rounds.specs.declared.edge.Edge.{Edge}
 use Rattle.dbtg_rounds.specs.Rounds.{AreWithin, IsRound, Leads}

@@ -93,7 +93,7 @@ fn last_unit(edges: &[Edge]) -> u8 {
     edges.iter().map(|edge| edge.unit).max().unwrap_or(0)
 }
 
-// Rules out states that turns of a unit lead to leave their rank for ever, for each unit.
+// Rules out, for each unit, the states in which it can have a turn, but none that stays on their rank.
 fn rule_out_each(
     alloc: Global,
     edges: &[Edge],

@@ -1,5 +1,5 @@
 -- States that were ruled out so far leave their rank.
-use Rattle.std.proofs.Common.{◌≡◌, ◌⊎◌, ℕ, length}
+use Rattle.std.proofs.Common.{◌⊎◌, ℕ}
 use Rattle.dbtg_rounds.specs.Inside.Reaching.{IsIn}
 use Rattle.dbtg_rounds.specs.Inside.Ruling.{LeavesRank}
 use Rattle.dbtg_rounds.proofs.ruling.rule_out.Given as goal

@@ -1,6 +1,5 @@
 -- One more unit rules out states rightly.
-use Rattle.std.proofs.Common.{List, subst, sym}
-use Rattle.std.specs.Prelude.{Bool}
+use Rattle.std.proofs.Common.{subst, sym}
 use Rattle.dbtg_rounds.specs.Inside.Ruling.{AreLeft}
 use Rattle.dbtg_rounds.proofs.Ranks.{ruled_more}
 use Rattle.dbtg_rounds.proofs.ruling.rule_out_each.Goals as goal

@@ -1,5 +1,5 @@
 -- States without edges are ruled out, and further ones by ranks that do not rise.
-use Rattle.std.proofs.Common.{◌≡◌, sym, ◌∙◌, ap, subst, ℕ, Bool, List, Vec, Global, length, arith}
+use Rattle.std.proofs.Common.{◌≡◌, sym, ◌∙◌, ap, subst, Bool, List, Vec, Global, length, arith}
 use Rattle.std.proofs.lemmas.List.{with_items_is}
 use Rattle.dbtg_rounds.specs.declared.edge.Edge.{Edge}
 use Rattle.dbtg_rounds.specs.Inside.Ruling.{AreRuled}
