@@ -3,3 +3,4 @@ pub mod Leading
 pub mod Ranks
 pub mod Rows
 pub mod SameEdges
+pub mod Graphs
