@@ -1,8 +1,8 @@
 //! What can be reached from a state, and by which turns.
 
-ghost use Rattle.std.specs.Prelude.{◌≡◌, ◌<◌, ℕ, List, Bool, false, length, slice_index_or, IfOk};
+ghost use Rattle.std.specs.Prelude.{◌≡◌, ◌<◌, ℕ, List, Bool, false, length, slice_index_or, IfOk, OnOk, slice_index};
 ghost use Rattle.dbtg_rounds.specs.declared.edge.Edge.{Edge as EdgeOf};
-ghost use Rattle.dbtg_rounds.specs.Inside.Reaching.{IsIn, IsReached, LeadsIn, is_in};
+ghost use Rattle.dbtg_rounds.specs.Inside.Reaching.{AreCounted, Grows, IsIn, IsReached, IsWidened, LeadsIn, Meets, is_in};
 
 use crate::graph::Graph;
 use std::alloc::{AllocError, Global};
@@ -32,7 +32,12 @@ pub(crate) fn is_in(marks: &[bool], state: usize) -> bool
 
 impl Reached {
     // This state alone, among this many.
-    fn from(alloc: Global, states: usize, start: usize) -> Result<Self, AllocError> {
+    fn from(alloc: Global, states: usize, start: usize) -> Result<Self, AllocError>
+        requires start { start < states }
+        ensures reached { IfOk result (λ r. (es : List EdgeOf) (marks : List Bool) → IsReached es marks start r) }
+        ensures counted { IfOk result AreCounted }
+        ensures long { IfOk result (λ r. length r.seen.items ≡ states) }
+    {
         let mut seen = Vec::from_elem(alloc, false, states)?;
         seen[start] = true;
         let mut met = Vec::new(alloc);
@@ -45,7 +50,10 @@ impl Reached {
     }
 
     // A turn of the unit leads from the state at a place to a state, which is appended if it was not met before.
-    fn meet(&mut self, before: usize, unit: u8, state: usize) -> Result<(), AllocError> {
+    fn meet(&mut self, before: usize, unit: u8, state: usize) -> Result<(), AllocError>
+        requires state { state < length self.old.seen.items }
+        ensures { OnOk result (Meets before unit state self.old self.new) }
+    {
         if !is_in(self.seen.as_slice(), state) {
             self.seen[state] = true;
             self.states.push(state)?;
@@ -55,7 +63,12 @@ impl Reached {
     }
 
     // Appends the states to which the one at a place leads.
-    fn widen(&mut self, graph: &Graph, within: &[bool], place: usize) -> Result<(), AllocError> {
+    fn widen(&mut self, graph: &Graph, within: &[bool], place: usize) -> Result<(), AllocError>
+        requires place { place < length self.old.states.items }
+        requires long { length self.old.seen.items ≡ graph.now.states }
+        ensures grows { OnOk result (Grows graph.now.edges within.now self.old self.new) }
+        ensures widened { OnOk result (IsWidened graph.now.edges within.now (slice_index self.old.states.items place) self.new) }
+    {
         for edge in graph.at(self.states[place]) {
             if is_in(within, edge.to as usize) {
                 self.meet(place, edge.unit, edge.to as usize)?;

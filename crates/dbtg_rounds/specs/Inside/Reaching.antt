@@ -1,6 +1,6 @@
 -- What can be reached by way of marked states, and walks there.
 -- es are the edges of a graph, marks say of each state whether it is marked, i, j and k are states, u is a unit.
-use Rattle.std.specs.Prelude.{ℕ, ◌≡◌, ◌<◌, ◌+◌, ◌++◌, Bool, true, false, ◌==◌, List, [], ◌∷◌, Some, Contains, length, slice_get, slice_index_or}
+use Rattle.std.specs.Prelude.{ℕ, ◌≡◌, ◌<◌, ◌+◌, ◌++◌, ◌⊎◌, Bool, true, false, ◌==◌, List, [], ◌∷◌, Some, Contains, count_by, length, slice_get, slice_index_or, slice_set}
 use Rattle.dbtg_rounds.specs.Rounds.{HasEdge}
 use Rattle.dbtg_rounds.specs.declared.edge.Edge.{Edge}
 use Rattle.dbtg_rounds.specs.declared.reach.Link.{Link}
@@ -40,6 +40,33 @@ pub record IsReached (es : List Edge) (marks : List Bool) (start : ℕ) (r : giv
   pub linked : (place : ℕ) → place < length r.links.items → IsLinked es marks r.states.items r.links.items place
   pub seen : (i : ℕ) → IsIn r.seen.items i → Contains r.states.items i
   pub met : (i : ℕ) → Contains r.states.items i → IsIn r.seen.items i
+
+-- as many states are seen as are reached
+abbrev pub AreCounted : given.Reached → Type 0
+AreCounted r = count_by (λ (seen : Bool). seen) r.seen.items ≡ length r.states.items
+
+-- the turn of a unit in the state at a place leads to a state that was not seen, which is appended
+pub record IsAppended (before unit state : ℕ) (old new : given.Reached) : Type 0 where
+  pub unseen : is_in old.seen.items state ≡ false
+  pub seen_are : new.seen.items ≡ slice_set old.seen.items state true
+  pub states_are : new.states.items ≡ old.states.items ++ state ∷ []
+  pub links_are : new.links.items ≡ old.links.items ++ record { before = before; unit = unit } ∷ []
+
+-- and if it was seen, nothing changes
+abbrev pub Meets : ℕ → ℕ → ℕ → given.Reached → given.Reached → Type 0
+Meets before unit state old new = (IsIn old.seen.items state × (new ≡ old)) ⊎ IsAppended before unit state old new
+
+-- nothing is lost, and all that is added is linked
+pub record Grows (es : List Edge) (marks : List Bool) (old new : given.Reached) : Type 0 where
+  pub reached : (start : ℕ) → IsReached es marks start old → IsReached es marks start new
+  pub counted : AreCounted old → AreCounted new
+  pub long : length new.seen.items ≡ length old.seen.items
+  pub seen : (i : ℕ) → IsIn old.seen.items i → IsIn new.seen.items i
+  pub states : (place i : ℕ) → slice_get old.states.items place ≡ Some i → slice_get new.states.items place ≡ Some i
+
+-- each marked state to which state i leads is seen
+abbrev pub IsWidened : List Edge → List Bool → ℕ → given.Reached → Type 0
+IsWidened es marks i r = (u j : ℕ) → HasEdge es i u j → IsIn marks j → IsIn r.seen.items j
 
 -- GOALS
 
