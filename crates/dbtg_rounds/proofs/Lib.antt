@@ -4,3 +4,4 @@ pub mod Ranks
 pub mod Rows
 pub mod SameEdges
 pub mod Graphs
+pub mod Reached

@@ -69,6 +69,7 @@ impl Reached {
         ensures grows { OnOk result (Grows graph.now.edges within.now self.old self.new) }
         ensures widened { OnOk result (IsWidened graph.now.edges within.now (slice_index self.old.states.items place) self.new) }
     {
+        graph.is_within();
         for edge in graph.at(self.states[place]) {
             if is_in(within, edge.to as usize) {
                 self.meet(place, edge.unit, edge.to as usize)?;
