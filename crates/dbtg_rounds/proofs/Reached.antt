@@ -43,16 +43,16 @@ module _ (es : List Edge) (marks : List Bool) (before unit state i : ℕ) (old n
     -- and the others that were
     still_seen : (j : ℕ) → IsIn old.seen.items j → IsIn new.seen.items j
     still_seen j was = ⊎_elim
-      (λ same. subst (IsIn new.seen.items) (sym same) now_seen)
-      (λ other. ap (λ (xs : List Bool). get_or xs j false) h.seen_are ∙ get_or-set_other old.seen.items state j true false other ∙ was)
-      (cases_eq j state)
+        (λ same. subst (IsIn new.seen.items) (sym same) now_seen)
+        (λ other. ap (λ (xs : List Bool). get_or xs j false) h.seen_are ∙ get_or-set_other old.seen.items state j true false other ∙ was)
+        (cases_eq j state)
 
     -- and no more
     only_seen : (j : ℕ) → IsIn new.seen.items j → (state ≡ j) ⊎ IsIn old.seen.items j
     only_seen j is = ⊎_elim
-      (λ same. inl (sym same))
-      (λ other. inr (sym (get_or-set_other old.seen.items state j true false other) ∙ sym (ap (λ (xs : List Bool). get_or xs j false) h.seen_are) ∙ is))
-      (cases_eq j state)
+        (λ same. inl (sym same))
+        (λ other. inr (sym (get_or-set_other old.seen.items state j true false other) ∙ sym (ap (λ (xs : List Bool). get_or xs j false) h.seen_are) ∙ is))
+        (cases_eq j state)
 
     -- the states that were reached keep their places
     still_at : (k j : ℕ) → slice_get old.states.items k ≡ Some j → slice_get new.states.items k ≡ Some j
@@ -61,11 +61,11 @@ module _ (es : List Edge) (marks : List Bool) (before unit state i : ℕ) (old n
     -- one more is seen, as one more is reached
     one_more : AreCounted old → AreCounted new
     one_more counted =
-      let more = sum_by-set one old.seen.items state true false low in
-      let none : one (get_or old.seen.items state false) ≡ 0 = ap one h.unseen in
-      let seen : count_by (λ (b : Bool). b) new.seen.items ≡ count_by (λ (b : Bool). b) (set old.seen.items state true) = ap (count_by (λ (b : Bool). b)) h.seen_are in
-      let long : length new.states.items ≡ length old.states.items + 1 = ap length h.states_are ∙ length_push old.states.items state in
-      omega arith
+        let more = sum_by-set one old.seen.items state true false low in
+        let none : one (get_or old.seen.items state false) ≡ 0 = ap one h.unseen in
+        let seen : count_by (λ (b : Bool). b) new.seen.items ≡ count_by (λ (b : Bool). b) (set old.seen.items state true) = ap (count_by (λ (b : Bool). b)) h.seen_are in
+        let long : length new.states.items ≡ length old.states.items + 1 = ap length h.states_are ∙ length_push old.states.items state in
+        omega arith
 
     -- a link that was there is still right
     still_linked : (k : ℕ) → IsLinked es marks old.states.items old.links.items k → IsLinked es marks new.states.items new.links.items k
@@ -98,24 +98,24 @@ module _ (es : List Edge) (marks : List Bool) (before unit state i : ℕ) (old n
 
       still_reached : (start : ℕ) → IsReached es marks start old → IsReached es marks start new
       still_reached start r =
-        let links : length new.links.items ≡ length old.links.items + 1 = ap length h.links_are ∙ length_push old.links.items _ in
-        let states : length new.states.items ≡ length old.states.items + 1 = ap length h.states_are ∙ length_push old.states.items state in
-        record {
-          begins = still_at 0 start r.begins;
-          counted = omega (arith, links, states, r.counted);
-          linked = λ k low. ⊎_elim
-            (λ below. still_linked k (r.linked k below))
-            (λ above. now_linked k (omega (arith, above, low, links)) r.counted)
-            (cases_lt k (length old.links.items));
-          seen = λ j is. subst (λ (xs : List ℕ). Contains xs j) (sym h.states_are) (⊎_elim
-            (λ same. subst (Contains (old.states.items ++ state ∷ [])) same (Contains-push old.states.items state))
-            (λ was. Contains-append_left old.states.items (state ∷ []) j (r.seen j was))
-            (only_seen j is));
-          met = λ j is. ⊎_elim
-            (λ was. still_seen j (r.met j was))
-            (λ same. subst (IsIn new.seen.items) same now_seen)
-            (Contains-push_cases old.states.items state j (subst (λ (xs : List ℕ). Contains xs j) h.states_are is));
-        }
+          let links : length new.links.items ≡ length old.links.items + 1 = ap length h.links_are ∙ length_push old.links.items _ in
+          let states : length new.states.items ≡ length old.states.items + 1 = ap length h.states_are ∙ length_push old.states.items state in
+          record {
+            begins = still_at 0 start r.begins;
+            counted = omega (arith, links, states, r.counted);
+            linked = λ k low. ⊎_elim
+                (λ below. still_linked k (r.linked k below))
+                (λ above. now_linked k (omega (arith, above, low, links)) r.counted)
+                (cases_lt k (length old.links.items));
+            seen = λ j is. subst (λ (xs : List ℕ). Contains xs j) (sym h.states_are) (⊎_elim
+                (λ same. subst (Contains (old.states.items ++ state ∷ [])) same (Contains-push old.states.items state))
+                (λ was. Contains-append_left old.states.items (state ∷ []) j (r.seen j was))
+                (only_seen j is));
+            met = λ j is. ⊎_elim
+                (λ was. still_seen j (r.met j was))
+                (λ same. subst (IsIn new.seen.items) same now_seen)
+                (Contains-push_cases old.states.items state j (subst (λ (xs : List ℕ). Contains xs j) h.states_are is));
+          }
 
       appended : Grows es marks old new
       appended = record {
@@ -149,9 +149,9 @@ grows_more es marks r s t f g = record {
 -- an edge from the state at a place leads to a marked state, which is met
 pub met : (es : List Edge) (marks : List Bool) (before : ℕ) (e : Edge) (old new : given.Reached) → Contains es e → slice_get old.states.items before ≡ Some e.from → IsIn marks e.to → e.to < length old.seen.items → Meets before e.unit e.to old new → Grows es marks old new × IsIn new.seen.items e.to
 met es marks before e old new has at marked low meets = ⊎_elim
-  (λ was. (subst (Grows es marks old) (sym was.1) (stays es marks old), subst (λ (r : given.Reached). IsIn r.seen.items e.to) (sym was.1) was.0))
-  (λ h. (appended es marks before e.unit e.to e.from old new h low at has marked, now_seen es marks before e.unit e.to e.from old new h low))
-  meets
+    (λ was. (subst (Grows es marks old) (sym was.1) (stays es marks old), subst (λ (r : given.Reached). IsIn r.seen.items e.to) (sym was.1) was.0))
+    (λ h. (appended es marks before e.unit e.to e.from old new h low at has marked, now_seen es marks before e.unit e.to e.from old new h low))
+    meets
 
 -- THE EDGES OF A STATE
 
@@ -164,27 +164,27 @@ module _ (es fs : List Edge) (marks : List Bool) (states place i : ℕ) (old : g
   -- the end of one is met, if it is marked
   pub met_at : (k : ℕ) (d : Edge) (r s : given.Reached) → k < length fs → Grows es marks old r → AreWithin states es → length old.seen.items ≡ states → IsIn marks (get_or fs k d).to → Meets place (get_or fs k d).unit (get_or fs k d).to r s → Grows es marks r s × IsIn s.seen.items (get_or fs k d).to
   met_at k d r s here g within long marked meets =
-    let e = get_or fs k d in
-    let is = only e (Contains-get_or fs k d here) in
-    let there : slice_get r.states.items place ≡ Some i = g.states place i (slice_get-get_or old.states.items place i low ∙ ap Some (sym at)) in
-    let few : e.to < length r.seen.items = omega (arith, (within e is.0).1, g.long, long) in
-    met es marks place e r s is.0 (there ∙ ap Some (sym is.1)) marked few meets
+      let e = get_or fs k d in
+      let is = only e (Contains-get_or fs k d here) in
+      let there : slice_get r.states.items place ≡ Some i = g.states place i (slice_get-get_or old.states.items place i low ∙ ap Some (sym at)) in
+      let few : e.to < length r.seen.items = omega (arith, (within e is.0).1, g.long, long) in
+      met es marks place e r s is.0 (there ∙ ap Some (sym is.1)) marked few meets
 
   -- where the marked ends of all are seen, the state is widened
   pub widened_by : (r : given.Reached) → AreSeen fs marks (length fs) r → ((e : Edge) → Contains es e → e.from ≡ i → Contains fs e) → IsWidened es marks (slice_index old.states.items place) r
   widened_by r seen all u j has marked =
-    let first : slice_index old.states.items place ≡ i = get_or_default old.states.items place 0 i low ∙ sym at in
-    let e : Edge = record { from = slice_index old.states.items place; unit = u; to = j } in
-    let there = all e has first in
-    let end : (get_or fs there.0 e).to ≡ j = ap (λ (f : Edge). f.to) there.2 in
-    subst (IsIn r.seen.items) end (seen there.0 e (omega arith) there.1 (subst (IsIn marks) (sym end) marked))
+      let first : slice_index old.states.items place ≡ i = get_or_default old.states.items place 0 i low ∙ sym at in
+      let e : Edge = record { from = slice_index old.states.items place; unit = u; to = j } in
+      let there = all e has first in
+      let end : (get_or fs there.0 e).to ≡ j = ap (λ (f : Edge). f.to) there.2 in
+      subst (IsIn r.seen.items) end (seen there.0 e (omega arith) there.1 (subst (IsIn marks) (sym end) marked))
 
 -- one edge more
 pub one_seen : (es fs : List Edge) (marks : List Bool) (k : ℕ) (d : Edge) (r s : given.Reached) → k < length fs → Grows es marks r s → AreSeen fs marks k r → (IsIn marks (get_or fs k d).to → IsIn s.seen.items (get_or fs k d).to) → AreSeen fs marks (k + 1) s
 one_seen es fs marks k d r s low g before here n f zero_le below = ⊎_elim
-  (λ last. subst (λ (e : Edge). IsIn marks e.to → IsIn s.seen.items e.to) (get_or_default fs k d f low ∙ ap (λ (m : ℕ). get_or fs m f) (sym last)) here)
-  (λ other marked. g.seen _ (before n f zero_le (omega arith) marked))
-  (cases_eq n k)
+    (λ last. subst (λ (e : Edge). IsIn marks e.to → IsIn s.seen.items e.to) (get_or_default fs k d f low ∙ ap (λ (m : ℕ). get_or fs m f) (sym last)) here)
+    (λ other marked. g.seen _ (before n f zero_le (omega arith) marked))
+    (cases_eq n k)
 
 -- ALL THAT IS REACHED IS WIDENED
 
@@ -199,20 +199,20 @@ pub record IsReaching (es : List Edge) (marks : List Bool) (start states place :
 -- one state more is widened
 pub reaching_more : (es : List Edge) (marks : List Bool) (start states place : ℕ) (old new : given.Reached) → place < length old.states.items → IsReaching es marks start states place old → Grows es marks old new → IsWidened es marks (slice_index old.states.items place) new → IsReaching es marks start states (place + 1) new
 reaching_more es marks start states place old new low h g here =
-  let at = λ (k : ℕ) (lower : k < length old.states.items). g.states k (get_or old.states.items k 0) (slice_get-get_or old.states.items k 0 lower) in
-  record {
-    reached = g.reached start h.reached;
-    counted = g.counted h.counted;
-    long = g.long ∙ h.long;
-    place_is_within = omega (arith, slice_get_within new.states.items place _ (at place low));
-    widened = λ k i below is.
-      let lower : k < length old.states.items = omega arith in
-      let same : get_or old.states.items k 0 ≡ i = same_Some _ _ (sym (at k lower) ∙ is) in
-      ⊎_elim
-        (λ last. subst (λ (s : ℕ). IsWidened es marks s new) (sym (ap (λ (n : ℕ). get_or old.states.items n 0) last) ∙ same) here)
-        (λ other u j has marked. g.seen j (h.widened k i (omega arith) (slice_get-get_or old.states.items k 0 lower ∙ ap Some same) u j has marked))
-        (cases_eq k place);
-  }
+    let at = λ (k : ℕ) (lower : k < length old.states.items). g.states k (get_or old.states.items k 0) (slice_get-get_or old.states.items k 0 lower) in
+    record {
+      reached = g.reached start h.reached;
+      counted = g.counted h.counted;
+      long = g.long ∙ h.long;
+      place_is_within = omega (arith, slice_get_within new.states.items place _ (at place low));
+      widened = λ k i below is.
+          let lower : k < length old.states.items = omega arith in
+          let same : get_or old.states.items k 0 ≡ i = same_Some _ _ (sym (at k lower) ∙ is) in
+          ⊎_elim
+          (λ last. subst (λ (s : ℕ). IsWidened es marks s new) (sym (ap (λ (n : ℕ). get_or old.states.items n 0) last) ∙ same) here)
+          (λ other u j has marked. g.seen j (h.widened k i (omega arith) (slice_get-get_or old.states.items k 0 lower ∙ ap Some same) u j has marked))
+          (cases_eq k place);
+    }
 
 -- there are no more places than states
 pub few_places : (es : List Edge) (marks : List Bool) (start states place : ℕ) (r : given.Reached) → IsReaching es marks start states place r → length r.states.items ≤ states
@@ -223,16 +223,16 @@ closed : (es : List Edge) (marks : List Bool) (start states place : ℕ) (r : gi
 unfolding LeadsIn
 closed es marks start states place r h all i is [] j leads = subst (IsIn r.seen.items) leads is
 closed es marks start states place r h all i is (u ∷ us) j leads =
-  let at = h.reached.seen i is in
-  let there = slice_get-get_or r.states.items at.0 i at.1 ∙ ap Some at.2 in
-  closed es marks start states place r h all leads.0 (h.widened at.0 i (omega (arith, at.1)) there u leads.0 leads.1 leads.2) us j leads.3
+    let at = h.reached.seen i is in
+    let there = slice_get-get_or r.states.items at.0 i at.1 ∙ ap Some at.2 in
+    closed es marks start states place r h all leads.0 (h.widened at.0 i (omega (arith, at.1)) there u leads.0 leads.1 leads.2) us j leads.3
 
 -- so all states to which the first leads are seen
 pub all_seen : (es : List Edge) (marks : List Bool) (start states place : ℕ) (r : given.Reached) → IsReaching es marks start states place r → length r.states.items ≤ place → (us : List ℕ) (j : ℕ) → LeadsIn es marks start us j → IsIn r.seen.items j
 all_seen es marks start states place r h all =
-  let low = slice_get_within r.states.items 0 start h.reached.begins in
-  let first = subst (Contains r.states.items) (get_or_from_slice_get r.states.items 0 start 0 h.reached.begins) (Contains-get_or r.states.items 0 0 low) in
-  closed es marks start states place r h all start (h.reached.met start first)
+    let low = slice_get_within r.states.items 0 start h.reached.begins in
+    let first = subst (Contains r.states.items) (get_or_from_slice_get r.states.items 0 start 0 h.reached.begins) (Contains-get_or r.states.items 0 0 low) in
+    closed es marks start states place r h all start (h.reached.met start first)
 
 -- BACK TO THE FIRST
 
@@ -244,26 +244,26 @@ module _ (es : List Edge) (marks : List Bool) (start : ℕ) (r : given.Reached) 
   -- a link leads back to an earlier place
   pub is_before : (k : ℕ) (link : Link) → 0 < k → k < length r.states.items → link ≡ get_or r.links.items (k - 1) link → link.before < k
   is_before k link some low is =
-    let few : k - 1 < length r.links.items = omega (arith, h.counted) in
-    let l = h.linked (k - 1) few in
-    let same : link ≡ l.link = is ∙ get_or_from_slice_get r.links.items (k - 1) l.link link l.link_is in
-    let before : link.before ≡ l.link.before = ap (λ (m : Link). m.before) same in
-    omega (arith, l.earlier, before)
+      let few : k - 1 < length r.links.items = omega (arith, h.counted) in
+      let l = h.linked (k - 1) few in
+      let same : link ≡ l.link = is ∙ get_or_from_slice_get r.links.items (k - 1) l.link link l.link_is in
+      let before : link.before ≡ l.link.before = ap (λ (m : Link). m.before) same in
+      omega (arith, l.earlier, before)
 
   -- and its turn leads from there
   pub one_back : (k to : ℕ) (link : Link) (us more : List ℕ) → 0 < k → k < length r.states.items → link ≡ get_or r.links.items (k - 1) link → more ≡ us ++ link.unit ∷ [] → LeadOn es marks r k (reverse us) to → LeadOn es marks r link.before (reverse more) to
   unfolding LeadsIn
   one_back k to link us more some low is more_is leads =
-    let few : k - 1 < length r.links.items = omega (arith, h.counted) in
-    let l = h.linked (k - 1) few in
-    let same : link ≡ l.link = is ∙ get_or_from_slice_get r.links.items (k - 1) l.link link l.link_is in
-    let from : get_or r.states.items link.before 0 ≡ l.from = ap (λ (m : Link). get_or r.states.items m.before 0) same ∙ get_or_from_slice_get r.states.items l.link.before l.from 0 l.from_is in
-    let place : k - 1 + 1 ≡ k = omega arith in
-    let end : get_or r.states.items k 0 ≡ l.to = ap (λ (n : ℕ). get_or r.states.items n 0) (sym place) ∙ get_or_from_slice_get r.states.items (k - 1 + 1) l.to 0 l.to_is in
-    let last : reverse more ≡ link.unit ∷ reverse us = ap reverse more_is ∙ reverse-append us (link.unit ∷ []) in
-    let has : HasEdge es (get_or r.states.items link.before 0) link.unit l.to = subst (λ (i : ℕ). HasEdge es i link.unit l.to) (sym from) (subst (λ (u : ℕ). HasEdge es l.from u l.to) (sym (ap (λ (m : Link). m.unit) same)) l.has) in
-    let rest : LeadsIn es marks l.to (reverse us) (get_or r.states.items to 0) = subst (λ (i : ℕ). LeadsIn es marks i (reverse us) (get_or r.states.items to 0)) end leads in
-    subst (λ (vs : List ℕ). LeadsIn es marks (get_or r.states.items link.before 0) vs (get_or r.states.items to 0)) (sym last) (l.to, has, l.marked, rest)
+      let few : k - 1 < length r.links.items = omega (arith, h.counted) in
+      let l = h.linked (k - 1) few in
+      let same : link ≡ l.link = is ∙ get_or_from_slice_get r.links.items (k - 1) l.link link l.link_is in
+      let from : get_or r.states.items link.before 0 ≡ l.from = ap (λ (m : Link). get_or r.states.items m.before 0) same ∙ get_or_from_slice_get r.states.items l.link.before l.from 0 l.from_is in
+      let place : k - 1 + 1 ≡ k = omega arith in
+      let end : get_or r.states.items k 0 ≡ l.to = ap (λ (n : ℕ). get_or r.states.items n 0) (sym place) ∙ get_or_from_slice_get r.states.items (k - 1 + 1) l.to 0 l.to_is in
+      let last : reverse more ≡ link.unit ∷ reverse us = ap reverse more_is ∙ reverse-append us (link.unit ∷ []) in
+      let has : HasEdge es (get_or r.states.items link.before 0) link.unit l.to = subst (λ (i : ℕ). HasEdge es i link.unit l.to) (sym from) (subst (λ (u : ℕ). HasEdge es l.from u l.to) (sym (ap (λ (m : Link). m.unit) same)) l.has) in
+      let rest : LeadsIn es marks l.to (reverse us) (get_or r.states.items to 0) = subst (λ (i : ℕ). LeadsIn es marks i (reverse us) (get_or r.states.items to 0)) end leads in
+      subst (λ (vs : List ℕ). LeadsIn es marks (get_or r.states.items link.before 0) vs (get_or r.states.items to 0)) (sym last) (l.to, has, l.marked, rest)
 
   -- no turns lead to where they begin
   pub none_back : (to : ℕ) (us : List ℕ) → us ≡ [] → LeadOn es marks r to (reverse us) to
@@ -273,5 +273,5 @@ module _ (es : List Edge) (marks : List Bool) (start : ℕ) (r : given.Reached) 
   -- at the first place all turns are found
   pub all_back : (k to : ℕ) (us new : List ℕ) → k ≡ 0 → new ≡ reverse us → LeadOn es marks r k (reverse us) to → LeadsIn es marks start new (get_or r.states.items to 0)
   all_back k to us new first new_is leads =
-    let begin : get_or r.states.items k 0 ≡ start = ap (λ (n : ℕ). get_or r.states.items n 0) first ∙ get_or_from_slice_get r.states.items 0 start 0 h.begins in
-    subst (λ (i : ℕ). LeadsIn es marks i new (get_or r.states.items to 0)) begin (subst (λ (vs : List ℕ). LeadsIn es marks (get_or r.states.items k 0) vs (get_or r.states.items to 0)) (sym new_is) leads)
+      let begin : get_or r.states.items k 0 ≡ start = ap (λ (n : ℕ). get_or r.states.items n 0) first ∙ get_or_from_slice_get r.states.items 0 start 0 h.begins in
+      subst (λ (i : ℕ). LeadsIn es marks i new (get_or r.states.items to 0)) begin (subst (λ (vs : List ℕ). LeadsIn es marks (get_or r.states.items k 0) vs (get_or r.states.items to 0)) (sym new_is) leads)

@@ -25,16 +25,16 @@ loop-edge-preserved c =
     let old = c.args.self.now in
     let r = c.loop-edge.self in
     elim c.if-is_in.branch [
-      then-is_in+in_ok-meet w ↦
-        let both = met_at es fs marks c.args.graph.now.states c.args.place c.index.result.now old c.requires.place c.index.ensures c.at-edge-items.ensures.only k d r w.meet.new.self c.loop-edge-test.true c.loop-edge.invariant.grows c.is_within.ensures c.requires.long (sym c.is_in.ensures ∙ w.if-is_in.true) w.in_ok-meet.ensures in
-        record {
-          grows = subst (Grows es marks old) (sym w.self-is) (grows_more es marks old r w.meet.new.self c.loop-edge.invariant.grows both.0);
-          seen = subst (AreSeen fs marks (k + 1)) (sym w.self-is) (one_seen es fs marks k d r w.meet.new.self c.loop-edge-test.true both.0 c.loop-edge.invariant.seen (λ _. both.1));
-        }
+      | then-is_in+in_ok-meet w ↦
+          let both = met_at es fs marks c.args.graph.now.states c.args.place c.index.result.now old c.requires.place c.index.ensures c.at-edge-items.ensures.only k d r w.meet.new.self c.loop-edge-test.true c.loop-edge.invariant.grows c.is_within.ensures c.requires.long (sym c.is_in.ensures ∙ w.if-is_in.true) w.in_ok-meet.ensures in
+          record {
+            grows = subst (Grows es marks old) (sym w.self-is) (grows_more es marks old r w.meet.new.self c.loop-edge.invariant.grows both.0);
+            seen = subst (AreSeen fs marks (k + 1)) (sym w.self-is) (one_seen es fs marks k d r w.meet.new.self c.loop-edge-test.true both.0 c.loop-edge.invariant.seen (λ _. both.1));
+          }
       | else-is_in w ↦ record {
-          grows = subst (Grows es marks old) (sym w.self-is) c.loop-edge.invariant.grows;
-          seen = subst (AreSeen fs marks (k + 1)) (sym w.self-is) (one_seen es fs marks k d r r c.loop-edge-test.true (stays es marks r) c.loop-edge.invariant.seen (λ marked. absurd (both_ways _ (sym c.is_in.ensures ∙ w.if-is_in.false) marked)));
-        }
+        grows = subst (Grows es marks old) (sym w.self-is) c.loop-edge.invariant.grows;
+        seen = subst (AreSeen fs marks (k + 1)) (sym w.self-is) (one_seen es fs marks k d r r c.loop-edge-test.true (stays es marks r) c.loop-edge.invariant.seen (λ marked. absurd (both_ways _ (sym c.is_in.ensures ∙ w.if-is_in.false) marked)));
+      }
     ]
 
 pub returns-clause-widened : goal.returns-clause-widened
