@@ -1,6 +1,6 @@
 -- What a search reaches: nothing is lost, all is linked, and at the end each marked state to which a seen one leads is seen.
 -- es are the edges of a graph, marks say of each state whether it is marked, r is what is reached, i and j are states, u is a unit, k is a place.
-use Rattle.std.proofs.Common.{◌≡◌, ℕ, zero, suc, ◌+◌, ◌-◌, ◌<◌, ◌≤◌, Bool, true, false, cond, List, [], ◌∷◌, ◌++◌, Some, Contains, count_by, sum_by, length, get_or, set, slice_get, slice_index, reverse, refl, sym, ap, ◌∙◌, subst, arith, ◌⊎◌, inl, inr, ⊎_elim}
+use Rattle.std.proofs.Common.{◌≡◌, ℕ, zero, suc, ◌+◌, ◌-◌, ◌<◌, ◌≤◌, Bool, true, false, cond, List, [], ◌∷◌, ◌++◌, Some, Contains, count_by, length, get_or, set, slice_get, slice_index, reverse, refl, sym, ap, ◌∙◌, subst, arith, ◌⊎◌, inl, inr, ⊎_elim}
 use Rattle.std.specs.List.{AllWithin}
 use Rattle.std.proofs.lemmas.Bool.{cases_lt, cases_eq}
 use Rattle.std.proofs.lemmas.List.{get_or_default, get_or-set_other, get_or-set_same, length-set, length_push, reverse-append}
@@ -11,7 +11,7 @@ use Rattle.dbtg_rounds.specs.Rounds.{AreWithin, HasEdge}
 use Rattle.dbtg_rounds.specs.declared.edge.Edge.{Edge}
 use Rattle.dbtg_rounds.specs.declared.reach.Link.{Link}
 use Rattle.dbtg_rounds.specs.declared.reach.Reached as given
-use Rattle.dbtg_rounds.specs.Inside.Reaching.{AreCounted, Grows, IsAppended, IsIn, IsLinked, IsReached, IsWidened, LeadsIn, Meets, is_in}
+use Rattle.dbtg_rounds.specs.Inside.Reaching.{AreCounted, Grows, IsAppended, IsIn, IsLinked, IsReached, IsWidened, LeadsIn, Meets}
 
 -- LISTS WITH ONE MORE
 
@@ -96,6 +96,7 @@ module _ (es : List Edge) (marks : List Bool) (before unit state i : ℕ) (old n
         marked = marked;
       }
 
+      -- all that is reached is still linked
       still_reached : (start : ℕ) → IsReached es marks start old → IsReached es marks start new
       still_reached start r =
           let links : length new.links.items ≡ length old.links.items + 1 = ap length h.links_are ∙ length_push old.links.items _ in
@@ -117,6 +118,7 @@ module _ (es : List Edge) (marks : List Bool) (before unit state i : ℕ) (old n
                 (Contains-push_cases old.states.items state j (subst (λ (xs : List ℕ). Contains xs j) h.states_are is));
           }
 
+      -- so nothing is lost
       appended : Grows es marks old new
       appended = record {
         reached = still_reached;
@@ -213,10 +215,6 @@ reaching_more es marks start states place old new low h g here =
           (λ other u j has marked. g.seen j (h.widened k i (omega arith) (slice_get-get_or old.states.items k 0 lower ∙ ap Some same) u j has marked))
           (cases_eq k place);
     }
-
--- there are no more places than states
-pub few_places : (es : List Edge) (marks : List Bool) (start states place : ℕ) (r : given.Reached) → IsReaching es marks start states place r → length r.states.items ≤ states
-few_places es marks start states place r h = omega (arith, count_by-le-length (λ (b : Bool). b) r.seen.items, h.counted, h.long)
 
 -- a seen state leads to seen states
 closed : (es : List Edge) (marks : List Bool) (start states place : ℕ) (r : given.Reached) → IsReaching es marks start states place r → length r.states.items ≤ place → (i : ℕ) → IsIn r.seen.items i → (us : List ℕ) (j : ℕ) → LeadsIn es marks i us j → IsIn r.seen.items j

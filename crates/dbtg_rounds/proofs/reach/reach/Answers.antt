@@ -1,6 +1,6 @@
 -- One state after another is widened.
 use Rattle.std.proofs.Common.{◌∙◌, arith}
-use Rattle.dbtg_rounds.proofs.Reached.{all_seen, few_places, reaching_more}
+use Rattle.dbtg_rounds.proofs.Reached.{all_seen, reaching_more}
 use Rattle.dbtg_rounds.proofs.reach.reach.Goals as goal
 
 pub loop-place-init : goal.loop-place-init

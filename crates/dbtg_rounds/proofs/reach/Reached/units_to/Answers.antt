@@ -1,5 +1,5 @@
 -- Each link leads to an earlier place, and at the first place all turns are found.
-use Rattle.std.proofs.Common.{◌≡◌, ◌<◌, arith}
+use Rattle.std.proofs.Common.{◌≡◌, arith}
 use Rattle.dbtg_rounds.proofs.Reached.{all_back, is_before, none_back, one_back}
 use Rattle.dbtg_rounds.proofs.reach.Reached.units_to.Goals as goal
 

@@ -1,9 +1,8 @@
 -- The marked end of each edge is met.
-use Rattle.std.proofs.Common.{◌≡◌, ◌∙◌, ◌+◌, ◌<◌, length, sym, subst, arith}
+use Rattle.std.proofs.Common.{◌≡◌, ◌∙◌, ◌+◌, length, sym, subst, arith}
 use Rattle.std.proofs.lemmas.Bool.{both_ways}
 use Rattle.std.proofs.lemmas.List.Elements.{Contains-get_or}
 use Rattle.dbtg_rounds.specs.declared.edge.Edge.{Edge}
-use Rattle.dbtg_rounds.specs.declared.reach.Reached as given
 use Rattle.dbtg_rounds.specs.Inside.Reaching.{Grows}
 use Rattle.dbtg_rounds.proofs.Reached.{AreSeen, grows_more, met_at, one_seen, stays, widened_by}
 use Rattle.dbtg_rounds.proofs.reach.Reached.widen.Goals as goal
