@@ -3,7 +3,6 @@
 ghost use Rattle.std.specs.Prelude.{◌≡◌, ◌≢◌, ◌==◌, ◌⊎◌, ◌<◌, ℕ, List, true, Contains, length, IfOk};
 ghost use Rattle.dbtg_rounds.specs.Rounds.{AreWithin, IsRound};
 ghost use Rattle.dbtg_rounds.specs.declared.edge.Edge.{Edge as EdgeOf};
-ghost use Rattle.dbtg_rounds.specs.Inside.Graphs.{AreReversed};
 ghost use Rattle.dbtg_rounds.specs.Inside.Reaching.{IsIn};
 ghost use Rattle.dbtg_rounds.specs.Inside.Ruling.{AreFalling, AreLeft, AreRuled, LeavesRank, rank_of};
 
@@ -115,7 +114,6 @@ fn rule_out_each(
 /// For each state whether it is ruled out that a way round begins in it. Those that are not need not have one. `back` has the edges of the
 /// graph, reversed.
 pub(crate) fn ruled_out(alloc: Global, graph: &Graph, back: &Graph) -> Result<Vec<bool>, AllocError>
-    requires back { (back.now.states ≡ graph.now.states) × AreReversed graph.now.edges back.now.edges }
     ensures each { IfOk result (λ ruled. length ruled.items ≡ graph.now.states) }
     ensures right { IfOk result (λ ruled. (start : ℕ) (units : List ℕ) → IsIn ruled.items start → IsRound graph.now.edges start units → ⊥) }
 {
