@@ -48,6 +48,17 @@ fn led_to(
     Ok(behind)
 }
 
+// All states, each after those to which it leads, unless they lead back to it.
+fn all_led_to(alloc: Global, graph: &Graph, steps: usize) -> Result<Vec<usize>, AllocError> {
+    let mut marks = Vec::from_elem(alloc, false, graph.states())?;
+    let mut behind = Vec::new(alloc);
+    for start in 0..graph.states() {
+        let further = led_to(alloc, graph, start, marks.as_mut_slice(), steps)?;
+        behind.extend_from_slice(further.as_slice())?;
+    }
+    Ok(behind)
+}
+
 // These states have this rank.
 fn rank_each(ranks: &mut [usize], states: &[usize], rank: usize) {
     for state in states {
@@ -57,8 +68,8 @@ fn rank_each(ranks: &mut [usize], states: &[usize], rank: usize) {
     }
 }
 
-/// For each state the rank of its part, if all states can be reached from the first: those of a part have the same rank, and the parts to
-/// which it leads have lower ones. `back` has the edges of the graph, reversed. It is only a guess.
+/// For each state the rank of its part: those of a part have the same rank, and the parts to which it leads have lower ones. `back` has the
+/// edges of the graph, reversed. It is only a guess.
 pub(crate) fn guess_ranks(
     alloc: Global,
     graph: &Graph,
@@ -67,18 +78,18 @@ pub(crate) fn guess_ranks(
     ensures { IfOk result (λ ranks. length ranks.items ≡ graph.now.states) }
 {
     let states = graph.states();
-    let steps = graph
-        .edges()
-        .len()
-        .saturating_add(states)
-        .saturating_add(states);
+    let edges = graph.edges().len();
+    let steps = edges.saturating_add(states).saturating_add(states);
+    let order = all_led_to(alloc, graph, steps)?;
     let mut ranks = Vec::from_elem(alloc, 0usize, states)?;
-    let mut marks = Vec::from_elem(alloc, false, states)?;
-    let order = led_to(alloc, graph, 0, marks.as_mut_slice(), steps)?;
     let mut marks = Vec::from_elem(alloc, false, states)?;
     for (behind, last) in order.iter().rev().enumerate() {
         let part = led_to(alloc, back, *last, marks.as_mut_slice(), steps)?;
-        rank_each(ranks.as_mut_slice(), part.as_slice(), states.saturating_sub(behind));
+        rank_each(
+            ranks.as_mut_slice(),
+            part.as_slice(),
+            states.saturating_sub(behind),
+        );
     }
     Ok(ranks)
 }

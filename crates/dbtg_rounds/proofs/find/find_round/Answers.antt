@@ -22,7 +22,7 @@ loop-state-preserved c =
     let state = c.loop-state.state in
     let none : (units : List ℕ) → IsRound fs state units → ⊥ = elim c.if-not-is_in.branch [
       | then-not-is_in+in_ok-round+in_default w ↦ w.in_ok-round.ensures.none w.in_default.is
-      | else-not-is_in w ↦ 
+      | else-not-is_in w ↦
           let marked : IsIn c.as_slice.result.now state = sym c.is_in.ensures ∙ w.if-not-is_in.false in
           λ units. c.in_ok-ruled.ensures.right state units (subst (λ (l : List Bool). IsIn l state) c.as_slice.ensures.value marked)
     ] in

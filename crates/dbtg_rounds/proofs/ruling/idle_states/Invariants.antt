@@ -8,5 +8,5 @@ abbrev pub invariant-loop-edge : goal.invariant-loop-edge
 invariant-loop-edge l =
     record {
       long : length l.idle.items ≡ l.fn.states;
-      idle : (e : Edge) → Contains (take l.edge-index l.edges) e → IsIn l.idle.items e.from → ⊥
+      idle : (e : Edge) → Contains (take l.edge-index l.edges) e → IsIn l.idle.items e.from → ⊥;
     }

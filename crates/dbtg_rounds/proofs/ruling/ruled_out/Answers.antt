@@ -28,7 +28,7 @@ returns-clause-right c =
     let idle = c.in_ok-ruled.ruled.items in
     let first : AreRuled es idle = ruled_idle es idle c.in_ok-ruled.ensures.right in
     let right : AreRuled es c.if-are_falling.ruled.items = elim c.if-are_falling.branch [
-      | then-are_falling+in_ok-rule_out_each w ↦ 
+      | then-are_falling+in_ok-rule_out_each w ↦
           let marks : c.if-are_falling.ruled.items ≡ w.rule_out_each.new.ruled = (λ i. (w.ruled-is i).items) ∙ with_items_is c.in_ok-ruled.ruled w.rule_out_each.new.ruled (omega (arith, w.rule_out_each.auto.ruled, w.as_mut_slice.ensures.len)) in
           let before : AreRuled es w.as_mut_slice.result.now = subst (AreRuled es) (sym w.as_mut_slice.ensures.value) first in
           subst (AreRuled es) (sym marks) (w.in_ok-rule_out_each.ensures before)
