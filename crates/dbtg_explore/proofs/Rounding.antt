@@ -40,9 +40,9 @@ module _ (m : Meeting) (s : given.Search) (at : IsAt m (length s.found.orders) 0
 
   -- a way round among the turns begins at a place
   pub begins_within : (start : ℕ) (units : List ℕ) → IsRound edges start units → start < length orders
+  unfolding Leads
   begins_within start units round = by units round.goes round.comes_back where
     by : (us : List ℕ) → 0 < length us → Leads edges start us start → start < length orders
-    unfolding Leads
     by [] some l = absurd (omega (arith, some))
     by (u ∷ us) some l = (at.under_way.are_turns (record { from = start; unit = u; to = l.0 }) l.1).from_there
 

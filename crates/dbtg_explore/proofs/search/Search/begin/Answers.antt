@@ -17,4 +17,4 @@ returns-clause-at c =
     let m = c.args.meeting.now in
     let number = subst (λ (es : List Entry). IsNumberOf m c.first_number.new.numbers es c.in_ok-number.number) c.requires.stands.history_is c.in_ok-number.ensures in
     let few : length c.in_ok-found.found.orders ≤ c.args.limit = omega (arith, c.if-limit-len.false, c.len.ensures) in
-    at_first m c.in_ok-found.found c.in_ok-number.number c.in_ok-found.ensures _ refl refl number (c.none.ensures m c.first_number.new.numbers.contents) few
+    at_first m c.in_ok-found.found c.in_ok-number.number c.in_ok-found.ensures _ refl c.new.ensures.items number (c.none.ensures m c.first_number.new.numbers.contents) few

@@ -1,4 +1,4 @@
-use Rattle.std.proofs.Common.{◌<◌, ◌≤◌, ◌++◌, ◌∷◌, [], ℕ, refl, subst, sym, length, get_or, arith}
+use Rattle.std.proofs.Common.{◌∙◌, ◌<◌, ◌≤◌, ◌++◌, ◌∷◌, [], ℕ, refl, subst, sym, length, get_or, arith}
 use Rattle.dbtg_explore.specs.Inside.Found.{FoundOrders, IsEntered}
 use Rattle.dbtg_explore.proofs.Steps.{goes_further, goes_over}
 use Rattle.dbtg_explore.proofs.search.Search.take_turn.Goals as goal
@@ -21,6 +21,6 @@ returns-clause-goes c =
     let reached = c.in_ok-number.ensures.reaches in
     let few : length c.enter.new.self.orders ≤ c.args.self.now.limit = omega (arith, c.if-self-len.false, c.len.ensures, reached.limit_is) in
     let entered = subst (λ (f : FoundOrders ℕ). IsEntered f c.in_ok-number.number (get_or f.orders c.args.place [] ++ c.args.unit ∷ []) c.enter.new.self) reached.found_is c.in_ok-to.ensures.entered in
-    let edges_are = c.in_ok-push.ensures ∙ (λ j. reached.edges_are j ++ c.in_ok-new.ensures j ∷ []) in
+    let edges_are = c.in_ok-push.ensures.items ∙ (λ j. reached.edges_are j ++ c.in_ok-new.ensures j ∷ []) in
     goes_further m c.requires.meeting c.args.place c.args.unit c.args.self.now c.requires.within c.requires.at c.requires.turn c.next_state.new.self.numbers reached.keeps
     c.in_ok-number.number reached.number c.enter.new.self c.in_ok-to.to entered c.in_ok-to.ensures.place _ refl edges_are refl reached.seen reached.limit_is few
