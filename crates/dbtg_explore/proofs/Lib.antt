@@ -20,5 +20,7 @@ pub mod Transitions
 pub mod Next
 pub mod Visiting
 pub mod Rounding
+pub mod ForEver
+pub mod GoingRound
 pub mod Rows
 pub mod Versions

@@ -1,7 +1,7 @@
 -- The laws of runs and orders: every run in which programs come to their ends is one of the results, a run of the machine of events and
--- one by turns.
+-- one by turns; and where programs can go on for ever, there is a way round.
 -- m is a meeting, u a unit.
-use Rattle.std.specs.Prelude.{ℕ, ◌≡◌, true, false, List, [], ◌∷◌, ◌++◌, Some, map, length}
+use Rattle.std.specs.Prelude.{ℕ, ◌≡◌, ◌≤◌, true, false, List, [], ◌∷◌, ◌++◌, Some, map, length}
 use Rattle.std.specs.List.{range_with_len}
 use Rattle.dbtg_script.specs.Printing.Texts.{run_text}
 use Rattle.dbtg_unit.specs.declared.moves.Move.{Move}
@@ -19,9 +19,11 @@ use Rattle.dbtg_going.specs.declared.going.ProgramRun.{ProgramRun}
 use Rattle.dbtg_going.specs.Texts.{programs_text}
 use Rattle.dbtg_going.specs.Turns.{IsRunOf, after_turns, turns_before, turns_of}
 use Rattle.dbtg_outcomes.specs.Results.{by_unit}
-use Rattle.dbtg_explore.specs.Orders.{IsEnd, Meeting, beginning, can_go_on, history_of, waits}
+use Rattle.dbtg_explore.specs.declared.explored.Endless.{Endless}
+use Rattle.dbtg_explore.specs.Explored.{IsEndless}
+use Rattle.dbtg_explore.specs.Orders.{IsEnd, IsOrder, Meeting, beginning, can_go_on, can_turn, history_of, waits}
 use Rattle.dbtg_explore.specs.Results.{reached_of, state_text}
-use Rattle.dbtg_explore.specs.States.{state_after, state_of}
+use Rattle.dbtg_explore.specs.States.{CountsStates, state_after, state_of}
 
 -- the statements of a history are those of the programs, each to its end: it begins like the meeting; the entries of each unit belong to
 -- its program; the last program makes none after that as long as it has to wait; and at the end no program can go on
@@ -62,3 +64,18 @@ pub record RunsToItsEnd (m : Meeting) (around : Around) (told turns : List ℕ) 
 -- whatever the turns
 abbrev pub EveryRunByTurnsComesOut : Meeting → Type 0
 EveryRunByTurnsComesOut m = (around : Around) (told turns : List ℕ) (given : ProgramRun) → RunsToItsEnd m around told turns given → ComesOut m given.run
+
+-- FOR EVER
+
+-- the units of the first n turns of a run that does not end
+abbrev pub first_turns : (ℕ → ℕ) → ℕ → List ℕ
+first_turns run n = map run (range_with_len 0 n)
+
+-- programs go on for ever by these turns, and each unit that can have its turn has one again, sooner or later
+pub record GoesOnForEver (m : Meeting) (run : ℕ → ℕ) : Type 0 where
+  pub are_turns : (n : ℕ) → IsOrder m (first_turns run n)
+  pub again : (n u : ℕ) → can_turn m (history_of m (first_turns run n)) u ≡ true → (k : ℕ) × (n ≤ k) × (run k ≡ u)
+
+-- where there are n states, whoever goes on for ever goes round
+abbrev pub ForEverIsRound : Meeting → Type 0
+ForEverIsRound m = (n : ℕ) (run : ℕ → ℕ) → CountsStates m n → GoesOnForEver m run → (e : Endless) × IsEndless m e

@@ -1,5 +1,5 @@
 //! What orders say of runs, as the contract of a function that does nothing.
-ghost use Rattle.dbtg_explore.specs.Laws.{EveryRunByTurnsComesOut, EveryRunComesOut};
+ghost use Rattle.dbtg_explore.specs.Laws.{EveryRunByTurnsComesOut, EveryRunComesOut, ForEverIsRound};
 ghost use Rattle.dbtg_explore.specs.Orders.{Meeting};
 ghost use Rattle.dbtg_explore.specs.Versions.{VersionsAreNoState};
 
@@ -22,4 +22,10 @@ pub fn every_run_by_turns_comes_out()
 /// a new state each time.
 pub fn versions_are_no_state()
     ensures { VersionsAreNoState }
+{}
+
+/// Where orders lead to finitely many states: if programs can go on for ever, and each unit that can have its turn always has one again
+/// sooner or later, there is a way round. So where none is found, programs that take turns in this way come to an end.
+pub fn going_on_for_ever_goes_round()
+    ensures { (m : Meeting) → ForEverIsRound m }
 {}
