@@ -54,6 +54,22 @@ whole_turns : (u : ℕ) → (c : ℕ) × (to_the_end u ≡ replicate c u)
 unfolding to_the_end
 whole_turns u = (MOST_STATEMENTS, refl)
 
+-- OTHERS' TURNS
+
+module _ (m : Meeting) where
+  entries_kept : (es : List Entry) (u k : ℕ) (o : Option Statement) → u ≢ k → entries_of k (made m.schema m.capacity (length m.programs) es u o) ≡ entries_of k es
+  entries_kept es u k None other = refl
+  entries_kept es u k (Some s) other = by (effect_of_unit m.schema m.capacity (replay m.schema m.capacity (opening_state m.schema (length m.programs)) es) u s) where
+    by : (o : Option StatementEffect) → entries_of k (turns.with_effect_of es u s o) ≡ entries_of k es
+    by None = refl
+    by (Some o) = entries_other k es (record { ticket = length es; unit = u; statement = s; answer = o.answer }) other
+
+  -- whatever a unit makes, each other can go on if it could before
+  pub others_go_on : (es : List Entry) (u k : ℕ) (o : Option Statement) → u ≢ k → can_go_on m (made m.schema m.capacity (length m.programs) es u o) k ≡ can_go_on m es k
+  others_go_on es u k o other =
+      ap (λ es. is_some (option_and_then (λ (p : Program). statement_due m.schema (next m.schema p (program_state_after m.schema p (program_beginning p) es))) (unit_at m.programs k)))
+      (entries_kept es u k o other)
+
 module _ (m : Meeting) (around : Around) (last_is : m.last_waits ≡ around.last) where
   abbrev units : ℕ
   units = length m.programs
@@ -110,17 +126,8 @@ module _ (m : Meeting) (around : Around) (last_is : m.last_waits ≡ around.last
 
   -- TURNS OF THE LAST PROGRAM
 
-  entries_kept : (es : List Entry) (u k : ℕ) (o : Option Statement) → u ≢ k → entries_of k (made m.schema m.capacity units es u o) ≡ entries_of k es
-  entries_kept es u k None other = refl
-  entries_kept es u k (Some s) other = by (effect_of_unit m.schema m.capacity (replay m.schema m.capacity (opening_state m.schema units) es) u s) where
-    by : (o : Option StatementEffect) → entries_of k (turns.with_effect_of es u s o) ≡ entries_of k es
-    by None = refl
-    by (Some o) = entries_other k es (record { ticket = length es; unit = u; statement = s; answer = o.answer }) other
-
   others_stay : (es : List Entry) (u k : ℕ) → u ≢ k → can_go_on m (turned es u) k ≡ can_go_on m es k
-  others_stay es u k other =
-      ap (λ es. is_some (option_and_then (λ (p : Program). statement_due m.schema (next m.schema p (program_state_after m.schema p (program_beginning p) es))) (unit_at m.programs k)))
-      (entries_kept es u k (turns.statement_of m.schema m.programs es u) other)
+  others_stay es u k other = others_go_on m es u k (turns.statement_of m.schema m.programs es u) other
 
   others_stay_through : (c : ℕ) (es : List Entry) (u k : ℕ) → u ≢ k → can_go_on m (all_turned es (replicate c u)) k ≡ can_go_on m es k
   unfolding after_turns

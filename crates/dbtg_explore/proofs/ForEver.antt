@@ -1,12 +1,13 @@
 -- Runs that do not end and ways round, stated for whatever orders need: what is an order, what can follow one, the state to which one leads.
 -- run is a run that does not end: the unit of each turn. u is a unit, n, a and b are numbers of turns, i and j places in a list.
-use Rattle.std.proofs.Common.{◌≡◌, ℕ, zero, suc, ◌+◌, ◌-◌, ◌<◌, ◌≤◌, Bool, true, false, List, [], ◌∷◌, ◌++◌, length, map, get_or, refl, sym, ◌∙◌, ap, subst, arith, inl, inr, ◌⊎◌, ⊎_elim}
+use Rattle.std.proofs.Common.{◌≡◌, ℕ, zero, suc, ◌+◌, ◌-◌, ◌<◌, ◌≤◌, Bool, true, false, List, [], ◌∷◌, ◌++◌, append_assoc, append-nil, length, length-append, map, get_or, refl, sym, ◌∙◌, ap, subst, arith, inl, inr, ◌⊎◌}
 use Rattle.std.specs.Prelude.{Contains}
 use Rattle.std.specs.List.{range_with_len}
 use Rattle.std.proofs.lemmas.Bool.{cases_eq, cases_lt}
-use Rattle.std.proofs.lemmas.List.{get_or_default}
-use Rattle.std.proofs.lemmas.List.FromFn.{get_or-map-range_with_len, length-map-range_with_len}
+use Rattle.std.proofs.lemmas.List.{get_or-append_right, get_or_append_left, get_or_default}
+use Rattle.std.proofs.lemmas.List.FromFn.{fill_by_all, get_or-map-range_with_len, length-map-range_with_len}
 use Rattle.dbtg_explore.specs.Laws.{first_turns}
+use Rattle.dbtg_explore.proofs.Searched.{GoOn, contains_behind, contains_here}
 
 -- MORE NUMBERS THAN VALUES
 
@@ -230,3 +231,126 @@ module _ {S : Type 0} (IsOrder : List ℕ → Type 0) (can : List ℕ → ℕ �
         goes_round =
             let h = have_same (length orders) place (λ i low. (all (first_turns run (mark i)) (are_turns (mark i))).1.1) in
             (first_turns run (mark h.i), stretch run (mark h.i) (mark h.j - mark h.i), between h.i h.j h.before (sym (state_there h.i) ∙ ap (λ k. state (get_or orders k [])) h.same ∙ state_there h.j))
+
+  -- FROM A WAY ROUND
+
+  -- a unit that can have its turn still can when another has had one
+  abbrev pub Keeps : Type 0
+  Keeps = (o : List ℕ) (u v : ℕ) → can o u ≡ true → IsOrder (o ++ v ∷ []) → (v ≡ u → ⊥) → can (o ++ v ∷ []) u ≡ true
+
+  module _ (on : GoOn IsOrder can state) where
+    -- the front of an order is one
+    front : (o us : List ℕ) → IsOrder (o ++ us) → IsOrder o
+    front o [] is = subst IsOrder (append-nil o) is
+    front o (u ∷ us) is = on.front o u (front (o ++ u ∷ []) us (subst IsOrder (sym (append_assoc o (u ∷ []) us)) is))
+
+    -- turns that can follow one order can follow any other that leads to the same state
+    go_along : (us o p : List ℕ) → IsOrder o → IsOrder (p ++ us) → state o ≡ state p → IsOrder (o ++ us) × (state (o ++ us) ≡ state (p ++ us))
+    go_along [] o p is along same = (subst IsOrder (sym (append-nil o)) is, ap state (append-nil o) ∙ same ∙ ap state (sym (append-nil p)))
+    go_along (u ∷ us) o p is along same =
+        let rest : IsOrder ((p ++ u ∷ []) ++ us) = subst IsOrder (sym (append_assoc p (u ∷ []) us)) along in
+        let there = front (p ++ u ∷ []) us rest in
+        let here = on.more o u is (on.can_alike o p u same ∙ on.last p u there) in
+        let h = go_along us (o ++ u ∷ []) (p ++ u ∷ []) here rest (on.state_alike o p u here there same) in
+        (subst IsOrder (append_assoc o (u ∷ []) us) h.0, ap state (sym (append_assoc o (u ∷ []) us)) ∙ h.1 ∙ ap state (append_assoc p (u ∷ []) us))
+
+    -- along turns a unit that can have its turn has one, or it still can
+    still_can : Keeps → (us o : List ℕ) (u : ℕ) → IsOrder (o ++ us) → can o u ≡ true → Contains us u ⊎ (can (o ++ us) u ≡ true)
+    still_can keeps [] o u is can_u = inr (ap (λ p. can p u) (append-nil o) ∙ can_u)
+    still_can keeps (v ∷ us) o u is can_u =
+        let rest : IsOrder ((o ++ v ∷ []) ++ us) = subst IsOrder (sym (append_assoc o (v ∷ []) us)) is in
+        elim (cases_eq v u) [
+          | inl e ↦ inl (subst (Contains (v ∷ us)) e (contains_here v us))
+          | inr other ↦ elim (still_can keeps us (o ++ v ∷ []) u rest (keeps o u v can_u (front (o ++ v ∷ []) us rest) other)) [
+            | inl c ↦ inl (contains_behind v us u c)
+            | inr h ↦ inr (ap (λ p. can p u) (sym (append_assoc o (v ∷ []) us)) ∙ h)
+          ]
+        ]
+
+    module _ (keeps : Keeps) (turns round : List ℕ) (way : IsWayRound IsOrder can state turns round) where
+      -- the turns, and n times round
+      laps : ℕ → List ℕ
+      laps zero = turns
+      laps (suc n) = laps n ++ round
+
+      lap : (n : ℕ) → laps (suc n) ≡ laps n ++ round
+      unfolding laps
+      lap n = refl
+
+      laps_lead : (n : ℕ) → IsOrder (laps n) × (state (laps n) ≡ state turns)
+      unfolding laps
+      laps_lead zero = (front turns round way.is_order, refl)
+      laps_lead (suc n) = let h = laps_lead n in let on_again = go_along round (laps n) turns h.0 way.is_order h.1 in (on_again.0, on_again.1 ∙ way.comes_back)
+
+      laps_long : (n : ℕ) → n ≤ length (laps n)
+      laps_long zero = omega arith
+      laps_long (suc n) = let some = way.goes in let rest = laps_long n in let more = ap length (lap n) in let both = length-append (laps n) round in omega arith
+
+      laps_longer : (n k : ℕ) → length (laps n) ≤ length (laps (k + n))
+      laps_longer n zero = let same : 0 + n ≡ n = omega arith in let long = ap (λ j. length (laps j)) same in omega arith
+      laps_longer n (suc k) =
+          let same : suc k + n ≡ suc (k + n) = omega arith in
+          let long = ap (λ j. length (laps j)) same in
+          let rest = laps_longer n k in
+          let more = ap length (lap (k + n)) in
+          let both = length-append (laps (k + n)) round in
+          omega arith
+
+      -- further laps change no turn
+      laps_same : (n k i : ℕ) → i < length (laps n) → get_or (laps (k + n)) i 0 ≡ get_or (laps n) i 0
+      laps_same n zero i low = let same : 0 + n ≡ n = omega arith in ap (λ j. get_or (laps j) i 0) same
+      laps_same n (suc k) i low =
+          let same : suc k + n ≡ suc (k + n) = omega arith in
+          let longer = laps_longer n k in
+          ap (λ j. get_or (laps j) i 0) same ∙ ap (λ us. get_or us i 0) (lap (k + n)) ∙ get_or_append_left (laps (k + n)) round 0 i (omega arith) ∙ laps_same n k i low
+
+      -- the turns, and for ever round
+      pub round_run : ℕ → ℕ
+      round_run i = get_or (laps (suc i)) i 0
+
+      run_at : (i : ℕ) → round_run i ≡ get_or (laps (suc i)) i 0
+      unfolding round_run
+      run_at i = refl
+
+      laps_at : (n i : ℕ) → i < length (laps n) → get_or (laps n) i 0 ≡ round_run i
+      laps_at n i low =
+          let long = laps_long (suc i) in
+          let either : suc i + n ≡ n + suc i = omega arith in
+          sym (laps_same n (suc i) i low) ∙ ap (λ j. get_or (laps j) i 0) either ∙ laps_same (suc i) n i (omega arith) ∙ sym (run_at i)
+
+      laps_are : (n : ℕ) → laps n ≡ first_turns round_run (length (laps n))
+      laps_are n = fill_by_all round_run (laps n) (length (laps n)) 0 refl (λ i low. laps_at n i low)
+
+      -- what is left of n laps after n turns
+      abbrev left : ℕ → List ℕ
+      left n = stretch round_run n (length (laps n) - n)
+
+      laps_both : (n : ℕ) → laps n ≡ first_turns round_run n ++ left n
+      laps_both n = laps_are n ∙ first_both round_run n (length (laps n)) (laps_long n)
+
+      laps_order : (n : ℕ) → IsOrder (first_turns round_run n ++ left n)
+      laps_order n = subst IsOrder (laps_both n) (laps_lead n).0
+
+      pub run_is_order : (n : ℕ) → IsOrder (first_turns round_run n)
+      run_is_order n = front (first_turns round_run n) (left n) (laps_order n)
+
+      -- a unit that has a turn on the way round has one in the next lap
+      next_lap : (n u : ℕ) → Contains round u → (k : ℕ) × (n ≤ k) × (round_run k ≡ u)
+      next_lap n u c =
+          let long = laps_long n in
+          let more = ap length (lap n) in
+          let both = length-append (laps n) round in
+          let low = c.1 in
+          let k = length (laps n) + c.0 in
+          let there : k - length (laps n) ≡ c.0 = omega arith in
+          (k, omega arith, sym (laps_at (suc n) k (omega arith)) ∙ ap (λ us. get_or us k 0) (lap n) ∙ get_or-append_right (laps n) round (length (laps n)) k 0 refl (omega arith) ∙ ap (λ j. get_or round j 0) there ∙ get_or_default round c.0 0 u low ∙ c.2)
+
+      -- each unit that can have its turn has one again
+      pub run_again : (n u : ℕ) → can (first_turns round_run n) u ≡ true → (k : ℕ) × (n ≤ k) × (round_run k ≡ u)
+      run_again n u can_u = elim (still_can keeps (left n) (first_turns round_run n) u (laps_order n) can_u) [
+        | inl c ↦
+            let long = length-map-range_with_len round_run n (length (laps n) - n) in
+            let low = c.1 in
+            (n + c.0, omega arith, sym (get_or-map-range_with_len round_run n (length (laps n) - n) c.0 (n + c.0) u (omega arith) refl) ∙ c.2)
+        | inr h ↦ next_lap n u (way.fair u (sym (on.can_alike (laps n) turns u (laps_lead n).1) ∙ ap (λ o. can o u) (laps_both n) ∙ h))
+      ]

@@ -1,5 +1,5 @@
 -- The laws of runs and orders: every run in which programs come to their ends is one of the results, a run of the machine of events and
--- one by turns; and where programs can go on for ever, there is a way round.
+-- one by turns; and programs can go on for ever where there is a way round.
 -- m is a meeting, u a unit.
 use Rattle.std.specs.Prelude.{ℕ, ◌≡◌, ◌≤◌, true, false, List, [], ◌∷◌, ◌++◌, Some, map, length}
 use Rattle.std.specs.List.{range_with_len}
@@ -79,3 +79,7 @@ pub record GoesOnForEver (m : Meeting) (run : ℕ → ℕ) : Type 0 where
 -- where there are n states, whoever goes on for ever goes round
 abbrev pub ForEverIsRound : Meeting → Type 0
 ForEverIsRound m = (n : ℕ) (run : ℕ → ℕ) → CountsStates m n → GoesOnForEver m run → (e : Endless) × IsEndless m e
+
+-- and a way round can be gone round for ever
+abbrev pub RoundIsForEver : Meeting → Type 0
+RoundIsForEver m = (e : Endless) → IsEndless m e → (run : ℕ → ℕ) × GoesOnForEver m run

@@ -1,5 +1,5 @@
 //! What orders say of runs, as the contract of a function that does nothing.
-ghost use Rattle.dbtg_explore.specs.Laws.{EveryRunByTurnsComesOut, EveryRunComesOut, ForEverIsRound};
+ghost use Rattle.dbtg_explore.specs.Laws.{EveryRunByTurnsComesOut, EveryRunComesOut, ForEverIsRound, RoundIsForEver};
 ghost use Rattle.dbtg_explore.specs.Orders.{Meeting};
 ghost use Rattle.dbtg_explore.specs.Versions.{VersionsAreNoState};
 
@@ -28,4 +28,10 @@ pub fn versions_are_no_state()
 /// sooner or later, there is a way round. So where none is found, programs that take turns in this way come to an end.
 pub fn going_on_for_ever_goes_round()
     ensures { (m : Meeting) → ForEverIsRound m }
+{}
+
+/// A way round can be gone round for ever, and then each unit that can have its turn has one again and again: also one that can have its
+/// turn on the way, or before it.
+pub fn a_round_goes_on_for_ever()
+    ensures { (m : Meeting) → RoundIsForEver m }
 {}
