@@ -57,9 +57,9 @@ module _ (m : Meeting) where
 
   -- a program can go on after a turn only if it could before
   could_before : (es : List Entry) (v k : ℕ) → can_go_on m es v ≡ true → can_go_on m (after_turn m es v) k ≡ true → can_go_on m es k ≡ true
-  could_before es v k goes then = elim (cases_eq v k) [
+  could_before es v k goes after = elim (cases_eq v k) [
     | inl e ↦ subst (λ (j : ℕ). can_go_on m es j ≡ true) e goes
-    | inr other ↦ sym (others_go_on m es v k (due_of m es v) other) ∙ then
+    | inr other ↦ sym (others_go_on m es v k (due_of m es v) other) ∙ after
   ]
 
   -- a unit that does not wait does not wait after a turn
