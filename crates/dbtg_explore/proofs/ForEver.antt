@@ -139,27 +139,32 @@ module _ {S : Type 0} (IsOrder : List ℕ → Type 0) (can : List ℕ → ℕ �
       had : (u : ℕ) → u < most → can (first_turns run n) u ≡ true → (k : ℕ) × (n ≤ k) × (k < b) × (run k ≡ u)
 
     one_more : (n most b : ℕ) → HaveHad n most b → (c : Bool) → can (first_turns run n) most ≡ c → (b : ℕ) × HaveHad n (suc most) b
-    one_more n most b h false cannot = (b, record {
-      later = h.later;
-      had = λ u low can_u. elim (cases_lt u most) [
-        | inl below ↦ h.had u below can_u
-        | inr above ↦
-            let e : u ≡ most = omega arith in
-            absurd (let both : can (first_turns run n) most ≡ true = subst (λ (w : ℕ). can (first_turns run n) w ≡ true) e can_u in cc)
-      ];
-    })
+    one_more n most b h false cannot = (
+      b,
+      record {
+        later = h.later;
+        had = λ u low can_u. elim (cases_lt u most) [
+          | inl below ↦ h.had u below can_u
+          | inr above ↦
+              let e : u ≡ most = omega arith in
+              absurd (let both : can (first_turns run n) most ≡ true = subst (λ (w : ℕ). can (first_turns run n) w ≡ true) e can_u in cc)
+        ];
+      },
+    )
     one_more n most b h true can_most =
         let next = again n most can_most in
         let k = next.0 in
         let from = next.1 in
-        let later = h.later in
-        (b + suc k, record {
-          later = omega arith;
-          had = λ u low can_u. elim (cases_lt u most) [
-            | inl below ↦ let r = h.had u below can_u in let high = r.2 in (r.0, r.1, omega arith, r.3)
-            | inr above ↦ let e : most ≡ u = omega arith in (k, from, omega arith, next.2 ∙ e)
-          ];
-        })
+        let later = h.later in (
+          b + suc k,
+          record {
+            later = omega arith;
+            had = λ u low can_u. elim (cases_lt u most) [
+              | inl below ↦ let r = h.had u below can_u in let high = r.2 in (r.0, r.1, omega arith, r.3)
+              | inr above ↦ let e : most ≡ u = omega arith in (k, from, omega arith, next.2 ∙ e)
+            ];
+          },
+        )
 
     -- there is such a turn
     sooner_or_later : (n most : ℕ) → (b : ℕ) × HaveHad n most b

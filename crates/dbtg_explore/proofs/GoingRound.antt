@@ -83,8 +83,10 @@ module _ (m : Meeting) where
 
   pub round_is_for_ever : RoundIsForEver m
   round_is_for_ever e is =
-      let way = way_of e is in
-      (round_run (IsOrder m) (can_follow m) (essence_of m) (goes_on m) keeps e.turns e.round way, record {
-        are_turns = run_is_order (IsOrder m) (can_follow m) (essence_of m) (goes_on m) keeps e.turns e.round way;
-        again = run_again (IsOrder m) (can_follow m) (essence_of m) (goes_on m) keeps e.turns e.round way;
-      })
+      let way = way_of e is in (
+        round_run (IsOrder m) (can_follow m) (essence_of m) (goes_on m) keeps e.turns e.round way,
+        record {
+          are_turns = run_is_order (IsOrder m) (can_follow m) (essence_of m) (goes_on m) keeps e.turns e.round way;
+          again = run_again (IsOrder m) (can_follow m) (essence_of m) (goes_on m) keeps e.turns e.round way;
+        },
+      )
