@@ -1,6 +1,6 @@
 -- Programs that go on for ever go round, and programs that go round can go on for ever.
 -- m is a meeting, n a number of states, run the unit of each turn, es are entries, o is an order, u, v and k are units.
-use Rattle.std.proofs.Common.{◌≡◌, sym, ◌∙◌, ap, subst, refl, ℕ, ◌-◌, Bool, true, false, ◌&&◌, ◌||◌, List, [], ◌∷◌, ◌++◌, length, inl, inr}
+use Rattle.std.proofs.Common.{◌≡◌, sym, ◌∙◌, ap, subst, refl, ℕ, ◌-◌, Bool, true, false, ◌&&◌, List, [], ◌∷◌, length, inl, inr}
 use Rattle.std.specs.Prelude.{◌==◌, not}
 use Rattle.std.specs.List.{list_any, range_with_len}
 use Rattle.std.proofs.lemmas.Bool.{cases_eq, or_from, or_parts}
@@ -8,9 +8,9 @@ use Rattle.dbtg_unit.specs.declared.unit.Entry.{Entry}
 use Rattle.dbtg_explore.specs.declared.explored.Endless.{Endless}
 use Rattle.dbtg_explore.specs.Explored.{IsEndless}
 use Rattle.dbtg_explore.specs.Inside.Steps.{can_follow}
-use Rattle.dbtg_explore.specs.Laws.{ForEverIsRound, GoesOnForEver, RoundIsForEver}
+use Rattle.dbtg_explore.specs.Laws.{ForEverIsRound, RoundIsForEver}
 use Rattle.dbtg_explore.specs.Orders.{IsOrder, Meeting, after_turn, can_go_on, can_turn, due_of, history_of, waits}
-use Rattle.dbtg_explore.specs.States.{CountsStates, essence_of}
+use Rattle.dbtg_explore.specs.States.{essence_of}
 use Rattle.dbtg_explore.proofs.ByTurns.{others_go_on}
 use Rattle.dbtg_explore.proofs.ForEver.{IsWayRound, Keeps, goes_round, round_run, run_again, run_is_order}
 use Rattle.dbtg_explore.proofs.Steps.{cannot_beyond, goes_on}
