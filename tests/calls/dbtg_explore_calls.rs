@@ -1,4 +1,4 @@
-//! Explores programs that meet, as a caller does, with memory to spare. That a way round is found where there is one no contract says.
+//! Explores programs that meet, as a caller does, with memory to spare.
 
 use dbtg_explore::{Explored, Meeting, explore};
 use dbtg_outcomes::Unwatched;
