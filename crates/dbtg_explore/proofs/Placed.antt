@@ -1,7 +1,7 @@
 -- Where a meeting is, and where a turn leads from there.
 -- m is a meeting, u a unit, x a statement.
-use Rattle.std.proofs.Common.{append_assoc, ◌≡◌, ℕ, zero, suc, ◌+◌, ◌-◌, ◌<◌, ◌≤◌, Bool, true, false, ◌&&◌, List, [], ◌∷◌, ◌++◌, length, map, Option, Some, None, inr, refl, ap, subst, sym, ◌∙◌, slice_get, arith}
-use Rattle.std.specs.Prelude.{flat_map, if◌then◌else◌, is_some, not, option_and_then, option_map, option_to_list, nat_lt, slice_index_or, ◌||◌}
+use Rattle.std.proofs.Common.{append_assoc, ◌≡◌, ℕ, zero, suc, ◌+◌, ◌-◌, ◌<◌, ◌≤◌, Bool, true, false, List, [], ◌∷◌, ◌++◌, length, map, Option, Some, None, inr, refl, ap, subst, sym, ◌∙◌, slice_get, arith}
+use Rattle.std.specs.Prelude.{flat_map, if◌then◌else◌, option_and_then, option_map, option_to_list, nat_lt, slice_index_or, ◌||◌}
 use Rattle.std.specs.List.{list_all, list_any, range_with_len}
 use Rattle.std.proofs.lemmas.Bool.Decides.{nat_tests}
 use Rattle.dbtg_schema.specs.Lists.{Lists}
@@ -29,7 +29,7 @@ use Rattle.dbtg_going.specs.Texts.{programs_text}
 use Rattle.dbtg_script.specs.Printing.Texts.{run_text}
 use Rattle.dbtg_outcomes.specs.Results.{by_unit}
 use Rattle.dbtg_outcomes.specs.Spelling.{unit_numbers}
-use Rattle.dbtg_explore.specs.Orders.{IsMeeting, Meeting, after_turn, can_go_on, can_turn, due_of, waits}
+use Rattle.dbtg_explore.specs.Orders.{IsMeeting, Meeting, after_turn, can_go_on, can_turn, due_of}
 use Rattle.dbtg_explore.specs.Results.{reached_of, state_text}
 use Rattle.dbtg_explore.specs.States.{comes_of_each, sequential_after, state_after, without_versions}
 use Rattle.dbtg_explore.specs.Inside.Keys.{due_numbers}

@@ -1,7 +1,7 @@
 -- Transitions: what a statement that was made once looked at, and what it left there.
 -- m is a meeting, o and q are orders, u and v are units, x is a statement, l is a look, n the number of a state. If a statement changed a
 -- record it is `changing`.
-use Rattle.std.specs.Prelude.{ℕ, ◌≡◌, ◌≢◌, ◌+◌, ◌-◌, ◌<◌, Bool, true, false, List, [], ◌∷◌, ◌++◌, Some, map, unwrap_or, All, Contains, length}
+use Rattle.std.specs.Prelude.{ℕ, ◌≡◌, ◌≢◌, ◌+◌, Bool, true, false, List, [], ◌∷◌, ◌++◌, Some, All, Contains, length}
 use Rattle.std.specs.List.{list_all}
 use Rattle.dbtg_cells.specs.CellNumbers.{cell_count, is_cell}
 use Rattle.dbtg_cells.specs.declared.name.CellName.{CellName}

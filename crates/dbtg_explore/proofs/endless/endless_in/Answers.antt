@@ -1,4 +1,4 @@
-use Rattle.std.proofs.Common.{◌≡◌, ◌∙◌, ℕ, ◌≤◌, List, Option, sym, subst}
+use Rattle.std.proofs.Common.{◌∙◌, ℕ, ◌≤◌, List, Option, sym, subst}
 use Rattle.std.specs.Prelude.{IfSome, Some}
 use Rattle.dbtg_rounds.specs.Rounds.{AreWithin, IsRound}
 use Rattle.dbtg_rounds.specs.declared.round.Round.{Round}

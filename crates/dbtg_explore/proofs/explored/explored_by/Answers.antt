@@ -4,10 +4,10 @@ use Rattle.dbtg_explore.proofs.explored.explored_by.Goals as goal
 
 pub returns-clause-explored : goal.returns-clause-explored
 returns-clause-explored g c =
-    is_explored c.args.meeting.now c.args.limit c.in_ok-search.search c.in_ok-search.ends c.in_ok-search.ensures.through _ c.len-states.ensures c.into_orders.ensures c.of.ensures c.in_ok-endless.ensures
+    is_explored c.args.meeting.now c.args.limit c.in_ok-search.search c.in_ok-search.ends c.in_ok-search.ensures.through _ c.len-states.ensures c.into_orders.ensures c.of.ensures (c.in_ok-endless.ensures c.args.meeting.now c.in_ok-search.ensures.through.visited.at)
 
-pub endless_in-requires-clause-at : goal.endless_in-requires-clause-at
-endless_in-requires-clause-at g c = c.in_ok-search.ensures.through.visited.at
+pub endless_in-requires : goal.endless_in-requires
+endless_in-requires g c = (c.args.meeting.now, c.in_ok-search.ensures.through.visited.at)
 
 pub returns-in_err-endless-clause-stopped : goal.returns-in_err-endless-clause-stopped
 returns-in_err-endless-clause-stopped g c =
