@@ -18,10 +18,10 @@ use Rattle.dbtg_step.specs.Machine.SequentialDatabase.{unit_at, with_unit_at}
 use Rattle.dbtg_going.specs.Turns as turns
 use Rattle.dbtg_going.specs.Turns.{comes, made, statement_due}
 use Rattle.dbtg_going.proofs.Turning.{state_behind}
-use Rattle.dbtg_explore.specs.Orders.{CanFollow, Meeting, after_order, after_turn, can_go_on, can_turn, due_of, history_of, IsOrder}
+use Rattle.dbtg_explore.specs.Orders.{CanFollow, Meeting, after_order, after_turn, can_go_on, can_turn, due_of, history_of}
 use Rattle.dbtg_explore.specs.States.{Essence, MeetingState, comes_of_each, essence, essence_of, sequential_after, state_after, state_of}
 use Rattle.dbtg_explore.specs.Versions.{essential}
-use Rattle.dbtg_explore.proofs.Turning.{history_on, last_can, order_on}
+use Rattle.dbtg_explore.proofs.Turning.{history_on}
 use Rattle.dbtg_explore.proofs.Versions.Same.{IsKept, both_step, history_kept}
 
 -- WHAT A STATE SAYS
@@ -220,10 +220,6 @@ module _ (m : Meeting) where
   -- the state after one more turn
   pub state_of_on : (o : List ℕ) (u : ℕ) → state_of m (o ++ u ∷ []) ≡ state_then m (state_of m o) u
   state_of_on o u = ap (state_after m) (history_on m o u) ∙ state_on (history_of m o) u
-
-  -- if two orders lead to the same state, what can follow one can follow the other, and leads to the same state
-  pub order_after : (o p : List ℕ) (u : ℕ) → IsOrder m p → essence_of m o ≡ essence_of m p → IsOrder m (o ++ u ∷ []) → IsOrder m (p ++ u ∷ [])
-  order_after o p u is e on = order_on m p u is (sym (can_turn_alike (history_of m o) (history_of m p) u e) ∙ last_can m o u on)
 
   pub same_after : (o p : List ℕ) (u : ℕ) → essence_of m o ≡ essence_of m p → essence_of m (o ++ u ∷ []) ≡ essence_of m (p ++ u ∷ [])
   same_after o p u e = ap essence (state_of_on o u) ∙ then_alike (state_of m o) (state_of m p) u (kept_after (history_of m o)) (kept_after (history_of m p)) e ∙ sym (ap essence (state_of_on p u))

@@ -22,7 +22,7 @@ use Rattle.dbtg_explore.specs.Inside.Walks.{failure_by, failure_in}
 use Rattle.dbtg_explore.specs.Orders.{IsEnd, Meeting, can_go_on, history_of}
 use Rattle.dbtg_explore.specs.Results.{result_text}
 use Rattle.dbtg_explore.specs.States.{comes_of_each, state_after, state_of}
-use Rattle.dbtg_explore.proofs.Searched.{contains_none, known_result, new_result, no_result, no_results}
+use Rattle.dbtg_explore.proofs.Searched.{known_result, new_result, no_result}
 use Rattle.dbtg_explore.proofs.Steps.{in_map, none_before, none_beyond, of_map}
 
 -- FAILURES
@@ -109,9 +109,6 @@ module _ (m : Meeting) (history : List Entry) where
   }
 
 module _ (m : Meeting) where
-  pub no_failures : AreFailuresOf m [] []
-  no_failures = record { fail = λ f c. absurd (contains_none f c); all = λ f o c. absurd (contains_none o c); in_order = tt }
-
   -- the failures after one more order
   pub failures_more : (seen : List (List ℕ)) (o : List ℕ) (history : List Entry) (fs gs : List Failure) → history ≡ history_of m o → Take (FailsIn (state_after m history)) fs gs → AreFailuresOf m seen fs → AreFailuresOf m (seen ++ o ∷ []) gs
   failures_more seen o history fs gs is t h =
@@ -124,9 +121,6 @@ module _ (m : Meeting) where
       }
 
   -- RESULTS
-
-  pub no_results_yet : AreResultsOf m [] (record { keys = []; orders = [] })
-  no_results_yet = record { firsts = no_results (IsEnd m) (result_text m); keys_are = refl }
 
   -- if a program can go on, the order has not come to an end
   pub goes_on_there : (o : List ℕ) (old : FoundOrders (List ℕ)) → (IsEnd m o → ⊥) → NotesResult m o old old

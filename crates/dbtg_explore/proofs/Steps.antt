@@ -2,8 +2,6 @@
 -- m is a meeting, o and p are orders, u is a unit, i and k are places of orders that are found, es are turns that are noted.
 use Rattle.std.proofs.Common.{◌≡◌, refl, sym, ◌∙◌, ap, subst, ℕ, zero, suc, ◌+◌, ◌<◌, ◌≤◌, true, false, List, [], ◌∷◌, ◌++◌, append_assoc, append-nil, length, length-append, map, get_or, None, Some, arith, inl, inr, ⊎_elim}
 use Rattle.std.specs.Prelude.{Contains, slice_get}
-use Rattle.std.proofs.lemmas.List.{get_or_append_left}
-use Rattle.std.proofs.lemmas.List.Elements.{Contains-get_or}
 use Rattle.std.proofs.lemmas.Option.{same_Some}
 use Rattle.dbtg_unit.specs.declared.unit.Entry.{Entry}
 use Rattle.dbtg_step.specs.Machine.SequentialDatabase.{unit_at}
@@ -121,9 +119,6 @@ module _ (m : Meeting) where
   turned os i u = get_or os i [] ++ u ∷ []
 
   module _ (meets : IsMeeting m) (i u : ℕ) (old : given.Search) (in_range : i < length old.found.orders) (at : IsAt m i u old) (can : can_follow m (get_or old.found.orders i []) u ≡ true) where
-    pub next_is_order : IsOrder m (turned old.found.orders i u)
-    next_is_order = goes_on.more (get_or old.found.orders i []) u (at.under_way.are_orders _ (Contains-get_or old.found.orders i [] in_range)) can
-
     module _ (kept : Numbers) (grown : Grow old.numbers kept) (n : ℕ) (number : IsNumberOf m kept (history_of m (turned old.found.orders i u)) n) where
       known : AreNumbered m kept old.found.keys old.found.orders
       known = numbered_later m old.numbers kept number.number.kept_once grown old.found.keys old.found.orders at.known
@@ -204,9 +199,6 @@ module _ (m : Meeting) where
     kept = h.kept ∙ ap (λ os. os ++ h.more) g.kept ∙ append_assoc a.found.orders g.more h.more;
     limit_is = h.limit_is ∙ g.limit_is;
   }
-
-  pub kept_at : (i j u : ℕ) (a b : given.Search) → Goes m i u a b → j < length a.found.orders → get_or b.found.orders j [] ≡ get_or a.found.orders j []
-  kept_at i j u a b g low = ap (λ os. get_or os j []) g.kept ∙ get_or_append_left a.found.orders g.more [] j low
 
   pub kept_range : (i j u : ℕ) (a b : given.Search) → Goes m i u a b → j < length a.found.orders → j < length b.found.orders
   kept_range i j u a b g low = let e = ap length g.kept in let f = length-append a.found.orders g.more in omega arith

@@ -134,9 +134,6 @@ module _ (m : Meeting) where
           in_order = failures.in_order;
         }
 
-    pub is_within : length s.found.orders ≤ limit
-    is_within = let few = through.visited.at.few in let same = through.limit_is in omega arith
-
     -- so everything is explored, except for ways round
     pub is_explored : (all : given.Explored) → all.states ≡ length s.found.orders → all.results ≡ e.results.orders → all.failures ≡ e.failures.items → IsFirstEndless m all.endless → IsExplored m all
     is_explored all states_are results_are failures_are endless = record {
