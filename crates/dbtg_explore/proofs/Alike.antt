@@ -18,7 +18,7 @@ use Rattle.dbtg_step.specs.Machine.SequentialDatabase.{unit_at, with_unit_at}
 use Rattle.dbtg_going.specs.Turns as turns
 use Rattle.dbtg_going.specs.Turns.{comes, made, statement_due}
 use Rattle.dbtg_going.proofs.Turning.{state_behind}
-use Rattle.dbtg_explore.specs.Orders.{CanFollow, Meeting, after_order, after_turn, can_go_on, can_turn, due_of, history_of}
+use Rattle.dbtg_explore.specs.Orders.{Meeting, after_turn, can_go_on, can_turn, due_of, history_of}
 use Rattle.dbtg_explore.specs.States.{Essence, MeetingState, comes_of_each, essence, essence_of, sequential_after, state_after, state_of}
 use Rattle.dbtg_explore.specs.Versions.{essential}
 use Rattle.dbtg_explore.proofs.Turning.{history_on}
@@ -204,16 +204,6 @@ module _ (m : Meeting) where
 
   pub turn_alike : (h g : List Entry) (u : ℕ) → essence (state_after m h) ≡ essence (state_after m g) → essence (state_after m (after_turn m h u)) ≡ essence (state_after m (after_turn m g u))
   turn_alike h g u e = ap essence (state_on h u) ∙ then_alike (state_after m h) (state_after m g) u (kept_after h) (kept_after g) e ∙ sym (ap essence (state_on g u))
-
-  pub order_alike : (h g : List Entry) (us : List ℕ) → essence (state_after m h) ≡ essence (state_after m g) → essence (state_after m (after_order m h us)) ≡ essence (state_after m (after_order m g us))
-  unfolding after_order
-  order_alike h g [] e = e
-  order_alike h g (u ∷ us) e = order_alike (after_turn m h u) (after_turn m g u) us (turn_alike h g u e)
-
-  pub follow_alike : (h g : List Entry) (us : List ℕ) → essence (state_after m h) ≡ essence (state_after m g) → CanFollow m h us → CanFollow m g us
-  unfolding CanFollow
-  follow_alike h g [] e f = tt
-  follow_alike h g (u ∷ us) e f = (sym (can_turn_alike h g u e) ∙ f.0, follow_alike (after_turn m h u) (after_turn m g u) us (turn_alike h g u e) f.1)
 
   -- ORDERS
 

@@ -310,9 +310,6 @@ module _ {S : Type 0} (IsOrder : List ℕ → Type 0) (can : List ℕ → ℕ �
 -- RESULTS
 
 module _ (IsEnd : List ℕ → Type 0) (text : List ℕ → List ℕ) where
-  pub no_results : AreFirsts IsEnd text [] []
-  no_results = record { are_seen = λ r c. c; ends = λ r c. absurd (contains_none r c); all = λ o c. absurd (contains_none o c); once = tt; in_order = tt }
-
   module _ (seen results : List (List ℕ)) (o : List ℕ) (h : AreFirsts IsEnd text seen results) where
     seen_more : (more : List (List ℕ)) → ((r : List ℕ) → Contains results r → Contains more r) → (IsEnd o → HasFirst text more o) → (p : List ℕ) → Contains (seen ++ o ∷ []) p → IsEnd p → HasFirst text more p
     seen_more more kept new p c end =
