@@ -15,7 +15,7 @@ pub record IsEndless (m : Meeting) (e : Endless) : Type 0 where
   pub goes : 0 < length e.round
   pub fair : (u : ℕ) → can_turn m (history_of m e.turns) u ≡ true → Contains e.round u
 
--- a way round to which no other's turns lead earlier; or there is no way round
+-- a way round whose turns come no later than those that lead to any other; or there is none
 abbrev pub IsFirstEndless : Meeting → Option Endless → Type 0
 IsFirstEndless m (Some e) = IsEndless m e × ((o : Endless) → IsEndless m o → IsNoLater e.turns o.turns)
 IsFirstEndless m None = (o : Endless) → IsEndless m o → ⊥

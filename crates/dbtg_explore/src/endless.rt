@@ -1,4 +1,4 @@
-//! A way that programs can go round for ever, as the turns show it that a search has noted.
+//! A way that programs can go round for ever, found among the turns that a search has noted.
 
 ghost use Rattle.dbtg_explore.specs.Explored.{IsFirstEndless};
 ghost use Rattle.dbtg_explore.specs.Inside.Steps.{IsAt};

@@ -1,4 +1,4 @@
-//! Ways round in a graph of states: turns that can be taken again and again, with none that is possible where they begin left out.
+//! Ways round in a graph of states: turns that come back to the state where they begin, and leave out no unit that can have its turn there.
 #![tactic(auto)]
 
 mod edge;

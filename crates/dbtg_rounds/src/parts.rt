@@ -1,4 +1,4 @@
-//! A guess at the parts of a graph: states from each of which turns lead to all others. What counts on it is checked first.
+//! A guess at the parts of a graph: states that all lead to one another. Whoever relies on it checks it first.
 
 ghost use Rattle.std.specs.Prelude.{◌≡◌, length, IfOk};
 

@@ -14,8 +14,8 @@ pub(crate) struct Link {
     pub unit: u8,
 }
 
-/// States that are reached from the first of them, in the order in which they were met. Each other has the turn that led to it, and is
-/// marked.
+/// States that are reached from the first of them, in the order in which they were met; for each but the first the turn that led to it; and
+/// for each state of the graph whether it was met.
 #[derive(Drop)]
 pub(crate) struct Reached {
     pub states: Vec<usize>,

@@ -31,7 +31,7 @@ fn leading_to(alloc: Global, back: &Graph, state: usize) -> Result<Vec<bool>, Al
     Ok(reached.seen)
 }
 
-// Appends a walk to the goal, by way of marked states, to turns that lead to where it begins. Whether there is one.
+// Goes on from the end of the turns to the goal, by way of marked states. Says whether there is a way.
 fn go_on(
     alloc: Global,
     graph: &Graph,
@@ -54,7 +54,7 @@ fn go_on(
     }
 }
 
-// The same for a turn of the unit, unless there is one among the turns.
+// Goes on to a turn of the unit, unless the turns have one. Says whether there is a way.
 fn take_one(
     alloc: Global,
     graph: &Graph,
@@ -73,7 +73,7 @@ fn take_one(
     go_on(alloc, graph, within, taken, Goal::Unit(unit))
 }
 
-// The same for a state, unless the turns end there.
+// Goes on to a state, unless the turns end there. Says whether there is a way.
 fn come_to(
     alloc: Global,
     graph: &Graph,
@@ -92,8 +92,7 @@ fn come_to(
     go_on(alloc, graph, within, taken, Goal::State(state))
 }
 
-// Turns from a state by way of marked states, one of each unit that can have one there among them, and the state to which they lead. None if
-// a unit's turn cannot be had.
+// Turns that lead from a state by way of marked states, with one of each unit that can have a turn there. None if one cannot be had.
 fn take_each(
     alloc: Global,
     graph: &Graph,

@@ -1,4 +1,4 @@
-//! States in which no way round can begin, as ranks show that fall along ways.
+//! States in which no way round begins, by ranks that rise along no edge.
 
 ghost use Rattle.std.specs.Prelude.{◌≡◌, ◌≢◌, ◌==◌, ◌⊎◌, ◌<◌, ℕ, List, true, Contains, length, IfOk};
 ghost use Rattle.dbtg_rounds.specs.Rounds.{AreWithin, IsRound};
