@@ -102,13 +102,15 @@ class Explored:
                 self.results.setdefault(told_apart(run), (order, run.text()))
         return state
 
-    def is_endless(self):
-        """Whether there is a way round on which each program that can go on has its turn."""
-        return any(self.is_fair(states) for states in self.rounds())
+    def first_round(self):
+        """The turns that lead to the first state from which a way round leads back, with a turn of each program that can go on there."""
+        begins = {state for states in self.rounds() for state in self.fair_in(states)}
+        return next((order for state, order in self.orders.items() if state in begins), None)
 
-    def is_fair(self, states):
+    def fair_in(self, states):
+        """The states of which each program that can go on there can have its turn within these."""
         inside = {unit for state in states for unit, after in self.steps[state] if after in states}
-        return bool(inside) and any(inside >= set(self.units[state]) for state in states)
+        return [state for state in states if inside and inside >= set(self.units[state])]
 
     def rounds(self):
         """The greatest sets of states of which each leads to each."""
@@ -161,16 +163,16 @@ ENDLESS = re.compile(r"(?m)^endless turns(.*) then (.*)\n")
 
 
 def explore(folder, words, wanted):
-    """What `explore` with these words prints. There is no promise which way round a line `endless` tells: the line is that of the text
-    that is wanted, if it can be gone for ever."""
+    """What `explore` with these words prints. There is no promise which turns go round in a line `endless`: the line is that of the text
+    that is wanted, if its turns lead to the first way round, and go round for ever."""
     options, _, (schema, *texts) = asked(folder, words)
     turns = machine.turns_in(machine.read(f"{folder}/{options['--turns']}")) if "--turns" in options else []
     meeting = Meeting(schema, int(options.get("--capacity", "100")), texts, "--first" in options, "--then" in options, turns)
     states = Explored(meeting, int(options.get("--limit", "100000")))
     if states.is_over:
         return ""
-    line, told = "", ENDLESS.search(wanted)
-    if states.is_endless():
-        holds = told and round_holds(meeting, machine.turns_in(told[1])[len(turns):], machine.turns_in(told[2]))
+    line, told, first = "", ENDLESS.search(wanted), states.first_round()
+    if first is not None:
+        holds = told and machine.turns_in(told[1])[len(turns):] == first and round_holds(meeting, first, machine.turns_in(told[2]))
         line = told[0] if holds else "endless\n"
     return states.head() + line + failures_text(states.failures) + states.results_text()
