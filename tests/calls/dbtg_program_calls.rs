@@ -52,6 +52,6 @@ fn wrong_case<'a>(rt: &HostRuntime, table: &'a str) -> &'a str {
 fn program(rt: &HostRuntime, text: &[u8]) -> Option<Program> {
     let schema = shop(rt)?;
     let read = read_program(rt.alloc(), &schema, text).ok();
-    schema.discard();
+    drop(schema);
     read
 }

@@ -576,11 +576,7 @@ fn run_shell(rt: &HostRuntime, call: &Call) -> ExitCode {
 fn open_shell(rt: &HostRuntime, paths: &Paths, call: &Call) -> ExitCode {
     let files = Files { reader: rt, paths };
     match read_schema(rt.alloc(), &files) {
-        Ok(known) => {
-            let status = open_units(rt, &known, call);
-            known.discard();
-            status
-        }
+        Ok(known) => { open_units(rt, &known, call) }
         Err(fault) => told_of(rt, &fault, paths, true),
     }
 }

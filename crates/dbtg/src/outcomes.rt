@@ -229,9 +229,7 @@ fn push_result(
     ensures done { OnOk result (IsShown meeting.now number one.now out.old.items out.new.items showing.old showing.new) }
     ensures refused { IfErr result (λ fault. (fault ≡ Memory) ⊎ ((fault ≡ MovesOver) × IsLong meeting.now one.now)) }
 {
-    let pushed = push_made(alloc, out, meeting, showing, number, one, &mut turned);
-    turned.discard();
-    pushed
+    push_made(alloc, out, meeting, showing, number, one, &mut turned)
 }
 
 // How many turns and moves make the script that is made first.
@@ -271,7 +269,7 @@ fn outcomes_text(
 {
     let mut out = Vec::new(alloc);
     if push_summary(&mut out, all).is_err() {
-        core.discard();
+        drop(core);
         return Err(Fault::Memory);
     }
     let mut number = 0;
@@ -282,17 +280,17 @@ fn outcomes_text(
             Ok(turned) => {
                 let pushed = push_result(alloc, &mut out, meeting, showing, number, one, turned);
                 if let Err(fault) = pushed {
-                    core.discard();
+                    drop(core);
                     return Err(fault);
                 }
             }
             Err(_) => {
-                core.discard();
+                drop(core);
                 return Err(Fault::Memory);
             }
         }
     }
-    core.discard();
+    drop(core);
     Ok(out)
 }
 
@@ -374,7 +372,5 @@ pub fn print_outcomes<S: Source, W: Watch>(
     ensures refused { IfErr result (λ fault. ToldOfOutcomes (S.holds source.now) (S.fails source.now) fault (S.count source.now) options) }
 {
     let known = schema_for_run(alloc, source)?;
-    let said = outcomes_known(alloc, watch, source, &known, options);
-    known.discard();
-    said
+    outcomes_known(alloc, watch, source, &known, options)
 }

@@ -47,7 +47,7 @@ fn given_of(alloc: Global, settled: Settled) -> Run
         history,
         units,
     } = settled;
-    schema.discard();
+    drop(schema);
     Run {
         results: Row::of(Vec::new(alloc)),
         image,
@@ -115,7 +115,7 @@ fn run_of<R: Threads + Wait + Sync>(
         Ok(settled) => Ok(settled),
         // All units of the database came, so it was memory that was refused.
         Err(unsettled) => {
-            unsettled.discard();
+            drop(unsettled);
             Err(AllocError)
         }
     }
@@ -175,7 +175,7 @@ fn run_behind_first<R: Threads + Wait + Sync>(
     match ran {
         Ok(settled) => Ok(settled),
         Err(unsettled) => {
-            unsettled.discard();
+            drop(unsettled);
             Err(AllocError)
         }
     }
@@ -224,7 +224,7 @@ fn threads_text<R: Threads + Wait + Sync>(
     'again: for _ in rt.forever() {
         let given = run_scripts(rt, alloc, schema, capacity, scripts, first)?;
         let found = said_of(alloc, schema, shown, &given, turns.as_slice());
-        given.discard();
+        drop(given);
         if let Some(said) = found? {
             return Ok(said);
         }
@@ -271,9 +271,7 @@ pub fn run_on_threads<R: Threads + Wait + Sync, S: Source>(
     ensures refused { IfErr result (λ fault. ToldOfRun (S.holds source.now) (S.fails source.now) fault (S.count source.now) Serial) }
 {
     let known = schema_for_run(alloc, source)?;
-    let said = threads_known(rt, alloc, source, &known, capacity, form, first);
-    known.discard();
-    said
+    threads_known(rt, alloc, source, &known, capacity, form, first)
 }
 
 /// What `threads` prints of a schema and scripts in memory, and that the audit of the history is equal, or their first fault.

@@ -181,7 +181,5 @@ pub fn timeline<S: Source>(
     ensures refused { IfErr result (λ fault. ToldOfRun (S.holds source.now) (S.fails source.now) fault (S.count source.now) (S.order source.now)) }
 {
     let known = schema_for_run(alloc, source)?;
-    let said = timeline_known(alloc, source, &known, capacity, form, first);
-    known.discard();
-    said
+    timeline_known(alloc, source, &known, capacity, form, first)
 }

@@ -152,7 +152,5 @@ pub fn judge_outcomes<S: Source, W: Watch>(
     ensures refused { IfErr result (λ fault. ToldOfJudging (S.holds source.now) (S.fails source.now) fault (S.count source.now) options) }
 {
     let known = schema_for_run(alloc, source)?;
-    let said = judge_known(alloc, watch, source, &known, options, wish);
-    known.discard();
-    said
+    judge_known(alloc, watch, source, &known, options, wish)
 }

@@ -149,13 +149,8 @@ pub fn audit_trace(
         traced,
     } = recorded;
     let mut database = loaded(alloc, schema, capacity, units, load)?;
-    match make_up_to(&mut database, traced, statuses) {
-        Ok(found) => audited_of(database, found),
-        Err(error) => {
-            database.discard();
-            Err(error)
-        }
-    }
+    let found = make_up_to(&mut database, traced, statuses)?;
+    audited_of(database, found)
 }
 
 // The result of an audit, if all statements are made and this is said of those that differ.
@@ -170,7 +165,7 @@ fn all_audited_of(
     if so {
         return Ok(AllAudited::Equal(database.into_run()?));
     }
-    database.discard();
+    drop(database);
     Ok(AllAudited::Differ(told))
 }
 
@@ -197,11 +192,6 @@ pub fn audit_every_line(
     } = recorded;
     let mut told = Vec::new(alloc);
     let mut database = loaded(alloc, schema, capacity, units, load)?;
-    match tell_all(&mut told, schema, &mut database, traced, statuses) {
-        Ok(so) => all_audited_of(database, so, told),
-        Err(error) => {
-            database.discard();
-            Err(error)
-        }
-    }
+    let so = tell_all(&mut told, schema, &mut database, traced, statuses)?;
+    all_audited_of(database, so, told)
 }

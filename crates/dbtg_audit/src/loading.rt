@@ -42,13 +42,8 @@ fn opened_with<'a>(
     ensures { IfOk result (λ database. IsLoaded schema.now capacity units (Option.Some script) database) }
 {
     let mut database = WholeDatabase::opening(alloc, schema, capacity, units + 1)?;
-    match make_load(&mut database, units + 1, script) {
-        Ok(()) => Ok(database),
-        Err(error) => {
-            database.discard();
-            Err(error)
-        }
-    }
+    make_load(&mut database, units + 1, script)?;
+    Ok(database)
 }
 
 /// The database with its units, after the script that is made first.

@@ -85,7 +85,7 @@ fn verdict_of(alloc: Global, schema: &Schema, audited: Audited) -> Result<Verdic
     match audited {
         Audited::Equal(given) => {
             let text = equal_text(alloc, schema, &given);
-            given.discard();
+            drop(given);
             Ok(Verdict::Equal(text?))
         }
         Audited::Differs(found) => {
@@ -106,7 +106,7 @@ fn listed_verdict_of(
     match audited {
         AllAudited::Equal(given) => {
             let text = equal_text(alloc, schema, &given);
-            given.discard();
+            drop(given);
             Ok(Verdict::Equal(text?))
         }
         AllAudited::Differ(told) => Ok(Verdict::Listed(told)),
@@ -190,7 +190,5 @@ pub fn audit<S: Source>(alloc: Global, source: &S, options: AuditOptions) -> Res
     ensures refused { IfErr result (λ fault. ToldOfAudit (S.holds source.now) (S.fails source.now) fault options.units (S.count source.now)) }
 {
     let known = read_schema(alloc, source)?;
-    let said = audit_known(alloc, source, &known, options);
-    known.discard();
-    said
+    audit_known(alloc, source, &known, options)
 }

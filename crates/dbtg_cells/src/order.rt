@@ -22,10 +22,18 @@ const STEP: u64 = 1 << 32;
 const MOST: usize = 0xffff_ffff;
 
 /// The nodes of a ring in their order, and the label of each node by its number.
-#[derive(Drop)]
 pub(crate) struct Order {
     nodes: Vec<u32>,
     labels: Vec<u64>,
+}
+
+impl Drop for Order {
+    fn drop(self) {
+        let Self {
+            nodes: _,
+            labels: _,
+        } = self;
+    }
 }
 
 impl Model for Order {

@@ -8,10 +8,15 @@ use dbtg_schema::MOST_SETS;
 use std::marker::Model;
 
 /// For each set of a schema, at most MOST_SETS, an owner or none; contracts see the list.
-#[derive(Drop)]
 pub struct Owners {
     entries: [MaybeOwner; MOST_SETS],
     len: usize,
+}
+
+impl Drop for Owners {
+    fn drop(self) {
+        let Self { entries: _, len: _ } = self;
+    }
 }
 
 impl Model for Owners {

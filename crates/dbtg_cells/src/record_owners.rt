@@ -71,9 +71,14 @@ enum Joined {
 }
 
 /// For each set of a schema, at most MOST_SETS, the owner to whose list a record belongs, or none; contracts see the list.
-#[derive(Drop)]
 pub struct RecordOwners {
     joined: Joined,
+}
+
+impl Drop for RecordOwners {
+    fn drop(self) {
+        let Self { joined: _ } = self;
+    }
 }
 
 impl Model for RecordOwners {

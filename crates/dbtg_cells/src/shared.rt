@@ -9,9 +9,14 @@ use std::sync::Arc;
 
 /// A value in a place of its own, which contracts see as the value itself. It is written once; each of those that share it can read it,
 /// on any thread.
-#[derive(Drop)]
 pub struct Shared<T> {
     place: Arc<T>,
+}
+
+impl<T: Drop> Drop for Shared<T> {
+    fn drop(self) {
+        let Self { place: _ } = self;
+    }
 }
 
 /// The values of a record's items.

@@ -73,9 +73,14 @@ impl NewRecord {
 }
 
 /// The record of one number, or none. The record lies apart, so that a vacant slot is small.
-#[derive(Drop)]
 pub struct Slot {
     stored: Option<Box<Stored>>,
+}
+
+impl Drop for Slot {
+    fn drop(self) {
+        let Self { stored: _ } = self;
+    }
 }
 
 impl Model for Slot {

@@ -59,9 +59,14 @@ impl Mode {
 }
 
 /// Who has an area open, in the order of opening.
-#[derive(Drop)]
 pub struct Usage {
     users: Vec<(u8, Mode)>,
+}
+
+impl Drop for Usage {
+    fn drop(self) {
+        let Self { users: _ } = self;
+    }
 }
 
 impl Model for Usage {

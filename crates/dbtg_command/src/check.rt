@@ -70,9 +70,7 @@ pub fn check<S: Source>(alloc: Global, source: &S) -> Result<Vec<u8>, Fault>
     ensures refused { IfErr result (λ fault. ToldOfTexts (S.holds source.now) (S.fails source.now) fault (S.count source.now)) }
 {
     let known = read_schema(alloc, source)?;
-    let said = check_known(alloc, source, &known);
-    known.discard();
-    said
+    check_known(alloc, source, &known)
 }
 
 /// What `check` prints of a schema and scripts in memory, or their first fault.

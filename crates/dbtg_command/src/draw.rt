@@ -29,11 +29,7 @@ pub fn draw<S: Source>(alloc: Global, source: &S) -> Result<Vec<u8>, Fault>
     ensures refused { IfErr result (λ fault. ToldOfSchema (S.holds source.now) (S.fails source.now) fault) }
 {
     match read_schema(alloc, source) {
-        Ok(known) => {
-            let drawn = draw_known(alloc, &known);
-            known.discard();
-            drawn
-        }
+        Ok(known) => { draw_known(alloc, &known) }
         Err(fault) => Err(fault),
     }
 }

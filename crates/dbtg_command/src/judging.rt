@@ -105,11 +105,7 @@ pub fn each_fault<S: Source>(alloc: Global, source: &S, programs: bool) -> Resul
     ensures memory { IfErr result (λ fault. fault ≡ Memory) }
 {
     match read_schema(alloc, source) {
-        Ok(known) => {
-            let faults = faults_of_scripts(alloc, source, &known, programs);
-            known.discard();
-            faults
-        }
+        Ok(known) => { faults_of_scripts(alloc, source, &known, programs) }
         Err(Fault::Memory) => Err(Fault::Memory),
         Err(fault) => fault_alone(alloc, fault),
     }

@@ -222,11 +222,7 @@ fn said_in_line<F: FileReader>(
     ensures { IfOk result (λ said. SaysOfLine (F.has files.now.reader.now) (F.lacks files.now.reader.now) kind files.now.paths.now.schema.now number line.now said.items) }
 {
     match read_schema(alloc, files) {
-        Ok(known) => {
-            let said = said_in_text(alloc, &known, kind, line, number);
-            known.discard();
-            said
-        }
+        Ok(known) => { said_in_text(alloc, &known, kind, line, number) }
         Err(fault) => nothing_said(alloc, &fault),
     }
 }

@@ -10,9 +10,14 @@ use std::alloc::{AllocError, Global};
 use std::marker::Model;
 
 /// Keys in the order in which they came, none twice.
-#[derive(Drop)]
 pub(crate) struct Keys {
     keys: IndexSet<DbKey>,
+}
+
+impl Drop for Keys {
+    fn drop(self) {
+        let Self { keys: _ } = self;
+    }
 }
 
 impl Model for Keys {

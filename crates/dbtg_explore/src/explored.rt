@@ -157,7 +157,5 @@ pub fn explore<W: Watch>(
     ensures stopped { IfErr result (λ stop. stop ≡ States → HasMoreStates meeting.now limit) }
 {
     let mut walk = meeting.begin(alloc)?;
-    let explored = explored_by(alloc, watch, meeting, &mut walk, limit);
-    walk.discard();
-    explored
+    explored_by(alloc, watch, meeting, &mut walk, limit)
 }

@@ -9,10 +9,15 @@ use std::alloc::{AllocError, Global};
 use std::marker::Model;
 
 /// Orders, as they were found, each under a key that none before it has.
-#[derive(Drop)]
 pub struct Found {
     keys: IndexSet<Vec<u64>>,
     orders: Vec<Row<u8>>,
+}
+
+impl Drop for Found {
+    fn drop(self) {
+        let Self { keys: _, orders: _ } = self;
+    }
 }
 
 impl Model for Found {
@@ -50,6 +55,7 @@ impl Found {
     pub fn into_orders(self) -> Row<Row<u8>>
         ensures { result ≡ self.orders }
     {
-        Row::of(self.orders)
+        let Self { keys: _, orders } = self;
+        Row::of(orders)
     }
 }

@@ -9,10 +9,15 @@ use std::alloc::{AllocError, Global};
 use std::marker::Model;
 
 /// States, as they were found: the number of each, which none before it has, and the order that leads there.
-#[derive(Drop)]
 pub struct Known {
     keys: IndexSet<u32>,
     orders: Orders,
+}
+
+impl Drop for Known {
+    fn drop(self) {
+        let Self { keys: _, orders: _ } = self;
+    }
 }
 
 impl Model for Known {

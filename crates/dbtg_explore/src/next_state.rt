@@ -21,10 +21,18 @@ use std::alloc::{AllocError, Global};
 
 /// Transitions of statements that were made. What a statement did that changed no record it does wherever it looks at the same. One that
 /// changed a record can change what is told of a unit that keeps it; what it did it does where no other unit keeps a record.
-#[derive(Drop)]
 pub struct Seen {
     pub plain: Transitions,
     pub changing: Transitions,
+}
+
+impl Drop for Seen {
+    fn drop(self) {
+        let Self {
+            plain: _,
+            changing: _,
+        } = self;
+    }
 }
 
 impl Seen {

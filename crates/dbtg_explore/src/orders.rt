@@ -13,9 +13,14 @@ pub struct Link {
 }
 
 /// Orders, the empty one first. Each other goes on from one before it.
-#[derive(Drop)]
 pub struct Orders {
     links: Vec<Link>,
+}
+
+impl Drop for Orders {
+    fn drop(self) {
+        let Self { links: _ } = self;
+    }
 }
 
 impl Model for Orders {

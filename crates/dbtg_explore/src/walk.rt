@@ -20,11 +20,20 @@ pub struct Taken {
 }
 
 /// A database and programs after these turns, which can be taken back.
-#[derive(Drop)]
 pub struct Walk<'a> {
     pub database: ReversibleDatabase<'a>,
     pub goings: Vec<Going>,
     pub turns: Vec<Taken>,
+}
+
+impl<'a> Drop for Walk<'a> {
+    fn drop(self) {
+        let Self {
+            database: _,
+            goings: _,
+            turns: _,
+        } = self;
+    }
 }
 
 // How many of the turns are those with which the order begins.
@@ -73,18 +82,6 @@ impl<'a> Walk<'a> {
         while self.turns.len() > count {
             self.take_back();
         }
-    }
-
-    /// Drops the walk.
-    pub fn discard(self) {
-        let Walk {
-            database,
-            goings,
-            turns,
-        } = self;
-        database.discard();
-        drop(goings);
-        drop(turns)
     }
 }
 

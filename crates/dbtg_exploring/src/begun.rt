@@ -78,7 +78,7 @@ pub fn begun_turns(alloc: Global, setting: &Setting) -> Result<Vec<u8>, AllocErr
         turns.as_slice(),
     )?;
     let begun = units_of(alloc, database.history());
-    database.discard();
+    drop(database);
     drop(goings);
     begun
 }

@@ -111,7 +111,5 @@ pub fn explore_programs<S: Source, W: Watch>(
 {
     check_count(source.count())?;
     let known = read_schema(alloc, source)?;
-    let said = explore_known(alloc, watch, source, &known, asked);
-    known.discard();
-    said
+    explore_known(alloc, watch, source, &known, asked)
 }

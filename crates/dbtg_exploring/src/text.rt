@@ -197,9 +197,7 @@ impl<'a> Setting<'a> {
             self.asked.around,
             Some(turns),
         )?;
-        let pushed = self.push_given(alloc, out, before, &mut given);
-        given.discard();
-        pushed
+        self.push_given(alloc, out, before, &mut given)
     }
 
     // The text of one result.

@@ -23,13 +23,6 @@ pub struct ProgramRun {
     pub programs: Row<Reached>,
 }
 
-impl ProgramRun {
-    /// Drops the run. Other crates call this, so that they need not prove that its parts can be dropped.
-    pub fn discard(self) {
-        drop(self)
-    }
-}
-
 /// Programs that run together, one unit for each.
 #[derive(Drop)]
 struct Programs<'a> {
@@ -307,16 +300,9 @@ fn finish(
     ensures run { IfOk result (λ given. IsMadeRun database.entry given.run) }
     ensures programs { IfOk result (λ given. given.programs ≡ map reached_by members.items) }
 {
-    match reached_by_each(alloc, members) {
-        Err(error) => {
-            database.discard();
-            Err(error)
-        }
-        Ok(programs) => match database.into_run() {
-            Err(error) => Err(error),
-            Ok(run) => Ok(ProgramRun { run, programs }),
-        },
-    }
+    let programs = reached_by_each(alloc, members)?;
+    let run = database.into_run()?;
+    Ok(ProgramRun { run, programs })
 }
 
 /// Runs the programs by these turns, starting with the opening database, with a unit for each: in its turn a unit makes the statement
@@ -343,13 +329,8 @@ pub fn run_programs(
     };
     let mut members = together.beginning()?;
     let mut database = WholeDatabase::opening(alloc, schema, capacity, programs.len() as u8)?;
-    match together.go(&mut database, &mut members, turns) {
-        Ok(()) => finish(alloc, database, members),
-        Err(error) => {
-            database.discard();
-            Err(error)
-        }
-    }
+    together.go(&mut database, &mut members, turns)?;
+    finish(alloc, database, members)
 }
 
 // Each member's program, without its count.
@@ -372,13 +353,7 @@ fn with_goings<'a>(
     ensures database { IfOk result (λ after. after.0 ≡ database.entry) }
     ensures goings { IfOk result (λ after. after.1.items ≡ map (λ m. m.going) members.items) }
 {
-    match goings_of(alloc, members) {
-        Ok(goings) => Ok((database, goings)),
-        Err(error) => {
-            database.discard();
-            Err(error)
-        }
-    }
+    Ok((database, goings_of(alloc, members)?))
 }
 
 /// The database and its programs after these turns, starting with the opening database, with a unit for each program. If memory is refused
@@ -405,11 +380,6 @@ pub fn programs_after<'a>(
     };
     let mut members = together.beginning()?;
     let mut database = WholeDatabase::opening(alloc, schema, capacity, programs.len() as u8)?;
-    match together.go_by(&mut database, &mut members, turns) {
-        Ok(()) => with_goings(alloc, database, members),
-        Err(error) => {
-            database.discard();
-            Err(error)
-        }
-    }
+    together.go_by(&mut database, &mut members, turns)?;
+    with_goings(alloc, database, members)
 }

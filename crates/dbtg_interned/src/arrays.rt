@@ -14,12 +14,21 @@ use std::marker::Model;
 ///
 /// A place gets its place in the trees when an element that is not 0 is first put there. So a tree is as deep as the places in use need,
 /// however long the arrays are.
-#[derive(Drop)]
 pub struct Arrays {
     nodes: Nodes,
     // For each place of an array the place in the trees, from 1 on, or 0.
     places: Vec<u32>,
     used: u32,
+}
+
+impl Drop for Arrays {
+    fn drop(self) {
+        let Self {
+            nodes: _,
+            places: _,
+            used: _,
+        } = self;
+    }
 }
 
 impl Model for Arrays {

@@ -7,9 +7,14 @@ use std::alloc::{AllocError, Global};
 use std::marker::Model;
 
 /// Lists, each of which stands once, under a number. The empty list has the number 0.
-#[derive(Drop)]
 pub struct Contents {
     lists: IndexSet<Vec<u64>>,
+}
+
+impl Drop for Contents {
+    fn drop(self) {
+        let Self { lists: _ } = self;
+    }
 }
 
 impl Model for Contents {

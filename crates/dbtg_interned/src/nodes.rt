@@ -53,9 +53,14 @@ fn mix(numbers: &[u32; WIDTH]) -> u64
 }
 
 /// Nodes, each of which stands once, under a number. The node of zeros has the number 0.
-#[derive(Drop)]
 pub(crate) struct Nodes {
     nodes: IndexSet<Node>,
+}
+
+impl Drop for Nodes {
+    fn drop(self) {
+        let Self { nodes: _ } = self;
+    }
 }
 
 impl Model for Nodes {

@@ -8,9 +8,14 @@ use std::alloc::{AllocError, Global};
 use std::marker::Model;
 
 /// Texts, each of which stands once, under a number.
-#[derive(Drop)]
 pub struct Texts {
     texts: IndexSet<Vec<u8>>,
+}
+
+impl Drop for Texts {
+    fn drop(self) {
+        let Self { texts: _ } = self;
+    }
 }
 
 impl Model for Texts {

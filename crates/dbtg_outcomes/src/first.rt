@@ -139,9 +139,7 @@ impl<'a> Meeting<'a> {
         ensures { OnOk result (AreNotedOf self.now (made_first self.now.first self.now.scripts) notes.new.items) }
     {
         let mut database = WholeDatabase::opening(alloc, self.schema, self.capacity, self.units())?;
-        let made = self.make_first(&mut database, notes);
-        database.discard();
-        made
+        self.make_first(&mut database, notes)
     }
 
     /// Notes the statuses of the script that is made first and of that of unit 1, if that is the only one beside it.
@@ -157,9 +155,7 @@ impl<'a> Meeting<'a> {
         ensures { OnOk result (AreNotedOf self.now (order_alone self.now script.now) notes.new.items) }
     {
         let mut database = WholeDatabase::opening(alloc, self.schema, self.capacity, self.units())?;
-        let made = self.make_alone(&mut database, script, notes);
-        database.discard();
-        made
+        self.make_alone(&mut database, script, notes)
     }
 
     /// The turns of the script that is made first.

@@ -18,9 +18,14 @@ pub struct Group {
 }
 
 /// Groups by their numbers, in the order in which their first orders came.
-#[derive(Drop)]
 pub struct Groups {
     groups: IndexMap<u32, Group>,
+}
+
+impl Drop for Groups {
+    fn drop(self) {
+        let Self { groups: _ } = self;
+    }
 }
 
 impl Model for Groups {
@@ -85,7 +90,8 @@ impl Groups {
         ensures { IfOk result (λ groups. groups.items ≡ map (λ g. g.1) self) }
     {
         let mut groups = Vec::new(alloc);
-        for (_, group) in self.groups {
+        let Self { groups: found } = self;
+        for (_, group) in found {
             groups.push(group)?;
         }
         Ok(groups)

@@ -20,10 +20,18 @@ use std::marker::Model;
 pub(crate) const USUAL_LENGTH: usize = 64;
 
 /// What parts of states say, each kept once, and an array of their numbers for each state.
-#[derive(Drop)]
 pub struct Numbers {
     contents: Contents,
     arrays: Arrays,
+}
+
+impl Drop for Numbers {
+    fn drop(self) {
+        let Self {
+            contents: _,
+            arrays: _,
+        } = self;
+    }
 }
 
 impl Model for Numbers {

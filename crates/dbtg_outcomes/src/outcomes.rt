@@ -56,7 +56,7 @@ fn search_all<'a, W: Watch>(
     match search.pass(alloc, watch, meeting, left) {
         Ok(()) => Ok(search),
         Err(stop) => {
-            search.discard();
+            drop(search);
             Err(stop)
         }
     }
@@ -196,6 +196,6 @@ pub fn all_outcomes<W: Watch>(
 {
     let mut search = search_all(alloc, watch, meeting, limit)?;
     let outcomes = outcomes_of(alloc, meeting, &mut search);
-    search.discard();
+    drop(search);
     Ok(outcomes?)
 }

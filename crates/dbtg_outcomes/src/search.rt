@@ -134,12 +134,22 @@ impl<'a> Meeting<'a> {
 
 /// A search: the states after some number of statements, how many states there were so far, how many there may be, and the walk by
 /// which it comes to them, with the statuses of all statements on the way.
-#[derive(Drop)]
 pub struct Search<'a> {
     pub layer: Vec<Group>,
     pub states: usize,
     pub limit: usize,
     pub walk: Walk<'a>,
+}
+
+impl<'a> Drop for Search<'a> {
+    fn drop(self) {
+        let Self {
+            layer: _,
+            states: _,
+            limit: _,
+            walk: _,
+        } = self;
+    }
 }
 
 impl<'a> Search<'a> {
@@ -238,11 +248,6 @@ impl<'a> Search<'a> {
         search.states = script.len() + 1;
         watch.seen(search.states);
         Ok(search)
-    }
-
-    /// Drops the search. Functions that own one call this, so that it is proved once that its parts can be dropped.
-    pub fn discard(self) {
-        drop(self)
     }
 
     // Goes on by one statement.

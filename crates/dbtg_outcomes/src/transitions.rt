@@ -59,11 +59,20 @@ enum Next {
 const START: u32 = 0;
 
 /// Transitions, and the ways to them, by what is looked at in turn.
-#[derive(Drop)]
 pub struct Transitions {
     made: Vec<Transition>,
     ways: IndexMap<(u32, u32), Next>,
     junctions: u32,
+}
+
+impl Drop for Transitions {
+    fn drop(self) {
+        let Self {
+            made: _,
+            ways: _,
+            junctions: _,
+        } = self;
+    }
 }
 
 impl Model for Transitions {

@@ -19,13 +19,24 @@ use std::alloc::{AllocError, Global};
 
 /// A database that stands after these turns, the numbers of states, the statuses that were noted on the way, and the transitions that are
 /// known.
-#[derive(Drop)]
 pub struct Walk<'a> {
     pub database: ReversibleDatabase<'a>,
     pub turns: Vec<u8>,
     pub numbers: Numbers,
     pub notes: Vec<Note>,
     pub transitions: Transitions,
+}
+
+impl<'a> Drop for Walk<'a> {
+    fn drop(self) {
+        let Self {
+            database: _,
+            turns: _,
+            numbers: _,
+            notes: _,
+            transitions: _,
+        } = self;
+    }
 }
 
 impl<'a> Walk<'a> {

@@ -96,10 +96,18 @@ impl<'a> Meeting<'a> {
 }
 
 /// A search for turns that break a wish, and the first that it found.
-#[derive(Drop)]
 pub struct Hunt<'a> {
     pub search: Search<'a>,
     pub broken: Option<Row<u8>>,
+}
+
+impl<'a> Drop for Hunt<'a> {
+    fn drop(self) {
+        let Self {
+            search: _,
+            broken: _,
+        } = self;
+    }
 }
 
 impl<'a> Hunt<'a> {
@@ -202,7 +210,7 @@ impl<'a> Hunt<'a> {
         ensures { result ≡ self.entry.broken }
     {
         let Hunt { search, broken } = self;
-        search.discard();
+        drop(search);
         broken
     }
 }

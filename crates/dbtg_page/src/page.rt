@@ -301,9 +301,7 @@ fn push_whole_run(
     ensures { OnOk result (out.new.items ≡ out.old.items ++ run_rows (opening_core setting.now.schema.now capacity statements) moves.now) }
 {
     let mut core = Core::new(setting.alloc, setting.schema, capacity, statements)?;
-    let ran = push_run(out, setting, &mut core, moves);
-    core.discard();
-    ran
+    push_run(out, setting, &mut core, moves)
 }
 
 /// The page of the run of these moves, starting with the opening database, with a unit for each script. A step without memory ends it.

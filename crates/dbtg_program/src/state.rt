@@ -17,12 +17,22 @@ use std::marker::Model;
 
 /// Where a program is: its next sentence, the value of each field, the status of its last statement; and room for the items of an answer,
 /// so that no GET has to find it.
-#[derive(Drop)]
 pub struct State {
     at: usize,
     values: Vec<Value>,
     status: u16,
     room: Vec<Value>,
+}
+
+impl Drop for State {
+    fn drop(self) {
+        let Self {
+            at: _,
+            values: _,
+            status: _,
+            room: _,
+        } = self;
+    }
 }
 
 impl Model for State {

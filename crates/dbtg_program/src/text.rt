@@ -24,7 +24,6 @@ use std::alloc::{AllocError, Global};
 use std::marker::Model;
 
 /// A text with the names that it declares.
-#[derive(Drop)]
 pub struct Text<'a> {
     schema: &'a Schema,
     sentences: Vec<Holding<'a>>,
@@ -35,6 +34,20 @@ pub struct Text<'a> {
     named: Places,
     /// before any sentence
     beginning: State,
+}
+
+impl<'a> Drop for Text<'a> {
+    fn drop(self) {
+        let Self {
+            schema: _,
+            sentences: _,
+            paragraphs: _,
+            counters: _,
+            fields: _,
+            named: _,
+            beginning: _,
+        } = self;
+    }
 }
 
 impl<'a> Model for Text<'a> {
@@ -212,10 +225,19 @@ impl<'a> Text<'a> {
     pub fn into_program(self, lines: Vec<Line>) -> Program
         ensures { result ≡ record { lines = lines.items; fields = fields_in self.entry; records = records_from 0 self.entry.schema.types } }
     {
+        let Self {
+            schema: _,
+            sentences: _,
+            paragraphs: _,
+            counters: _,
+            fields,
+            named: _,
+            beginning: _,
+        } = self;
         Program {
             lines: Row::of(lines),
-            fields: Row::of(self.fields.items),
-            records: Row::of(self.fields.firsts),
+            fields: Row::of(fields.items),
+            records: Row::of(fields.firsts),
         }
     }
 }

@@ -114,7 +114,5 @@ pub fn said_of_history(
     ensures { IfOk result (λ said. said.items ≡ said_of_history schema.now capacity units history.now) }
 {
     let mut database = WholeDatabase::opening(alloc, schema, capacity, units)?;
-    let said = said_of_entries(alloc, schema, &mut database, history);
-    database.discard();
-    said
+    said_of_entries(alloc, schema, &mut database, history)
 }

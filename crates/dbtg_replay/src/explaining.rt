@@ -47,7 +47,5 @@ pub fn said_of_run(
 {
     let copies = copy_each_script(alloc, statements)?;
     let given = run(alloc, schema, capacity, copies, moves)?;
-    let said = said_of_given(alloc, schema, capacity, statements, moves, &given);
-    given.discard();
-    said
+    said_of_given(alloc, schema, capacity, statements, moves, &given)
 }

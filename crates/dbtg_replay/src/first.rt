@@ -64,7 +64,7 @@ fn refusals_over<S: Source>(
         Some(text) => refusals_in(alloc, given.history.as_slice(), text.as_slice()),
         None => Ok(Vec::new(alloc)),
     };
-    given.discard();
+    drop(given);
     Ok(told?)
 }
 
@@ -77,10 +77,8 @@ pub fn refusals_of_first<S: Source>(
     let number = source.count();
     let known = read_schema(alloc, source)?;
     if number == 0 {
-        known.discard();
+        drop(known);
         return Ok(Vec::new(alloc));
     }
-    let told = refusals_over(alloc, source, &known, capacity, number);
-    known.discard();
-    told
+    refusals_over(alloc, source, &known, capacity, number)
 }

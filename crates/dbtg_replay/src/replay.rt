@@ -163,9 +163,7 @@ fn serial_text(
         return answered_text(alloc, schema, capacity, scripts);
     }
     let given = run_serial(alloc, schema, capacity, scripts)?;
-    let text = text_of(alloc, schema, shown, &given);
-    given.discard();
-    text
+    text_of(alloc, schema, shown, &given)
 }
 
 // Makes these moves; the line with their results leaves out those that make the first script.
@@ -183,9 +181,7 @@ fn moved_text(
     ensures { IfOk result (λ out. IsPrinted (RunIs schema.now capacity scripts all.now.moves.items) (λ given. moves_text (drop all.now.before given.results) ++ shown_text schema.now shown.entry.form shown.entry.texts.now given) out.items) }
 {
     let given = run(alloc, schema, capacity, scripts, all.moves.as_slice())?;
-    let text = text_with_moves(alloc, schema, shown, &given, all.before);
-    given.discard();
-    text
+    text_with_moves(alloc, schema, shown, &given, all.before)
 }
 
 // Takes these turns. The moves that they stand for are not asked for.
@@ -203,9 +199,7 @@ fn turned_text(
     ensures { IfOk result (λ out. IsPrinted (RunByTurnsIs schema.now capacity scripts turns.now) (shown_text schema.now shown.entry.form shown.entry.texts.now) out.items) }
 {
     let given = run_turns(alloc, schema, capacity, scripts, turns, 0)?;
-    let text = text_of(alloc, schema, shown, &given.run);
-    given.discard();
-    text
+    text_of(alloc, schema, shown, &given.run)
 }
 
 // Runs one script after the other. The last one runs before all others if it is to be made first.
@@ -304,7 +298,5 @@ pub fn replay<S: Source>(
     ensures refused { IfErr result (λ fault. ToldOfRun (S.holds source.now) (S.fails source.now) fault (S.count source.now) (S.order source.now)) }
 {
     let known = schema_for_run(alloc, source)?;
-    let said = replay_known(alloc, source, &known, capacity, form, first);
-    known.discard();
-    said
+    replay_known(alloc, source, &known, capacity, form, first)
 }

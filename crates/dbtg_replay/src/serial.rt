@@ -13,7 +13,7 @@ ghost use Rattle.dbtg_replay.specs.Replaying.{IsPrinted, given_text};
 
 use dbtg_schema::{Row, Schema};
 use dbtg_script::{push_answer, push_rest};
-use dbtg_step::{BareDatabase, discard_entry};
+use dbtg_step::BareDatabase;
 use dbtg_unit::{LAST_UNIT, Statement};
 use std::alloc::{AllocError, Global};
 
@@ -32,9 +32,7 @@ fn push_made(
     ensures { OnOk result (HasPrinted schema.now database.old out.old.items ((unit, statement) ∷ []) database.new out.new.items) }
 {
     let entry = database.make(unit, statement)?;
-    let pushed = push_answer(out, schema, &entry);
-    discard_entry(entry);
-    pushed
+    push_answer(out, schema, &entry)
 }
 
 // Makes the statements of a unit's script, one after another, and appends the answer of each.
@@ -100,7 +98,7 @@ fn text_from(
             Ok(out)
         }
         Err(error) => {
-            database.discard();
+            drop(database);
             Err(error)
         }
     }

@@ -69,7 +69,5 @@ pub fn moves_for_turns<S: Source>(
     ensures refused { IfErr result (λ fault. ToldOfTurns (S.holds source.now) (S.fails source.now) fault (S.count source.now) capacity) }
 {
     let known = schema_for_run(alloc, source)?;
-    let said = turns_known(alloc, source, &known, capacity);
-    known.discard();
-    said
+    turns_known(alloc, source, &known, capacity)
 }

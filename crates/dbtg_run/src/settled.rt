@@ -14,13 +14,6 @@ pub struct Settled {
     pub units: Row<Unit>,
 }
 
-impl Settled {
-    /// Drops it. Other crates call this, so that they need not prove that its parts can be dropped.
-    pub fn discard(self) {
-        drop(self)
-    }
-}
-
 /// Why a database is not settled.
 #[derive(Clone, Copy, Debug, PartialEq, Eq)]
 pub enum Fault {
@@ -36,12 +29,4 @@ pub struct Unsettled {
     pub fault: Fault,
     pub db: Database,
     pub units: Vec<RunUnit>,
-}
-
-impl Unsettled {
-    /// Drops the database and its units. Other crates call this, so that they need not prove that their parts can
-    /// be dropped.
-    pub fn discard(self) {
-        drop(self)
-    }
 }

@@ -350,8 +350,6 @@ impl Work {
     {
         // Kept from need to need, so that nothing already settled is asked again.
         let mut course = None;
-        let gathered = self.gather_along(alloc, db, statement, tries, &mut course);
-        drop(course);
-        gathered
+        self.gather_along(alloc, db, statement, tries, &mut course)
     }
 }

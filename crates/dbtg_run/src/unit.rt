@@ -13,10 +13,15 @@ use std::alloc::{AllocError, Global};
 use std::marker::Model;
 
 /// A run-unit of a database. It belongs to the database that made it, and contracts see which one by its table.
-#[derive(Drop)]
 pub struct RunUnit {
     // In a box: a unit is handed from function to function and from thread to thread, and would take 2.6 KB of each one's stack.
     pub(crate) work: Box<Work>,
+}
+
+impl Drop for RunUnit {
+    fn drop(self) {
+        let Self { work: _ } = self;
+    }
 }
 
 impl Model for RunUnit {

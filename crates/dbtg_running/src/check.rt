@@ -50,7 +50,5 @@ pub fn check_programs<S: Source>(alloc: Global, source: &S) -> Result<Vec<u8>, F
     ensures refused { IfErr result (λ fault. ToldOfCheck (S.holds source.now) (S.fails source.now) fault (S.count source.now)) }
 {
     let known = read_schema(alloc, source)?;
-    let said = check_known(alloc, source, &known);
-    known.discard();
-    said
+    check_known(alloc, source, &known)
 }

@@ -175,7 +175,7 @@ fn run_read<S: Source>(
     let turns = turns_wanted(alloc, source)?;
     let given = run_wanted(alloc, known, programs.list.as_slice(), &turns, options)?;
     let printed = print_run(alloc, known, programs, options.form, &given);
-    given.discard();
+    drop(given);
     Ok(printed?)
 }
 
@@ -204,7 +204,5 @@ pub fn run<S: Source>(alloc: Global, source: &S, options: RunOptions) -> Result<
 {
     check_count(source.count())?;
     let known = read_schema(alloc, source)?;
-    let said = run_known(alloc, source, &known, options);
-    known.discard();
-    said
+    run_known(alloc, source, &known, options)
 }

@@ -69,7 +69,7 @@ fn run_known<R: Threads + Wait + Sync, S: Source>(
     };
     let on = run_on_threads(rt, alloc, known, options.capacity, lineup)?;
     let printed = print_audited(alloc, known, &programs, options, &on);
-    on.discard();
+    drop(on);
     Ok(printed?)
 }
 
@@ -86,7 +86,5 @@ pub fn run_programs_on_threads<R: Threads + Wait + Sync, S: Source>(
 {
     check_count(source.count())?;
     let known = read_schema(alloc, source)?;
-    let said = run_known(rt, alloc, source, &known, options);
-    known.discard();
-    said
+    run_known(rt, alloc, source, &known, options)
 }

@@ -15,9 +15,14 @@ use indexmap::IndexMap;
 use std::alloc::{AllocError, Global};
 
 /// Maps each name of a list to its first place.
-#[derive(Drop)]
 pub struct NameIndex {
     numbers: IndexMap<Vec<u8>, u8>,
+}
+
+impl Drop for NameIndex {
+    fn drop(self) {
+        let Self { numbers: _ } = self;
+    }
 }
 
 impl NameIndex {
@@ -67,12 +72,22 @@ fn item_indexes(alloc: Global, types: &[RecordType]) -> Result<Vec<NameIndex>, A
 }
 
 /// The indexes of a schema: for its areas, its record types and its sets, and for the items of each record type.
-#[derive(Drop)]
 pub struct SchemaIndex {
     areas: NameIndex,
     types: NameIndex,
     sets: NameIndex,
     items: Row<NameIndex>,
+}
+
+impl Drop for SchemaIndex {
+    fn drop(self) {
+        let Self {
+            areas: _,
+            types: _,
+            sets: _,
+            items: _,
+        } = self;
+    }
 }
 
 impl SchemaIndex {

@@ -40,7 +40,6 @@ use std::alloc::{AllocError, Global};
 use std::marker::Model;
 
 /// The schema of a database: areas, record types and sets, each numbered from 0 in the order of the text.
-#[derive(Drop)]
 pub struct Schema {
     name: Row<u8>,
     areas: Row<Area>,
@@ -53,6 +52,21 @@ pub struct Schema {
     connecting: Row<SetMarks>,
     /// For each record type: the areas that a DELETE may reach. Empty until they are computed.
     erased: Row<AreaSet>,
+}
+
+impl Drop for Schema {
+    fn drop(self) {
+        let Self {
+            name: _,
+            areas: _,
+            types: _,
+            sets: _,
+            index: _,
+            sets_of_types: _,
+            connecting: _,
+            erased: _,
+        } = self;
+    }
 }
 
 impl Model for Schema {
@@ -408,11 +422,6 @@ impl Schema {
         let types = copy_types(&self.types)?;
         let sets = copy_sets(&self.sets)?;
         of_lists(alloc, name, areas, types, sets)
-    }
-
-    /// Drops the schema. Other crates call this, so that they need not prove that its parts can be dropped.
-    pub fn discard(self) {
-        drop(self)
     }
 
     /// The record type with this number, if there is one.

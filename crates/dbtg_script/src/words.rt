@@ -30,7 +30,6 @@ pub struct Named {
 }
 
 /// The words of a line as far as it was read, and the schema whose names they use.
-#[derive(Drop)]
 pub struct Words<'a> {
     schema: &'a Schema,
     list: Vec<Labelled<'a>>,
@@ -40,6 +39,18 @@ pub struct Words<'a> {
     rtype: Option<Option<RecordNo>>,
     /// the picture of the item that was named last, if it is known
     picture: Option<Option<Picture>>,
+}
+
+impl<'a> Drop for Words<'a> {
+    fn drop(self) {
+        let Self {
+            schema: _,
+            list: _,
+            roles: _,
+            rtype: _,
+            picture: _,
+        } = self;
+    }
 }
 
 impl<'a> Model for Words<'a> {

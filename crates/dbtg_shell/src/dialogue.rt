@@ -458,11 +458,8 @@ fn answer_input(rt: &HostRuntime, shell: &mut Shell<'_>, call: &Call<'_>) -> Res
     answer_lines(rt, shell, call, &mut input, &mut line)
 }
 
-/// Answers the lines of standard input, one after another, up to its end or `.quit`. A terminal is shown whose turn it is. The session
-/// is borrowed where there are several ways out, since each of them would have to drop it.
+/// Answers the lines of standard input, one after another, up to its end or `.quit`. A terminal is shown whose turn it is.
 pub fn converse(rt: &HostRuntime, session: Session<'_>, call: &Call<'_>) -> Result<(), Broken> {
     let mut shell = Shell::new(rt.alloc(), session);
-    let ended = answer_input(rt, &mut shell, call);
-    shell.session.discard();
-    ended
+    answer_input(rt, &mut shell, call)
 }

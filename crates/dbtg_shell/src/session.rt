@@ -199,13 +199,8 @@ fn made_again<'a>(
     ensures { IfOk result (λ database. database ≡ record { schema = schema.now; capacity = capacity; units = units; history = history.now }) }
 {
     let mut database = WholeDatabase::opening(alloc, schema, capacity, units)?;
-    match make_each(&mut database, history) {
-        Ok(()) => Ok(database),
-        Err(error) => {
-            database.discard();
-            Err(error)
-        }
-    }
+    make_each(&mut database, history)?;
+    Ok(database)
 }
 
 // How many of these statements the unit made.
@@ -216,13 +211,24 @@ fn made_by(history: &[Entry], unit: u8) -> usize
 }
 
 /// A database in memory, its units, numbered from 1, and the script of each.
-#[derive(Drop)]
 pub struct Session<'a> {
     alloc: Global,
     schema: &'a Schema,
     capacity: u16,
     database: WholeDatabase<'a>,
     scripts: Vec<Script>,
+}
+
+impl<'a> Drop for Session<'a> {
+    fn drop(self) {
+        let Self {
+            alloc: _,
+            schema: _,
+            capacity: _,
+            database: _,
+            scripts: _,
+        } = self;
+    }
 }
 
 impl<'a> Model for Session<'a> {
@@ -259,12 +265,6 @@ impl<'a> Session<'a> {
         })
     }
 
-    /// Drops the session.
-    pub fn discard(self) {
-        self.database.discard();
-        drop(self.scripts);
-    }
-
     /// Makes the statement of a line for the unit with this number, and says whether the line holds one.
     pub fn make_line(&mut self, unit: u8, line: &[u8]) -> Result<bool, Refusal>
         requires numbered { 0 < unit }
@@ -296,7 +296,7 @@ impl<'a> Session<'a> {
         let units = self.scripts.len() as u8;
         let before = made_again(self.alloc, self.schema, self.capacity, units, earlier)?;
         let gone = mem::replace(&mut self.database, before);
-        gone.discard();
+        drop(gone);
         self.scripts[unit as usize - 1].drop_line();
         Ok(true)
     }

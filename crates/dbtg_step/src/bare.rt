@@ -15,7 +15,6 @@ use std::alloc::{AllocError, Global};
 use std::marker::Model;
 
 /// A database in memory, which holds all of its cells, with its units and how many statements they made.
-#[derive(Drop)]
 pub struct BareDatabase<'a> {
     alloc: Global,
     schema: &'a Schema,
@@ -23,6 +22,19 @@ pub struct BareDatabase<'a> {
     held: Held,
     units: Vec<Unit>,
     count: u64,
+}
+
+impl<'a> Drop for BareDatabase<'a> {
+    fn drop(self) {
+        let Self {
+            alloc: _,
+            schema: _,
+            capacity: _,
+            held: _,
+            units: _,
+            count: _,
+        } = self;
+    }
 }
 
 impl<'a> Model for BareDatabase<'a> {
@@ -113,16 +125,17 @@ impl<'a> BareDatabase<'a> {
         }
     }
 
-    /// Drops the database and its units. Other crates call this, so that they need not prove that their parts can
-    /// be dropped.
-    pub fn discard(self) {
-        drop(self)
-    }
-
     fn into_units(self) -> Row<Unit>
         ensures { result ≡ self.entry.units }
     {
-        drop(self.held);
-        Row::of(self.units)
+        let Self {
+            alloc: _,
+            schema: _,
+            capacity: _,
+            held: _,
+            units,
+            count: _,
+        } = self;
+        Row::of(units)
     }
 }

@@ -38,7 +38,7 @@ pub use laws::{
 };
 pub use machine::Core;
 pub use opening_parts::{opening_cells, opening_unit};
-pub use results::{Run, discard_entry};
+pub use results::Run;
 pub use reversible::ReversibleDatabase;
 pub use running::{make_move, run, run_serial};
 pub use statements::{next_need, prepare, true_guesses};

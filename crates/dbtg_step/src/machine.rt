@@ -36,12 +36,22 @@ use std::alloc::{AllocError, Global};
 use std::marker::Model;
 
 /// A database and its run-units in mid-statement: the machine of events, in a lawful state.
-#[derive(Drop)]
 pub struct Core {
     alloc: Global,
     schema: Schema,
     capacity: u16,
     parts: Parts,
+}
+
+impl Drop for Core {
+    fn drop(self) {
+        let Self {
+            alloc: _,
+            schema: _,
+            capacity: _,
+            parts: _,
+        } = self;
+    }
 }
 
 impl Model for Core {
@@ -296,19 +306,19 @@ impl Core {
         read_image(alloc, &self.schema, self.capacity, source)
     }
 
-    /// Drops the core. Other crates call this, so that they need not prove that its parts can be dropped.
-    pub fn discard(self) {
-        drop(self)
-    }
-
     /// The core taken apart, with the results of the moves that led to it.
     pub fn into_run(self, results: Vec<Stepped>) -> Result<Run, AllocError>
         ensures { IfOk result (λ given. IsHandedOut self results.items given) }
     {
         match self.image(self.alloc) {
             Ok(image) => {
-                drop(self.schema);
-                run_of(self.alloc, self.parts, results, image)
+                let Self {
+                    alloc,
+                    schema: _,
+                    capacity: _,
+                    parts,
+                } = self;
+                run_of(alloc, parts, results, image)
             }
             Err(error) => {
                 drop(self);

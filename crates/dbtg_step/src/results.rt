@@ -23,11 +23,6 @@ impl Run {
         let Run { history, .. } = self;
         history
     }
-
-    /// Drops the results. Other crates call this, so that they need not prove that their parts can be dropped.
-    pub fn discard(self) {
-        drop(self)
-    }
 }
 
 /// Copies of the entries, in their order.
@@ -39,9 +34,4 @@ pub fn copy_entries(alloc: Global, entries: &[Entry]) -> Result<Row<Entry>, Allo
         copies.push(entry.copy()?)?;
     }
     Ok(Row::of(copies))
-}
-
-/// Drops an entry. Other crates call this, so that they need not prove that its parts can be dropped.
-pub fn discard_entry(entry: Entry) {
-    drop(entry)
 }

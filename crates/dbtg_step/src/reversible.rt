@@ -34,10 +34,18 @@ fn take_back_each(database: &mut WholeDatabase<'_>, ways: &mut Vec<WayBack>, cou
 }
 
 /// A database in memory on which each statement is made whole, and of which the last statements can be taken back.
-#[derive(Drop)]
 pub struct ReversibleDatabase<'a> {
     database: WholeDatabase<'a>,
     ways: Vec<WayBack>,
+}
+
+impl<'a> Drop for ReversibleDatabase<'a> {
+    fn drop(self) {
+        let Self {
+            database: _,
+            ways: _,
+        } = self;
+    }
 }
 
 impl<'a> Model for ReversibleDatabase<'a> {
@@ -109,13 +117,7 @@ impl<'a> ReversibleDatabase<'a> {
     pub fn into_database(self) -> WholeDatabase<'a>
         ensures { result ≡ self.entry.making }
     {
-        drop(self.ways);
-        self.database
-    }
-
-    /// Drops the database and its units. Other crates call this, so that they need not prove that their parts can
-    /// be dropped.
-    pub fn discard(self) {
-        drop(self)
+        let Self { database, ways: _ } = self;
+        database
     }
 }

@@ -42,11 +42,6 @@ impl Turned {
         let Turned { moves, .. } = self;
         moves
     }
-
-    /// Drops the run. Other crates call this, so that they need not prove that its parts can be dropped.
-    pub fn discard(self) {
-        drop(self)
-    }
 }
 
 /// The first of the moves that were made, up to a limit, and whether there are more.

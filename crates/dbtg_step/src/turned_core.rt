@@ -236,9 +236,4 @@ impl TurnedCore {
         let moves = self.noted.moves(self.alloc)?;
         Ok(Turned { run, moves })
     }
-
-    /// Drops the core. Other crates call this, so that they need not prove that its parts can be dropped.
-    pub fn discard(self) {
-        drop(self)
-    }
 }

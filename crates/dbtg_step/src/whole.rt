@@ -193,7 +193,6 @@ fn make_effect_with_way(
 }
 
 /// A database in memory, which holds all of its cells, with its units and the statements that they made.
-#[derive(Drop)]
 pub struct WholeDatabase<'a> {
     alloc: Global,
     schema: &'a Schema,
@@ -201,6 +200,19 @@ pub struct WholeDatabase<'a> {
     held: Held,
     units: Vec<Unit>,
     history: Vec<Entry>,
+}
+
+impl<'a> Drop for WholeDatabase<'a> {
+    fn drop(self) {
+        let Self {
+            alloc: _,
+            schema: _,
+            capacity: _,
+            held: _,
+            units: _,
+            history: _,
+        } = self;
+    }
 }
 
 impl<'a> Model for WholeDatabase<'a> {
@@ -309,19 +321,8 @@ impl<'a> WholeDatabase<'a> {
     pub fn into_run(self) -> Result<Run, AllocError>
         ensures { IfOk result (λ given. IsMadeRun self.entry given) }
     {
-        match self.image() {
-            Ok(image) => Ok(self.run_with(image)),
-            Err(error) => {
-                drop(self);
-                Err(error)
-            }
-        }
-    }
-
-    /// Drops the database and its units. Other crates call this, so that they need not prove that their parts can
-    /// be dropped.
-    pub fn discard(self) {
-        drop(self)
+        let image = self.image()?;
+        Ok(self.run_with(image))
     }
 
     // The database taken apart, beside its image.
@@ -329,12 +330,19 @@ impl<'a> WholeDatabase<'a> {
         requires { image ≡ image_of self.schema self.capacity (state_now self).database }
         ensures { IsMadeRun self.entry result }
     {
-        drop(self.held);
+        let Self {
+            alloc,
+            schema: _,
+            capacity: _,
+            held: _,
+            units,
+            history,
+        } = self;
         Run {
-            results: Row::of(Vec::new(self.alloc)),
+            results: Row::of(Vec::new(alloc)),
             image,
-            history: Row::of(self.history),
-            units: Row::of(self.units),
+            history: Row::of(history),
+            units: Row::of(units),
         }
     }
 

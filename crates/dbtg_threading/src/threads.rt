@@ -26,13 +26,6 @@ pub struct OnThreads {
     pub turns: Vec<u8>,
 }
 
-impl OnThreads {
-    /// Drops the run. Other crates call this, so that they need not prove that its parts can be dropped.
-    pub fn discard(self) {
-        drop(self)
-    }
-}
-
 /// How far each program is, and the turns.
 #[derive(Drop)]
 struct Said {
@@ -60,14 +53,14 @@ fn settled_of<R: Threads + Wait + Sync>(
             db,
             units,
         };
-        unsettled.discard();
+        drop(unsettled);
         return Err(AllocError);
     }
     match settle(alloc, db, units) {
         Ok(settled) => Ok(settled),
         // All units of the database came, so it was memory that was refused.
         Err(unsettled) => {
-            unsettled.discard();
+            drop(unsettled);
             Err(AllocError)
         }
     }
@@ -111,7 +104,7 @@ fn given_of(alloc: Global, settled: Settled, said: Said) -> OnThreads
         history,
         units,
     } = settled;
-    schema.discard();
+    drop(schema);
     let run = Run {
         results: Row::of(Vec::new(alloc)),
         image,
@@ -145,9 +138,9 @@ pub fn run_on_threads<R: Threads + Wait + Sync>(
         let history = settled.history.as_slice();
         match said_of(alloc, schema, lineup.programs, lineup.around, history) {
             Ok(Some(said)) => return Ok(given_of(alloc, settled, said)),
-            Ok(None) => settled.discard(),
+            Ok(None) => drop(settled),
             Err(error) => {
-                settled.discard();
+                drop(settled);
                 return Err(error);
             }
         }

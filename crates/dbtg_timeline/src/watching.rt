@@ -226,7 +226,5 @@ pub fn watch(
     ensures { IfOk result (λ events. events.items ≡ events_of_run schema.now capacity scripts moves.now) }
 {
     let mut core = Core::new(alloc, schema, capacity, scripts)?;
-    let events = watch_each_move(alloc, &mut core, moves);
-    core.discard();
-    events
+    watch_each_move(alloc, &mut core, moves)
 }

@@ -80,10 +80,25 @@ pub enum Edit {
 }
 
 /// A change of the cell with this name.
-#[derive(Drop)]
 pub struct CellEdit {
     pub name: CellName,
     pub edit: Edit,
+}
+
+impl Drop for CellEdit {
+    fn drop(self) {
+        let Self { name: _, edit: _ } = self;
+    }
+}
+
+impl CellEdit {
+    /// What is done to the cell.
+    pub(crate) fn into_edit(self) -> Edit
+        ensures { result ≡ self.edit }
+    {
+        let Self { name: _, edit } = self;
+        edit
+    }
 }
 
 /// Adds the edit by which a record leaves the list of its owner in a set, if it has one.

@@ -36,7 +36,6 @@ pub enum Need {
 }
 
 /// The areas and cells that a statement holds, and the guesses of its unit, one for each set.
-#[derive(Drop)]
 pub struct Held {
     areas: SmallVec<u8, 8>,
     names: SmallVec<CellName, 8>,
@@ -44,6 +43,19 @@ pub struct Held {
     index: IndexMap<NameKey, usize>,
     cells: SmallVec<Cell, 8>,
     guesses: Owners,
+}
+
+impl Drop for Held {
+    fn drop(self) {
+        let Self {
+            areas: _,
+            names: _,
+            first: _,
+            index: _,
+            cells: _,
+            guesses: _,
+        } = self;
+    }
 }
 
 impl Model for Held {

@@ -5,7 +5,6 @@ use std::marker::Model;
 
 /// The contents of a database as lists: records and versions by key; the lists by set, then owner; by record type the least
 /// free number, 0 for none, and the last generation of each number; by area who has it open, in the order of opening.
-#[derive(Drop)]
 pub struct Image {
     pub records: Row<(DbKey, SharedItems)>,
     pub versions: Row<(DbKey, u64)>,
@@ -13,6 +12,19 @@ pub struct Image {
     pub next: Row<u32>,
     pub last: Row<Row<u8>>,
     pub usage: Row<Row<(u8, Mode)>>,
+}
+
+impl Drop for Image {
+    fn drop(self) {
+        let Self {
+            records: _,
+            versions: _,
+            lists: _,
+            next: _,
+            last: _,
+            usage: _,
+        } = self;
+    }
 }
 
 impl Model for Image {

@@ -115,9 +115,8 @@ pub fn edit_held(held: &mut Held, edit: CellEdit)
     ensures areas { held.new.areas ≡ held.old.areas }
     ensures guesses { held.new.guesses ≡ held.old.guesses }
 {
-    let CellEdit { name, edit } = edit;
-    match held.cell_mut(&name) {
-        Some(cell) => edit_cell(cell, edit),
+    match held.cell_mut(&edit.name) {
+        Some(cell) => edit_cell(cell, edit.into_edit()),
         None => {}
     }
 }

@@ -233,7 +233,7 @@ fn day_text<R: Threads + Wait + Sync>(rt: &R, alloc: Global) -> Result<Vec<u8>, 
     match day(rt, alloc) {
         Ok(settled) => {
             let out = report(alloc, &settled);
-            settled.discard();
+            drop(settled);
             Ok(out?)
         }
         Err(stop) => Err(stop),

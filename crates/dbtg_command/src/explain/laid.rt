@@ -45,7 +45,7 @@ pub fn fault_line(alloc: Global, text: &[u8], number: u8) -> Result<u64, AllocEr
 {
     match Schema::read(alloc, text) {
         Ok(schema) => {
-            schema.discard();
+            drop(schema);
             Ok(0)
         }
         Err(SchemaFault::Refused { line, cause }) => {

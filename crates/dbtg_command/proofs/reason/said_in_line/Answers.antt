@@ -11,9 +11,9 @@ returns-in-Ok g c =
     let has = g.F.FileReader.has files.reader.now in
     let lacks = g.F.FileReader.lacks files.reader.now in
     let paths = files.paths.now in
-    IfOk-weaker c.said_in_text-said.result _ (λ said. SaysOfLine has lacks c.args.kind paths.schema.now c.args.number c.args.line.now said.items)
+    IfOk-weaker c.said_in_text.result _ (λ said. SaysOfLine has lacks c.args.kind paths.schema.now c.args.number c.args.line.now said.items)
     (λ said is. said_by_schema has lacks paths.schema.now (map (λ path. path.now) paths.scripts.now) (order_map (λ path. path.now) paths.order) c.args.kind c.in-Ok.known c.args.number c.args.line.now said.items c.in-Ok.ensures.read is)
-    c.said_in_text-said.ensures
+    c.said_in_text.ensures
 
 pub returns-in-Err : goal.returns-in-Err
 returns-in-Err g c =

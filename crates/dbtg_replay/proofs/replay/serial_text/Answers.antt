@@ -5,8 +5,8 @@ use Rattle.dbtg_replay.specs.Replaying.{IsPrinted, shown_text}
 use Rattle.dbtg_replay.proofs.CanBeMade.{can_show}
 use Rattle.dbtg_replay.proofs.replay.serial_text.Goals as goal
 
-pub text_of-text-requires : goal.text_of-text-requires
-text_of-text-requires c =
+pub text_of-requires : goal.text_of-requires
+text_of-requires c =
     can_show c.args.schema.now c.args.capacity c.args.scripts c.in_ok-given.given c.args.shown.form c.requires.sound c.requires.units c.requires.fit c.in_ok-given.ensures.1.sequential
 
 pub returns : goal.returns
@@ -14,5 +14,5 @@ returns c =
     let lists = c.args.schema.now in
     let form = c.args.shown.form in
     let texts = c.args.shown.texts.now in
-    IfOk-weaker c.text_of-text.result (λ out. out.items ≡ shown_text lists form texts c.in_ok-given.given) (λ out. IsPrinted (SerialRunIs lists c.args.capacity c.args.scripts) (shown_text lists form texts) out.items)
-    (λ out text. record { given = c.in_ok-given.given; is_run = c.in_ok-given.ensures; is_text = text }) c.text_of-text.ensures
+    IfOk-weaker c.text_of.result (λ out. out.items ≡ shown_text lists form texts c.in_ok-given.given) (λ out. IsPrinted (SerialRunIs lists c.args.capacity c.args.scripts) (shown_text lists form texts) out.items)
+    (λ out text. record { given = c.in_ok-given.given; is_run = c.in_ok-given.ensures; is_text = text }) c.text_of.ensures

@@ -4,8 +4,8 @@ use Rattle.dbtg_replay.specs.Replaying.{IsPrinted, RunByTurnsIs, shown_text}
 use Rattle.dbtg_replay.proofs.CanBeMade.{can_show}
 use Rattle.dbtg_replay.proofs.replay.turned_text.Goals as goal
 
-pub text_of-text-requires : goal.text_of-text-requires
-text_of-text-requires c =
+pub text_of-requires : goal.text_of-requires
+text_of-requires c =
     can_show c.args.schema.now c.args.capacity c.args.scripts c.in_ok-given.given.run c.args.shown.form c.requires.sound c.requires.units c.requires.fit c.in_ok-given.ensures.run.sequential
 
 pub returns : goal.returns
@@ -15,5 +15,5 @@ returns c =
     let texts = c.args.shown.texts.now in
     let made = c.in_ok-given.given.run in
     let turned = c.in_ok-given.ensures in
-    IfOk-weaker c.text_of-text.result (λ out. out.items ≡ shown_text lists form texts made) (λ out. IsPrinted (RunByTurnsIs lists c.args.capacity c.args.scripts c.args.turns.now) (shown_text lists form texts) out.items)
-    (λ out text. record { given = made; is_run = (turned.moves, turned.run); is_text = text }) c.text_of-text.ensures
+    IfOk-weaker c.text_of.result (λ out. out.items ≡ shown_text lists form texts made) (λ out. IsPrinted (RunByTurnsIs lists c.args.capacity c.args.scripts c.args.turns.now) (shown_text lists form texts) out.items)
+    (λ out text. record { given = made; is_run = (turned.moves, turned.run); is_text = text }) c.text_of.ensures

@@ -5,4 +5,4 @@ use Rattle.dbtg_timeline.specs.Events.{events_of}
 use Rattle.dbtg_timeline.proofs.watching.watch.Goals as goal
 
 pub returns : goal.returns
-returns c = subst (λ (m : CoreState). IfOk c.watch_each_move-events.result (λ events. events.items ≡ events_of m c.args.moves.now)) c.in_ok-core.ensures c.watch_each_move-events.ensures
+returns c = subst (λ (m : CoreState). IfOk c.watch_each_move.result (λ events. events.items ≡ events_of m c.args.moves.now)) c.in_ok-core.ensures c.watch_each_move.ensures
