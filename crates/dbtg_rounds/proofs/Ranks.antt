@@ -18,7 +18,7 @@ from_within states es place d within low = (within (get_or es place d) (Contains
 pub to_within : (states : ℕ) (es : List Edge) (place : ℕ) (d : Edge) → AreWithin states es → place < length es → (get_or es place d).to < states
 to_within states es place d within low = (within (get_or es place d) (Contains-get_or es place d low)).1
 
--- edges are within so many states, however their number is told
+-- equal edges are within an equal number of states
 pub same_within : (n m : ℕ) (es fs : List Edge) → n ≡ m → es ≡ fs → AreWithin n es → AreWithin m fs
 same_within n m es fs states edges within = λ e has.
     let both = within e (subst (λ (l : List Edge). Contains l e) (sym edges) has) in

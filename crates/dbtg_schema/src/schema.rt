@@ -86,44 +86,14 @@ impl Model for Schema {
     ghost invariant = { λ a. IsSchema (record { name = a.name; areas = a.areas; types = a.types; sets = a.sets }) × IsSchemaIndex a.index a.areas a.types a.sets × AreErasedOfEach a.erased (record { name = a.name; areas = a.areas; types = a.types; sets = a.sets }) × AreConnectingOfEach a.connecting (record { name = a.name; areas = a.areas; types = a.types; sets = a.sets }) × AreSetsOfEach a.sets_of_types (length a.types) a.sets };
 }
 
-/// Computes the sets in which STORE connects.
-fn work_out_connecting(alloc: Global, schema: &mut Schema) -> Result<(), AllocError>
-    ensures { schema.new ≡ schema.old }
-{
-    let connecting = sets_connecting_each(alloc, schema)?;
-    schema.connecting = connecting;
-    Ok(())
-}
-
-/// Computes the areas of the schema's deletions.
-fn work_out_erased(alloc: Global, schema: &mut Schema) -> Result<(), AllocError>
-    ensures { schema.new ≡ schema.old }
-{
-    let erased = areas_of_each(alloc, schema)?;
-    schema.erased = erased;
-    Ok(())
-}
-
-/// Computes the sets in which STORE connects and the areas of the schema's deletions.
-fn work_out(alloc: Global, schema: &mut Schema) -> Result<(), AllocError>
-    ensures { schema.new ≡ schema.old }
-{
-    work_out_connecting(alloc, schema)?;
-    work_out_erased(alloc, schema)
-}
-
-/// The schema, with all that is computed from it.
+/// The schema, with the sets in which STORE connects and the areas of its deletions.
 fn worked_out(alloc: Global, schema: Schema) -> Result<Schema, AllocError>
     ensures { IfOk result (λ s. s ≡ schema) }
 {
     let mut schema = schema;
-    match work_out(alloc, &mut schema) {
-        Ok(()) => Ok(schema),
-        Err(refused) => {
-            drop(schema);
-            Err(refused)
-        }
-    }
+    schema.connecting = sets_connecting_each(alloc, &schema)?;
+    schema.erased = areas_of_each(alloc, &schema)?;
+    Ok(schema)
 }
 
 /// The look-up tables of a schema's lists: the numbers of its names, and the sets of each record type.
