@@ -13,7 +13,7 @@ use Rattle.dbtg_timeline.specs.Svg.{timeline_svg}
 use Rattle.dbtg_timeline.specs.Text.{timeline_text}
 use Rattle.dbtg_timeline.specs.Watching.{events_of_run}
 use Rattle.dbtg_page.specs.Rows.{page_text}
-use Rattle.dbtg_command.specs.declared.explain.causes.TheConstants.{CAUSES}
+use Rattle.dbtg_explain.specs.declared.causes.TheConstants.{CAUSES}
 use Rattle.dbtg_command.specs.declared.order.Order.{Order}
 use Rattle.dbtg_command.specs.declared.order.Order.TheVariants.{Moves, Serial, Turns}
 use Rattle.dbtg_command.specs.declared.order.OrderKind.{OrderKind}

@@ -17,11 +17,11 @@ use clap::error::ErrorKind;
 use dbtg_audit::{AuditOptions, Verdict, audit};
 use dbtg_command::check::check;
 use dbtg_command::draw::draw;
-use dbtg_command::explain::{Topic, explained, status_topic};
 use dbtg_command::reason::reason;
 use dbtg_command::{
     Call, Fault, Files, Named, Order, Paths, Wished, call_of, each_fault, read_schema, status_of,
 };
+use dbtg_explain::{Topic, explained, status_topic};
 use dbtg_exploring::{Exploring, explore_programs};
 use dbtg_going::Around;
 use dbtg_outcomes::Wish;

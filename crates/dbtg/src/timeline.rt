@@ -8,8 +8,8 @@ ghost use Rattle.dbtg.specs.Picturing.{IsPictured, TimelineHeld, events_shown, p
 ghost use Rattle.dbtg_command.specs.Refusals.{is_count};
 ghost use Rattle.dbtg_command.specs.Sources.{ReadSchema, ToldOfRun};
 
-use dbtg_command::explain::CAUSES;
 use dbtg_command::{Fault, OrderKind, Source, copy_each_script, read_moves, read_turns};
+use dbtg_explain::CAUSES;
 use dbtg_page::{Told, page_text};
 use dbtg_replay::replay::schema_for_run;
 use dbtg_replay::{

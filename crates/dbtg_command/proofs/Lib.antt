@@ -1,11 +1,8 @@
 mod Calls
 mod Commands
 mod WordsAsked
-mod Rows
-mod OfferedRows
+mod OtherKinds
 mod InTurn
-mod Labels
-mod Said
 mod ForMemory
 mod Reasons
 mod TextsRead

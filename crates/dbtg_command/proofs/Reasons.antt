@@ -3,7 +3,7 @@ use Rattle.std.proofs.Common.{◌≡◌, ℕ, List, Option, Some, inl, inr, refl
 use Rattle.dbtg_schema.specs.Lists.{Lists}
 use Rattle.dbtg_schema.specs.Texts.SchemaFaults.{refusal}
 use Rattle.dbtg_schema.specs.declared.fault.Fault.{Fault as SchemaRefusal}
-use Rattle.dbtg_command.specs.declared.explain.Kind.{Kind}
+use Rattle.dbtg_explain.specs.declared.topic.Kind.{Kind}
 use Rattle.dbtg_command.specs.declared.fault.Fault.{Fault}
 use Rattle.dbtg_command.specs.declared.fault.Fault.TheVariants.{Schema, Script, Moves, Turns, Trace, MovesOver, StatesOver, Unreadable, ScriptCount, Memory, Program}
 use Rattle.dbtg_command.specs.declared.order.Order.{Order}

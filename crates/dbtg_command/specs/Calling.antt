@@ -4,6 +4,7 @@ use Rattle.clap.specs.Matches.{first_value, matched_of, one_text, raw_values}
 use Rattle.clap.specs.Simple.{subcommand_of}
 use Rattle.clap.specs.Walk.{rows_of}
 use Rattle.clap.specs.declared.parser.matches.Found.{Found}
+use Rattle.dbtg_explain.specs.Explaining.{IsAsked}
 use Rattle.dbtg_command.specs.declared.call.Call.{Call}
 use Rattle.dbtg_command.specs.declared.command.Named.{Named}
 use Rattle.dbtg_command.specs.declared.limits.TheConstants.{MOST_UNITS}
@@ -11,7 +12,6 @@ use Rattle.dbtg_command.specs.declared.order.Order.{Order}
 use Rattle.dbtg_command.specs.declared.order.Order.TheVariants as by
 use Rattle.dbtg_command.specs.Capacity.{count_in}
 use Rattle.dbtg_command.specs.Commands.{name_of, program}
-use Rattle.dbtg_command.specs.Explaining.{IsAsked}
 use Rattle.dbtg_command.specs.Sources.{order_map}
 use Rattle.dbtg_command.specs.Wishing.{wish_of_either}
 

@@ -3,15 +3,9 @@ pub mod Telling
 pub mod Checking
 pub mod Capacity
 pub mod Sources
-pub mod Explaining
 pub mod Commands
 pub mod Wishing
 pub mod Calling
-pub mod FaultyWord
-pub mod Hints
-pub mod Offered
-pub mod Saying
-pub mod Misfits
 pub mod Reasons
 pub mod Drawing
 pub mod Inside

@@ -20,16 +20,16 @@ use Rattle.dbtg_script.specs.StatementGrammar.{fits, statement}
 use Rattle.dbtg_script.specs.Tokens.{plain}
 use Rattle.dbtg_program.specs.Faults.{cause_number as program_cause_number}
 use Rattle.dbtg_trace.specs.Faults.{cause_number as trace_cause_number}
-use Rattle.dbtg_command.specs.declared.explain.Kind.{Kind}
-use Rattle.dbtg_command.specs.declared.explain.Kind.TheVariants as kind
+use Rattle.dbtg_explain.specs.declared.topic.Kind.{Kind}
+use Rattle.dbtg_explain.specs.declared.topic.Kind.TheVariants as kind
+use Rattle.dbtg_explain.specs.Explaining.{fault_field}
+use Rattle.dbtg_explain.specs.FaultyWord.{line_at}
+use Rattle.dbtg_explain.specs.Misfits.{said_of_schema_word, said_of_word}
 use Rattle.dbtg_command.specs.declared.fault.Fault.{Fault}
 use Rattle.dbtg_command.specs.declared.fault.Fault.TheVariants.{Schema, Script, Moves, Turns, Trace, MovesOver, StatesOver, Unreadable, ScriptCount, Memory, Program}
 use Rattle.dbtg_command.specs.declared.order.Order.{Order}
 use Rattle.dbtg_command.specs.declared.order.Order.TheVariants as by
-use Rattle.dbtg_command.specs.Explaining.{fault_field}
-use Rattle.dbtg_command.specs.FaultyWord.{line_at}
 use Rattle.dbtg_command.specs.Refusals.{schema_in}
-use Rattle.dbtg_command.specs.Misfits.{said_of_schema_word, said_of_word}
 
 -- a place in a file: its path, a mark, and the number of the line or word
 abbrev pub place_of : List ℕ → List ℕ → ℕ → List ℕ

@@ -2,10 +2,10 @@
 use Rattle.std.specs.Prelude.{ℕ, ◌==◌, Bool, true, false, List, [], ◌∷◌, Option, Some, None, length, option_and_then, option_map, if◌then◌else◌}
 use Rattle.dbtg_script.specs.Printing.Spelling.{behind, in_front}
 use Rattle.dbtg_unit.specs.declared.limits.TheConstants.{MOST_STATEMENTS}
+use Rattle.dbtg_explain.specs.Explaining.{number_in}
 use Rattle.dbtg_command.specs.declared.limits.TheConstants.{MOST_UNITS}
 use Rattle.dbtg_command.specs.declared.wished.Wished.{Wished}
 use Rattle.dbtg_command.specs.Capacity.{count_in}
-use Rattle.dbtg_command.specs.Explaining.{number_in}
 
 -- a status of four digits
 abbrev pub status_in : List ℕ → Option ℕ

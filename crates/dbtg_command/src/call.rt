@@ -1,23 +1,23 @@
 //! What the words of the command ask for, from what `clap` finds in them.
 ghost use Rattle.std.specs.Prelude.{◌≡◌, ◌++◌, ◌≤◌, IfOk, IfSome, OnOk, codes, map, option_map, option_to_list, string_bytes, Some};
 ghost use Rattle.clap.specs.Matches.{first_value, found_of};
+ghost use Rattle.dbtg_explain.specs.Explaining.{IsAsked};
 ghost use Rattle.dbtg_command.specs.Calling.{IsCall, IsCallOf, count_for, order_in, scripts_in, words_in};
 ghost use Rattle.dbtg_command.specs.Capacity.{count_in};
 ghost use Rattle.dbtg_command.specs.Commands.{name_of};
-ghost use Rattle.dbtg_command.specs.Explaining.{IsAsked};
 ghost use Rattle.dbtg_command.specs.Sources.{order_map};
 ghost use Rattle.dbtg_command.specs.Wishing.{wish_for, wish_of_either};
 ghost use Rattle.dbtg_command.specs.Inside.Commands.{IsCallIn};
 
 use crate::capacity::count_of;
 use crate::command::{ALL, Named, command, name_of, refused};
-use crate::explain::{Topic, topic_of};
 use crate::files::STANDARD_INPUT;
 use crate::limits::MOST_UNITS;
 use crate::order::Order;
 use crate::wished::{Wished, wish_of};
 use clap::error::ErrorKind;
 use clap::{ArgMatches, Error};
+use dbtg_explain::{Topic, topic_of};
 use std::alloc::{AllocError, Global};
 
 /// What is to be done, and with what. What a command cannot be given is absent: false, 0, empty or none. Paths are as they were given;

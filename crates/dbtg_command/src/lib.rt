@@ -1,5 +1,5 @@
-//! The words of a command and what they ask for: the files that they name, the texts in these files, faults, and the meaning of
-//! faults and statuses; with `check` and `draw`, which run nothing. It may read files and standard input, and writes nothing.
+//! The words of a command and what they ask for: the files that they name, the texts in these files, and faults, with the line that
+//! says where a fault is; with `check` and `draw`, which run nothing. It may read files and standard input, and writes nothing.
 //! Nothing in it knows of steps, runs and threads: those crates stand beside it, not below.
 #![tactic(auto)]
 
@@ -11,7 +11,6 @@ pub mod check;
 mod command;
 mod copies;
 pub mod draw;
-pub mod explain;
 mod fault;
 mod files;
 mod judging;

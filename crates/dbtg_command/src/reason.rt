@@ -2,16 +2,16 @@
 ghost use Rattle.std.specs.Char.{is_ascii_alphabetic};
 ghost use Rattle.std.specs.List.{prefix_len};
 ghost use Rattle.std.specs.Prelude.{◌≡◌, ◌≤◌, [], IfOk, MatchOption, length, map, string_bytes};
+ghost use Rattle.dbtg_explain.specs.declared.topic.Kind.TheVariants as text_kind;
 ghost use Rattle.dbtg_command.specs.Reasons.{HasNoReason, IsNotRead, IsNotReadTo, IsReason, IsReasonLine, IsToldIn, IsToldOfOrder, IsScriptNotRead, IsUnreadLine, SaysOfFile, SaysOfLine, SaysOfSchema, SaysOfScript, begins_statement, first_letters, order_path, other_kind, place_of, script_path, told_at, IsToldOfProgram, IsToldOfTrace, SaysOfTrace, has_script_fault, kind_with, no_unit, said_in_text, said_of_unit};
 ghost use Rattle.dbtg_command.specs.Sources.{order_map};
-ghost use Rattle.dbtg_command.specs.declared.explain.Kind.TheVariants as text_kind;
 ghost use Rattle.dbtg_command.specs.declared.fault.Fault.TheVariants.{Memory};
 
-use crate::explain::{Kind, line_at, meaning_of, said_of_schema_word, said_of_word};
 use crate::fault::Fault;
 use crate::files::{FileReader, Files, Paths, SCRIPT_BYTES, STANDARD_INPUT, TRACE_BYTES};
 use crate::order::Order;
 use crate::texts::read_schema;
+use dbtg_explain::{Kind, line_at, meaning_of, said_of_schema_word, said_of_word};
 use dbtg_schema::Schema;
 use dbtg_script::{LineFault, has_byte, in_front, is_number, push_number, read_script_line};
 use std::alloc::{AllocError, Global};

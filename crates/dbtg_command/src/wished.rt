@@ -3,8 +3,8 @@ ghost use Rattle.std.specs.Prelude.{◌≡◌, ◌≤◌, IfSome};
 ghost use Rattle.dbtg_command.specs.Wishing.{status_in, wish_in};
 
 use crate::capacity::count_in_digits;
-use crate::explain::number_in;
 use crate::limits::MOST_UNITS;
+use dbtg_explain::number_in;
 use dbtg_script::{behind, in_front};
 use dbtg_unit::MOST_STATEMENTS;
 

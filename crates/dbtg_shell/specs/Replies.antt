@@ -12,11 +12,11 @@ use Rattle.dbtg_script.specs.Printing.Causes.{cause_number}
 use Rattle.dbtg_script.specs.Printing.Spelling.{behind, in_front}
 use Rattle.dbtg_script.specs.Printing.Texts.{answer_text, image_text, named_answer_text, units_text}
 use Rattle.dbtg_script.specs.declared.fault.Cause.{Cause}
-use Rattle.dbtg_command.specs.declared.explain.causes.TheConstants.{CAUSES}
-use Rattle.dbtg_command.specs.declared.explain.Kind.TheVariants as kind
-use Rattle.dbtg_command.specs.Explaining.{fault_field, field, row_of}
-use Rattle.dbtg_command.specs.FaultyWord.{line_at}
-use Rattle.dbtg_command.specs.Misfits.{said_of_word}
+use Rattle.dbtg_explain.specs.declared.causes.TheConstants.{CAUSES}
+use Rattle.dbtg_explain.specs.declared.topic.Kind.TheVariants as kind
+use Rattle.dbtg_explain.specs.Explaining.{fault_field, field, row_of}
+use Rattle.dbtg_explain.specs.FaultyWord.{line_at}
+use Rattle.dbtg_explain.specs.Misfits.{said_of_word}
 use Rattle.dbtg_shell.specs.Asking.{asks, behind_spaces, means_unit, turn_given}
 use Rattle.dbtg_shell.specs.UnitWords.{unit_said}
 

@@ -11,7 +11,7 @@ use crate::replies::{
     unit_reply, units_reply, with_here,
 };
 use crate::session::{Refusal, Session};
-use dbtg_command::explain::{Kind, Topic, explained, fault_topic, status_topic, topic_of};
+use dbtg_explain::{Kind, Topic, explained, fault_topic, status_topic, topic_of};
 use dbtg_script::{Cause, behind, in_front, is_number, number};
 use std::alloc::{AllocError, Global};
 

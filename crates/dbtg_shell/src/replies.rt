@@ -12,8 +12,8 @@ ghost use Rattle.dbtg_shell.specs.UnitWords.{unit_said};
 
 use crate::session::Session;
 use crate::words::unit_words;
-use dbtg_command::explain::{CAUSES, Kind, field, line_at, meaning_of, row_with, said_of_word};
 use dbtg_draw::schema_lines;
+use dbtg_explain::{CAUSES, Kind, field, line_at, meaning_of, row_with, said_of_word};
 use dbtg_schema::Schema;
 use dbtg_script::{
     Cause, behind, image_text, in_front, push_answer, push_named_answer, push_number, units_text,

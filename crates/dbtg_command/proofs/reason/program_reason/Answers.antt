@@ -1,6 +1,6 @@
 use Rattle.std.proofs.lemmas.Result.{IfOk-weaker}
+use Rattle.dbtg_explain.specs.declared.topic.Kind.TheVariants.{Program}
 use Rattle.dbtg_command.specs.Reasons.{IsToldOfProgram, SaysOfScript}
-use Rattle.dbtg_command.specs.declared.explain.Kind.TheVariants.{Program}
 use Rattle.dbtg_command.proofs.reason.program_reason.Goals as goal
 
 pub returns : goal.returns

@@ -1,6 +1,6 @@
 use Rattle.std.proofs.lemmas.Result.{IfOk-weaker}
+use Rattle.dbtg_explain.specs.declared.topic.Kind.TheVariants.{Schema}
 use Rattle.dbtg_command.specs.Reasons.{IsToldIn, SaysOfFile, SaysOfSchema}
-use Rattle.dbtg_command.specs.declared.explain.Kind.TheVariants.{Schema}
 use Rattle.dbtg_command.proofs.reason.schema_reason.Goals as goal
 
 pub returns : goal.returns

@@ -1,6 +1,6 @@
 use Rattle.std.proofs.lemmas.Result.{IfOk-weaker}
+use Rattle.dbtg_explain.specs.declared.topic.Kind.TheVariants.{Script}
 use Rattle.dbtg_command.specs.Reasons.{IsToldIn, SaysOfFile, SaysOfScript}
-use Rattle.dbtg_command.specs.declared.explain.Kind.TheVariants.{Script}
 use Rattle.dbtg_command.proofs.reason.script_reason.Goals as goal
 
 pub returns : goal.returns

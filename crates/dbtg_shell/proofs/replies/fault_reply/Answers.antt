@@ -1,7 +1,7 @@
 use Rattle.std.proofs.Common.{◌∙◌, ℕ, ap}
 use Rattle.std.proofs.lemmas.Result.{IfOk-weaker}
-use Rattle.dbtg_command.specs.FaultyWord.{line_at}
-use Rattle.dbtg_command.specs.Misfits.{said_of_word}
+use Rattle.dbtg_explain.specs.FaultyWord.{line_at}
+use Rattle.dbtg_explain.specs.Misfits.{said_of_word}
 use Rattle.dbtg_shell.specs.Replies.{IsFaultText}
 use Rattle.dbtg_shell.proofs.replies.fault_reply.Goals as goal
 

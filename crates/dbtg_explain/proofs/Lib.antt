@@ -1,0 +1,4 @@
+mod Rows
+mod Labels
+mod Said
+mod OfferedRows

@@ -1,0 +1,6 @@
+pub mod FaultyWord
+pub mod Explaining
+pub mod Hints
+pub mod Offered
+pub mod Saying
+pub mod Misfits
