@@ -112,19 +112,17 @@ fn audited_of(
     ensures { IfOk result (λ audited. (statuses : Bool) (old : Making) (recorded : SeenRecorded) → IsLoaded old.schema old.capacity recorded.units recorded.load old
         → HasMadeUpTo statuses old recorded.traced found database.entry → IsAudited statuses old.schema old.capacity recorded audited) }
 {
-    match database.into_run() {
-        Ok(run) => match found {
-            None => Ok(Audited::Equal(run)),
-            Some((line, said)) => {
-                Ok(Audited::Differs(Difference {
-                    line,
-                    said,
-                    history: run.into_history(),
-                }))
-            }
-        },
-        Err(error) => Err(error),
-    }
+    let run = database.into_run()?;
+    Ok(match found {
+        None => Audited::Equal(run),
+        Some((line, said)) => {
+            Audited::Differs(Difference {
+                line,
+                said,
+                history: run.into_history(),
+            })
+        }
+    })
 }
 
 /// Whether the sequential database gives the answers of a trace; only statuses are compared if that is asked. The statements
@@ -163,10 +161,10 @@ fn all_audited_of(
         → HasToldAll statuses old.schema old recorded.traced database.entry [] told.items so → IsAllAudited statuses old.schema old.capacity recorded audited) }
 {
     if so {
-        return Ok(AllAudited::Equal(database.into_run()?));
+        Ok(AllAudited::Equal(database.into_run()?))
+    } else {
+        Ok(AllAudited::Differ(told))
     }
-    drop(database);
-    Ok(AllAudited::Differ(told))
 }
 
 /// The same for every line: after an answer that differs from the trace, the trace's statements go on with the sequential

@@ -83,11 +83,7 @@ fn verdict_of(alloc: Global, schema: &Schema, audited: Audited) -> Result<Verdic
     ensures { IfOk result (λ said. (statuses : Bool) (capacity : ℕ) (recorded : SeenRecorded) → IsAudited statuses schema.now capacity recorded audited → IsFirstVerdict statuses schema.now capacity recorded said) }
 {
     match audited {
-        Audited::Equal(given) => {
-            let text = equal_text(alloc, schema, &given);
-            drop(given);
-            Ok(Verdict::Equal(text?))
-        }
+        Audited::Equal(given) => Ok(Verdict::Equal(equal_text(alloc, schema, &given)?)),
         Audited::Differs(found) => {
             let (told, status) = difference_of(alloc, schema, &found)?;
             Ok(Verdict::Differs { told, status })
@@ -104,11 +100,7 @@ fn listed_verdict_of(
     ensures { IfOk result (λ said. (statuses : Bool) (capacity : ℕ) (recorded : SeenRecorded) → IsAllAudited statuses schema.now capacity recorded audited → IsListedVerdict statuses schema.now capacity recorded said) }
 {
     match audited {
-        AllAudited::Equal(given) => {
-            let text = equal_text(alloc, schema, &given);
-            drop(given);
-            Ok(Verdict::Equal(text?))
-        }
+        AllAudited::Equal(given) => Ok(Verdict::Equal(equal_text(alloc, schema, &given)?)),
         AllAudited::Differ(told) => Ok(Verdict::Listed(told)),
     }
 }

@@ -23,13 +23,8 @@ fn with_answer(prepared: Prepared) -> Result<(Prepared, Answer), AllocError>
     ensures same { IfOk result (λ made. made.0 ≡ prepared) }
     ensures noted { IfOk result (λ made. made.1 ≡ prepared.answer) }
 {
-    match prepared.answer().copy() {
-        Ok(noted) => Ok((prepared, noted)),
-        Err(refused) => {
-            drop(prepared);
-            Err(refused)
-        }
-    }
+    let noted = prepared.answer().copy()?;
+    Ok((prepared, noted))
 }
 
 impl Work {
@@ -82,17 +77,9 @@ impl Work {
         ensures done { IfOk result (λ a. IsDone self.old.about self.old.journal.items self.new.journal.items self.new.unit statement.now a) }
         ensures err { OnErr result ((self.new.unit ≡ self.old.unit) × (self.new.journal.items ≡ self.old.journal.items)) }
     {
-        let made = match self.prepare_in_hand(alloc, db, statement) {
-            Ok(prepared) => with_answer(prepared),
-            Err(refused) => Err(refused),
-        };
-        match made {
-            Ok((prepared, noted)) => Ok(self.commit::<Brand, G>(db, copy, noted, prepared, gate)),
-            Err(refused) => {
-                drop(copy);
-                Err(refused)
-            }
-        }
+        let ready = self.prepare_in_hand(alloc, db, statement)?;
+        let (prepared, noted) = with_answer(ready)?;
+        Ok(self.commit::<Brand, G>(db, copy, noted, prepared, gate))
     }
 
     // Takes what the statement needs and makes it. None if the tries are used up.
@@ -125,10 +112,8 @@ impl Work {
             return Ok(None);
         }
         let copy = statement.copy()?;
-        match self.make_in_hand(alloc, db, statement, copy, gate) {
-            Ok(answer) => Ok(Some(answer)),
-            Err(refused) => Err(refused),
-        }
+        let answer = self.make_in_hand(alloc, db, statement, copy, gate)?;
+        Ok(Some(answer))
     }
 
     // The gate is passed after the last latch is left.

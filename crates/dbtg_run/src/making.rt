@@ -109,25 +109,12 @@ fn seat_units(
     let last = about.units - 1;
     for place in 0..last {
         let seat = cut_off(&board.shared, &mut rest);
-        match newcomer(alloc, schema, about, place + 1, seat) {
-            Ok(unit) => made.push_reserved(unit),
-            Err(refused) => {
-                drop(rest);
-                drop(made);
-                return Err(refused);
-            }
-        }
+        let unit = newcomer(alloc, schema, about, place + 1, seat)?;
+        made.push_reserved(unit);
     }
-    match newcomer(alloc, schema, about, about.units, rest) {
-        Ok(unit) => {
-            made.push_reserved(unit);
-            Ok(made)
-        }
-        Err(refused) => {
-            drop(made);
-            Err(refused)
-        }
-    }
+    let unit = newcomer(alloc, schema, about, about.units, rest)?;
+    made.push_reserved(unit);
+    Ok(made)
 }
 
 // The table with all cells at home, and its units.
@@ -169,20 +156,12 @@ impl Database {
             capacity,
             units,
         };
-        match furnish(alloc, &schema, &about) {
-            Ok((board, made)) => Ok((
-                Database {
-                    board,
-                    schema,
-                    about,
-                },
-                made,
-            )),
-            Err(error) => {
-                drop(schema);
-                drop(about);
-                Err(error)
-            }
-        }
+        let (board, units) = furnish(alloc, &schema, &about)?;
+        let database = Database {
+            board,
+            schema,
+            about,
+        };
+        Ok((database, units))
     }
 }

@@ -93,16 +93,10 @@ fn audit_from(
     requires fresh { StandsAfter database [] }
     ensures { IfOk result (λ found. IsAudited database.entry.schema database.entry.capacity (length database.entry.units) (entries_at history.now) found) }
 {
-    match takes_all(&mut database, history) {
-        Ok(true) => Ok(Some(database.into_image_and_units()?)),
-        Ok(false) => {
-            drop(database);
-            Ok(None)
-        }
-        Err(error) => {
-            drop(database);
-            Err(error)
-        }
+    if takes_all(&mut database, history)? {
+        Ok(Some(database.into_image_and_units()?))
+    } else {
+        Ok(None)
     }
 }
 
@@ -118,10 +112,8 @@ fn audit_judged(
     requires may { MayBeHistory schema.now units (entries_at history.now) }
     ensures { IfOk result (λ found. IsAudited schema.now capacity units (entries_at history.now) found) }
 {
-    match BareDatabase::opening(alloc, schema, capacity, units) {
-        Ok(database) => audit_from(database, history),
-        Err(error) => Err(error),
-    }
+    let database = BareDatabase::opening(alloc, schema, capacity, units)?;
+    audit_from(database, history)
 }
 
 /// Whether a list is a history of the sequential database with this number of units, numbered from 1: its tickets are

@@ -116,13 +116,8 @@ impl<'a> BareDatabase<'a> {
         ensures { IfOk result (λ led. (history : List Entry) → StandsAfter self.entry history → LeadsTo self.entry.schema self.entry.capacity (length self.entry.units) history led.0 led.1) }
     {
         let source = CellSource::Hands(&self.held);
-        match read_image(self.alloc, self.schema, self.capacity, source) {
-            Ok(image) => Ok((image, self.into_units())),
-            Err(error) => {
-                drop(self);
-                Err(error)
-            }
-        }
+        let image = read_image(self.alloc, self.schema, self.capacity, source)?;
+        Ok((image, self.into_units()))
     }
 
     fn into_units(self) -> Row<Unit>

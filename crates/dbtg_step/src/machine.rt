@@ -79,14 +79,12 @@ fn opening_parts(
     ensures opening { IfOk result (λ parts. core_of schema.now capacity parts ≡ record { schema = schema.now; capacity = capacity; opening = opening_of schema.now capacity (length scripts); state = machine_of schema.now capacity scripts }) }
 {
     let table = opening_table(alloc, schema, capacity)?;
-    match opening_runners(alloc, schema, scripts) {
-        Ok(runners) => Ok(Parts {
-            table,
-            history: Vec::new(alloc),
-            runners,
-        }),
-        Err(error) => Err(error),
-    }
+    let runners = opening_runners(alloc, schema, scripts)?;
+    Ok(Parts {
+        table,
+        history: Vec::new(alloc),
+        runners,
+    })
 }
 
 // The results that these parts give, apart from the image.
@@ -99,15 +97,13 @@ fn run_of(
     ensures { IfOk result (λ given. (given.results ≡ results.items) × (given.image ≡ image) × (given.history ≡ parts.history.items) × (given.units ≡ map (λ r. r.unit) parts.runners.items)) }
 {
     let history = Row::of(parts.history);
-    match units_of(alloc, parts.runners) {
-        Ok(units) => Ok(Run {
-            results: Row::of(results),
-            image,
-            history,
-            units,
-        }),
-        Err(error) => Err(error),
-    }
+    let units = units_of(alloc, parts.runners)?;
+    Ok(Run {
+        results: Row::of(results),
+        image,
+        history,
+        units,
+    })
 }
 
 impl Core {
@@ -124,10 +120,8 @@ impl Core {
         requires fit { scripts_fit schema.now scripts ≡ true }
         ensures { IfOk result (λ core. machine core ≡ record { schema = schema.now; capacity = capacity; opening = opening_of schema.now capacity (length scripts); state = machine_of schema.now capacity scripts }) }
     {
-        match opening_parts(alloc, schema, capacity, scripts) {
-            Ok(parts) => Core::of(alloc, schema, capacity, parts),
-            Err(error) => Err(error),
-        }
+        let parts = opening_parts(alloc, schema, capacity, scripts)?;
+        Core::of(alloc, schema, capacity, parts)
     }
 
     // The core of these parts, with a schema of its own.
@@ -135,15 +129,13 @@ impl Core {
         requires { IsWell schema.now capacity parts }
         ensures { IfOk result (λ core. machine core ≡ core_of schema.now capacity parts) }
     {
-        match schema.copy(alloc) {
-            Ok(schema) => Ok(Core {
-                alloc,
-                schema,
-                capacity,
-                parts,
-            }),
-            Err(error) => Err(error),
-        }
+        let schema = schema.copy(alloc)?;
+        Ok(Core {
+            alloc,
+            schema,
+            capacity,
+            parts,
+        })
     }
 
     /// The units take these turns, one after another, and the moves that the turns stand for are noted.
@@ -310,20 +302,13 @@ impl Core {
     pub fn into_run(self, results: Vec<Stepped>) -> Result<Run, AllocError>
         ensures { IfOk result (λ given. IsHandedOut self results.items given) }
     {
-        match self.image(self.alloc) {
-            Ok(image) => {
-                let Self {
-                    alloc,
-                    schema: _,
-                    capacity: _,
-                    parts,
-                } = self;
-                run_of(alloc, parts, results, image)
-            }
-            Err(error) => {
-                drop(self);
-                Err(error)
-            }
-        }
+        let image = self.image(self.alloc)?;
+        let Self {
+            alloc,
+            schema: _,
+            capacity: _,
+            parts,
+        } = self;
+        run_of(alloc, parts, results, image)
     }
 }

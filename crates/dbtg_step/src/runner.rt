@@ -142,16 +142,7 @@ pub fn turn_back(runner: &mut UnitState, progress: StatementProgress)
 fn unit_of(runner: UnitState) -> Unit
     ensures { result ≡ runner.unit }
 {
-    let UnitState {
-        unit,
-        held,
-        script,
-        course,
-        ..
-    } = runner;
-    drop(held);
-    drop(script);
-    drop(course);
+    let UnitState { unit, .. } = runner;
     unit
 }
 

@@ -55,13 +55,8 @@ fn make_each_move(
 fn run_from(alloc: Global, mut core: Core, moves: &[Move]) -> Result<Run, AllocError>
     ensures { IfOk result (λ given. (last : CoreParts) × (machine last ≡ after_moves (machine core) moves.now) × IsHandedOut last (results_of_moves (machine core) moves.now) given) }
 {
-    match make_each_move(alloc, &mut core, moves) {
-        Ok(results) => core.into_run(results),
-        Err(error) => {
-            drop(core);
-            Err(error)
-        }
-    }
+    let results = make_each_move(alloc, &mut core, moves)?;
+    core.into_run(results)
 }
 
 /// Makes the moves in turn, starting with the opening database, with a unit for each script. A step for which memory is refused ends it.
@@ -77,10 +72,8 @@ pub fn run(
     requires fit { scripts_fit schema.now scripts ≡ true }
     ensures { IfOk result (λ given. RunIs schema.now capacity scripts moves.now given) }
 {
-    match Core::new(alloc, schema, capacity, scripts) {
-        Ok(core) => run_from(alloc, core, moves),
-        Err(error) => Err(error),
-    }
+    let core = Core::new(alloc, schema, capacity, scripts)?;
+    run_from(alloc, core, moves)
 }
 
 // The statements of a unit's script, one after another.
@@ -133,11 +126,6 @@ pub fn run_serial(
 {
     let units = scripts.len() as u8;
     let mut database = WholeDatabase::opening(alloc, schema, capacity, units)?;
-    match make_each_script(&mut database, scripts) {
-        Ok(()) => database.into_run(),
-        Err(error) => {
-            drop(database);
-            Err(error)
-        }
-    }
+    make_each_script(&mut database, scripts)?;
+    database.into_run()
 }

@@ -216,10 +216,8 @@ fn moves_of_turns(
 fn run_with_moves(alloc: Global, core: Core, moves: Option<Row<Move>>) -> Result<Turned, AllocError>
     ensures { IfOk result (λ given. IsHandedOut core [] given.run × (given.moves ≡ moves)) }
 {
-    match core.into_run(Vec::new(alloc)) {
-        Ok(run) => Ok(Turned { run, moves }),
-        Err(error) => Err(error),
-    }
+    let run = core.into_run(Vec::new(alloc))?;
+    Ok(Turned { run, moves })
 }
 
 // The units of the core take these turns, and it is taken apart.
@@ -227,13 +225,8 @@ fn run_from(alloc: Global, mut core: Core, turns: &[u8], limit: usize) -> Result
     requires { AllBetween (network (machine core).schema (machine core).capacity) (machine core).state }
     ensures { IfOk result (λ given. (last : CoreParts) × (moves : List Move) × TurnsLead (machine core) turns.now moves (machine last) × AreGiven limit moves given.moves × IsHandedOut last [] given.run) }
 {
-    match moves_of_turns(alloc, &mut core, turns, limit) {
-        Ok(moves) => run_with_moves(alloc, core, moves),
-        Err(error) => {
-            drop(core);
-            Err(error)
-        }
-    }
+    let moves = moves_of_turns(alloc, &mut core, turns, limit)?;
+    run_with_moves(alloc, core, moves)
 }
 
 /// The units take these turns, starting with the opening database, with a unit for each script: a turn is the events of a unit up to
@@ -253,8 +246,6 @@ pub fn run_turns(
     requires fit { scripts_fit schema.now scripts ≡ true }
     ensures { IfOk result (λ given. TurnedIs schema.now capacity scripts turns.now limit given) }
 {
-    match Core::new(alloc, schema, capacity, scripts) {
-        Ok(core) => run_from(alloc, core, turns, limit),
-        Err(error) => Err(error),
-    }
+    let core = Core::new(alloc, schema, capacity, scripts)?;
+    run_from(alloc, core, turns, limit)
 }

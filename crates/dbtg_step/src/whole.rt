@@ -386,7 +386,6 @@ impl<'a> WholeDatabase<'a> {
             } = way;
             put_each_back(&mut self.held, cells);
             self.units[entry.unit as usize - 1] = unit;
-            drop(entry);
         }
     }
 }

@@ -11,7 +11,7 @@ use crate::between::turns_between;
 use crate::reaching::reached_by_each;
 use dbtg_going::{Around, ProgramRun, Reached};
 use dbtg_program::Program;
-use dbtg_run::{Database, Fault, Settled, Unsettled, settle};
+use dbtg_run::{Database, Settled, settle};
 use dbtg_schema::{Row, Schema};
 use dbtg_step::Run;
 use dbtg_unit::Entry;
@@ -47,22 +47,11 @@ fn settled_of<R: Threads + Wait + Sync>(
 {
     let (db, units) = Database::make(alloc, schema, capacity, lineup.programs.len() as u8)?;
     let (units, ran) = run_around(rt, alloc, &db, units, lineup);
-    if ran.is_err() {
-        let unsettled = Unsettled {
-            fault: Fault::NoMemory,
-            db,
-            units,
-        };
-        drop(unsettled);
-        return Err(AllocError);
-    }
+    ran?;
     match settle(alloc, db, units) {
         Ok(settled) => Ok(settled),
         // All units of the database came, so it was memory that was refused.
-        Err(unsettled) => {
-            drop(unsettled);
-            Err(AllocError)
-        }
+        Err(_) => Err(AllocError),
     }
 }
 
@@ -99,12 +88,11 @@ fn given_of(alloc: Global, settled: Settled, said: Said) -> OnThreads
     ensures turns { result.turns ≡ said.turns }
 {
     let Settled {
-        schema,
         image,
         history,
         units,
+        ..
     } = settled;
-    drop(schema);
     let run = Run {
         results: Row::of(Vec::new(alloc)),
         image,
@@ -136,13 +124,8 @@ pub fn run_on_threads<R: Threads + Wait + Sync>(
         let own = schema.copy(alloc)?;
         let settled = settled_of(rt, alloc, own, capacity, lineup)?;
         let history = settled.history.as_slice();
-        match said_of(alloc, schema, lineup.programs, lineup.around, history) {
-            Ok(Some(said)) => return Ok(given_of(alloc, settled, said)),
-            Ok(None) => drop(settled),
-            Err(error) => {
-                drop(settled);
-                return Err(error);
-            }
+        if let Some(said) = said_of(alloc, schema, lineup.programs, lineup.around, history)? {
+            return Ok(given_of(alloc, settled, said));
         }
     }
     unreachable!()

@@ -132,13 +132,8 @@ fn work_day<R: Threads + Wait + Sync>(
     ensures filled { IfOk result (HaveFilled first_orders.now second_orders.now) }
 {
     let (house, filled) = fill_orders(rt, alloc, house, first_orders, second_orders);
-    match filled {
-        Ok(()) => close_house(alloc, house),
-        Err(stop) => {
-            drop(house);
-            Err(stop)
-        }
-    }
+    filled?;
+    close_house(alloc, house)
 }
 
 // The database at the end of the day.
@@ -230,14 +225,8 @@ fn report(alloc: Global, settled: &Settled) -> Result<Vec<u8>, AllocError>
 
 // What is printed of the day.
 fn day_text<R: Threads + Wait + Sync>(rt: &R, alloc: Global) -> Result<Vec<u8>, Stop> {
-    match day(rt, alloc) {
-        Ok(settled) => {
-            let out = report(alloc, &settled);
-            drop(settled);
-            Ok(out?)
-        }
-        Err(stop) => Err(stop),
-    }
+    let settled = day(rt, alloc)?;
+    Ok(report(alloc, &settled)?)
 }
 
 fn main(rt: HostRuntime) -> io::Result<ExitCode> {

@@ -109,13 +109,8 @@ pub fn open_house<R: Wait>(
         second_text,
     );
     let house = Warehouse { db, first, second };
-    match opened {
-        Ok(()) => Ok(house),
-        Err(stop) => {
-            drop(house);
-            Err(stop)
-        }
-    }
+    opened?;
+    Ok(house)
 }
 
 // What a clerk comes back with: the unit, and whether all orders are filled.
@@ -156,10 +151,8 @@ fn both(first: Result<(), Stop>, second: Result<(), Stop>) -> Result<(), Stop>
     ensures first { OnOk result (IsOk first) }
     ensures second { OnOk result (IsOk second) }
 {
-    match first {
-        Ok(()) => second,
-        Err(stop) => Err(stop),
-    }
+    first?;
+    second
 }
 
 /// Both clerks fill all their orders, side by side. The warehouse comes back, and whether they did.

@@ -7,11 +7,11 @@ use Rattle.dbtg_step.proofs.auditing.audit_judged.Goals as goal
 
 pub audit_from-requires-clause-may : goal.audit_from-requires-clause-may
 audit_from-requires-clause-may c =
-    as_opened (λ (schema : Lists) (capacity units : ℕ). MayBeHistory schema units (entries_at c.args.history.now)) c.args.schema.now c.args.capacity c.args.units c.in-Ok.database c.in-Ok.ensures c.requires.may
+    as_opened (λ (schema : Lists) (capacity units : ℕ). MayBeHistory schema units (entries_at c.args.history.now)) c.args.schema.now c.args.capacity c.args.units c.in_ok-database.database c.in_ok-database.ensures c.requires.may
 
 pub audit_from-requires-clause-fresh : goal.audit_from-requires-clause-fresh
-audit_from-requires-clause-fresh c = c.in-Ok.ensures.stands
+audit_from-requires-clause-fresh c = c.in_ok-database.ensures.stands
 
-pub returns-in-Ok : goal.returns-in-Ok
-returns-in-Ok c =
-    of_opened (λ (schema : Lists) (capacity units : ℕ). IfOk c.audit_from.result (λ found. IsAudited schema capacity units (entries_at c.args.history.now) found)) c.args.schema.now c.args.capacity c.args.units c.in-Ok.database c.in-Ok.ensures c.audit_from.ensures
+pub returns : goal.returns
+returns c =
+    of_opened (λ (schema : Lists) (capacity units : ℕ). IfOk c.audit_from.result (λ found. IsAudited schema capacity units (entries_at c.args.history.now) found)) c.args.schema.now c.args.capacity c.args.units c.in_ok-database.database c.in_ok-database.ensures c.audit_from.ensures

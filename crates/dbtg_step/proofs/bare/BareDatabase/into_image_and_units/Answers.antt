@@ -5,7 +5,7 @@ use Rattle.dbtg_step.specs.Core.Bare.{Bare, StandsAfter}
 use Rattle.dbtg_step.proofs.MadeWhole.Bares.{leads}
 use Rattle.dbtg_step.proofs.bare.BareDatabase.into_image_and_units.Goals as goal
 
-pub returns-in-Ok : goal.returns-in-Ok
-returns-in-Ok c =
-    subst (λ (k : Bare). (history : List Entry) → StandsAfter k history → LeadsTo k.schema k.capacity (length k.units) history c.in-Ok.image c.into_units.result) c.self.view_is
-    (leads (record { schema = c.self.inside.schema.now; capacity = c.self.inside.capacity; hands = c.self.inside.held; units = c.self.inside.units.items; count = c.self.inside.count }) c.in-Ok.image c.into_units.result c.in-Ok.ensures (c.into_units.ensures ∙ ap (λ (k : Bare). k.units) (sym c.self.view_is)))
+pub returns : goal.returns
+returns c =
+    subst (λ (k : Bare). (history : List Entry) → StandsAfter k history → LeadsTo k.schema k.capacity (length k.units) history c.in_ok-image.image c.into_units.result) c.self.view_is
+    (leads (record { schema = c.self.inside.schema.now; capacity = c.self.inside.capacity; hands = c.self.inside.held; units = c.self.inside.units.items; count = c.self.inside.count }) c.in_ok-image.image c.into_units.result c.in_ok-image.ensures (c.into_units.ensures ∙ ap (λ (k : Bare). k.units) (sym c.self.view_is)))

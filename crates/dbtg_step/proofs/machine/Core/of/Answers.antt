@@ -5,7 +5,7 @@ use Rattle.dbtg_step.specs.Inside.Parts.{core_of}
 use Rattle.dbtg_step.proofs.machine.Core.of.Goals as goal
 
 pub invariant_of-result : goal.invariant_of-result
-invariant_of-result c = subst (λ (s : Lists). IsWell s c.args.capacity c.args.parts) (sym c.in-Ok.ensures) c.requires
+invariant_of-result c = subst (λ (s : Lists). IsWell s c.args.capacity c.args.parts) (sym c.in_ok-schema.ensures) c.requires
 
-pub returns-in-Ok : goal.returns-in-Ok
-returns-in-Ok c = ap (λ (s : Lists). core_of s c.args.capacity c.args.parts) c.in-Ok.ensures
+pub returns : goal.returns
+returns c = ap (λ (s : Lists). core_of s c.args.capacity c.args.parts) c.in_ok-schema.ensures
