@@ -55,7 +55,7 @@ fn go_on(
 }
 
 // Goes on to a turn of the unit, unless the turns have one. Says whether there is a way.
-fn take_one(
+fn go_on_to_turn(
     alloc: Global,
     graph: &Graph,
     within: &[bool],
@@ -74,7 +74,7 @@ fn take_one(
 }
 
 // Goes on to a state, unless the turns end there. Says whether there is a way.
-fn come_to(
+fn go_on_to_state(
     alloc: Global,
     graph: &Graph,
     within: &[bool],
@@ -112,7 +112,7 @@ fn take_each(
         end: start,
     };
     for edge in graph.at(start) {
-        if !take_one(alloc, graph, within, &mut taken, edge.unit)? {
+        if !go_on_to_turn(alloc, graph, within, &mut taken, edge.unit)? {
             return Ok(None);
         }
     }
@@ -138,7 +138,7 @@ pub(crate) fn round_from(
     if taken.units.is_empty() {
         return Ok(None);
     }
-    if !come_to(alloc, graph, within.as_slice(), &mut taken, start)? {
+    if !go_on_to_state(alloc, graph, within.as_slice(), &mut taken, start)? {
         return Ok(None);
     }
     Ok(Some(Round {

@@ -56,7 +56,7 @@ fn idle_states(alloc: Global, states: usize, edges: &[Edge]) -> Result<Vec<bool>
 }
 
 // Marks ranks on which no turn of the unit stays.
-fn left_by(
+fn ranks_left_by(
     alloc: Global,
     ranks: &[usize],
     edges: &[Edge],
@@ -105,7 +105,7 @@ fn rule_out_each(
     ensures { IfOk result (λ _. AreRuled edges.now ruled.old → AreRuled edges.now ruled.new) }
 {
     for unit in 0..=last_unit(edges) {
-        let left = left_by(alloc, ranks, edges, unit)?;
+        let left = ranks_left_by(alloc, ranks, edges, unit)?;
         rule_out(edges, ranks, left.as_slice(), unit, ruled);
     }
     Ok(())

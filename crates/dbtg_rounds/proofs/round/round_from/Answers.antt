@@ -44,7 +44,7 @@ returns-then-not-branch-clause-none c = λ _ units _.
     let marked : IsIn c.as_slice-2.result.now c.in-Some.taken.end = subst (λ (ms : List Bool). IsIn ms c.in-Some.taken.end) (c.as_slice.ensures.value ∙ sym c.as_slice-2.ensures.value) end.0 in
     let are = leading es c.args.back.now.edges c.in_ok-within.within.items c.as_slice-2.result.now c.args.start c.requires.back.1 c.as_slice-2.ensures.value c.in_ok-within.ensures.forth c.in_ok-within.ensures.back in
     let home = comes_back es c.as_slice-2.result.now c.args.start are c.in-Some.taken.end marked in
-    c.in_ok-come_to.ensures.none c.if-not-branch.true home.0 home.1
+    c.in_ok-go_on_to_state.ensures.none c.if-not-branch.true home.0 home.1
 
 pub returns-clause-round : goal.returns-clause-round
 returns-clause-round c =
@@ -53,4 +53,4 @@ returns-clause-round c =
     let leads : LeadsIn es c.as_slice-2.result.now c.args.start c.in-Some.taken.units.items c.in-Some.taken.end
     = subst (λ (ms : List Bool). LeadsIn es ms c.args.start c.in-Some.taken.units.items c.in-Some.taken.end) (c.as_slice.ensures.value ∙ sym c.as_slice-2.ensures.value) (rw c.in-Some.is at c.in_ok-taken.ensures.leads) in
     let some : 0 < length c.in-Some.taken.units.items = grind (arith, common_steps) in
-    (refl, is_round es c.as_slice-2.result.now c.args.start c.in-Some.taken c.come_to.new.taken leads each some (c.in_ok-come_to.ensures.leads c.if-not-branch.false) (c.in_ok-come_to.ensures.met c.if-not-branch.false))
+    (refl, is_round es c.as_slice-2.result.now c.args.start c.in-Some.taken c.go_on_to_state.new.taken leads each some (c.in_ok-go_on_to_state.ensures.leads c.if-not-branch.false) (c.in_ok-go_on_to_state.ensures.met c.if-not-branch.false))

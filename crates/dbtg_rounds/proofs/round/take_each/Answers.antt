@@ -43,7 +43,7 @@ returns-then-not-branch-clause-none c = λ _.
       has = subst (λ (n : ℕ). HasEdge es n edge.unit edge.to) here.1 here.0;
       at = c.loop-edge.taken.end;
       marked = c.loop-edge.invariant.marked;
-      is_cut_off = c.in_ok-take_one.ensures.none c.if-not-branch.true;
+      is_cut_off = c.in_ok-go_on_to_turn.ensures.none c.if-not-branch.true;
     }
 
 pub loop-edge-preserved : goal.loop-edge-preserved
@@ -51,15 +51,15 @@ loop-edge-preserved c =
     let es = c.args.graph.now.edges in
     let marks = c.args.within.now in
     let old = c.loop-edge.taken in
-    let new = c.take_one.new.taken in
-    let on : GoesOn es marks old new = c.in_ok-take_one.ensures.leads c.if-not-branch.false in
+    let new = c.go_on_to_turn.new.taken in
+    let on : GoesOn es marks old new = c.in_ok-go_on_to_turn.ensures.leads c.if-not-branch.false in
     record {
       leads = subst (λ (us : List ℕ). LeadsIn es marks c.args.start us new.end) (sym on.units_are)
           (leads_in_on es marks c.args.start old.end new.end old.units.items on.further c.loop-edge.invariant.leads on.leads);
       marked = on.marked;
       low = end_within es marks c.args.graph.now.states old.end new.end on.further c.is_within.ensures c.loop-edge.invariant.low on.leads;
       each = each_more c.at-edge-items.result.now c.loop-edge.edge-index old.units.items on.further new.units.items c.loop-edge-test.true on.units_are
-          (c.in_ok-take_one.ensures.met c.if-not-branch.false) c.loop-edge.invariant.each;
+          (c.in_ok-go_on_to_turn.ensures.met c.if-not-branch.false) c.loop-edge.invariant.each;
     }
 
 pub returns-clause-each : goal.returns-clause-each

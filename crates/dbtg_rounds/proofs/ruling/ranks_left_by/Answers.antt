@@ -6,8 +6,8 @@ use Rattle.dbtg_rounds.specs.declared.edge.Edge.{Edge}
 use Rattle.dbtg_rounds.specs.Inside.Reaching.{IsIn}
 use Rattle.dbtg_rounds.specs.Inside.Ruling.{rank_of}
 use Rattle.dbtg_rounds.proofs.Ranks.{all_left, from_within, left_more, to_within}
-use Rattle.dbtg_rounds.proofs.ruling.left_by.Goals as goal
-use Rattle.dbtg_rounds.proofs.ruling.left_by.Goals.{then-edge-unit+then-is_level, else-edge-unit, else-edge-unit-via-then-edge-unit+else-is_level, else-edge-unit-via-else-edge-unit}
+use Rattle.dbtg_rounds.proofs.ruling.ranks_left_by.Goals as goal
+use Rattle.dbtg_rounds.proofs.ruling.ranks_left_by.Goals.{then-edge-unit+then-is_level, else-edge-unit, else-edge-unit-via-then-edge-unit+else-is_level, else-edge-unit-via-else-edge-unit}
 
 pub is_level-requires-clause-from : goal.is_level-requires-clause-from
 is_level-requires-clause-from c = from_within _ c.args.edges.now c.loop-edge.edge-index _ c.requires.within (omega arith)

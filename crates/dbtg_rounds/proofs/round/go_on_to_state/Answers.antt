@@ -6,7 +6,7 @@ use Rattle.dbtg_rounds.specs.declared.edge.Edge.{Edge}
 use Rattle.dbtg_rounds.specs.declared.walk.Goal.TheVariants.{State}
 use Rattle.dbtg_rounds.specs.Inside.Reaching.{IsIn, LeadsIn, meets}
 use Rattle.dbtg_rounds.proofs.Walks.{no_turn, none_there}
-use Rattle.dbtg_rounds.proofs.round.come_to.Goals as goal
+use Rattle.dbtg_rounds.proofs.round.go_on_to_state.Goals as goal
 
 pub returns-then-taken-state-clause-leads : goal.returns-then-taken-state-clause-leads
 returns-then-taken-state-clause-leads c = λ _. record {

@@ -1,7 +1,7 @@
 -- Where the unit has a turn already, none is appended.
 use Rattle.std.proofs.Common.{[], sym, append-nil}
 use Rattle.dbtg_rounds.proofs.Walks.{no_turn}
-use Rattle.dbtg_rounds.proofs.round.take_one.Goals as goal
+use Rattle.dbtg_rounds.proofs.round.go_on_to_turn.Goals as goal
 
 pub returns-then-contains-clause-leads : goal.returns-then-contains-clause-leads
 returns-then-contains-clause-leads c = λ _. record {
