@@ -2,4 +2,3 @@ mod OnThreads
 mod SavedTurns
 mod TextsAtHand
 mod Pictures
-mod Listings

@@ -1,5 +1,3 @@
 pub mod Threading
 pub mod Picturing
-pub mod Listing
-pub mod Judging
 pub mod Inside

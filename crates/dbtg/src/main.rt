@@ -6,12 +6,10 @@ ghost use Rattle.std.specs.Process.{exit_status};
 ghost use Rattle.dbtg_schema.specs.Sound.{IsSound};
 ghost use Rattle.dbtg_command.specs.Refusals.{is_count, status_of};
 
-mod outcomes;
 mod progress;
 mod replay;
 mod threads;
 mod timeline;
-mod wishes;
 
 use clap::error::ErrorKind;
 use dbtg_audit::{AuditOptions, Verdict, audit};
@@ -24,6 +22,7 @@ use dbtg_command::{
 use dbtg_explain::{Topic, explained, status_topic};
 use dbtg_exploring::{Exploring, explore_programs};
 use dbtg_going::Around;
+use dbtg_listing::{Judged, ListingOptions, judge_outcomes, print_outcomes};
 use dbtg_outcomes::Wish;
 use dbtg_replay::replay::{AnswerForm, check_count, replay};
 use dbtg_replay::{moves_for_turns, refusals_of_first};
@@ -33,7 +32,6 @@ use dbtg_running::{
 use dbtg_schema::Schema;
 use dbtg_shell::{Broken, Session, converse, write_file};
 use dbtg_unit::LAST_UNIT;
-use outcomes::{ListingOptions, print_outcomes};
 use progress::Progress;
 use std::alloc::Global;
 use std::env;
@@ -43,7 +41,6 @@ use std::sync::Wait;
 use std::thread::Threads;
 use threads::{OnThreads, run_on_threads};
 use timeline::{Form, timeline};
-use wishes::{Judged, judge_outcomes};
 
 /// The exit status if a program ended by ASSERT, SIZE or ASTRAY, or can end by one.
 const PROGRAM_FAILED: u8 = 4;
