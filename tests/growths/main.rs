@@ -8,6 +8,7 @@ mod hands;
 
 use dbtg_command::check::check_bytes;
 use dbtg_command::{Fault, Order};
+use dbtg_running::threads_bytes;
 use dbtg_schema::{Row, Schema, SchemaFault};
 use dbtg_script::{
     MovesFault, ScriptFault, answers_text, image_text, moves_text, push_run, read_moves,
@@ -23,7 +24,6 @@ use std::process::ExitCode;
 use std::sync::Wait;
 use std::thread::Threads;
 use std::{fs, slice};
-use threads::threads_bytes;
 
 const CAPACITY: u16 = 100;
 

@@ -1,4 +1,2 @@
-mod OnThreads
-mod SavedTurns
 mod TextsAtHand
 mod Pictures

@@ -1,15 +1,12 @@
 -- What is printed of texts in memory is what is printed of a source that gives them.
-use Rattle.std.proofs.Common.{◌≡◌, ℕ, Bool, false, List, length, ◌∙◌, subst}
+use Rattle.std.proofs.Common.{◌≡◌, ℕ, false, List, length, ◌∙◌, subst}
 use Rattle.dbtg_command.specs.declared.order.Order.{Order}
-use Rattle.dbtg_command.specs.declared.order.Order.TheVariants.{Serial}
 use Rattle.dbtg_command.specs.declared.order.OrderKind.{OrderKind}
 use Rattle.dbtg_command.specs.Sources.{kind_of}
 use Rattle.dbtg_command.specs.Inside.Sources.{StandsIn}
 use Rattle.dbtg_command.proofs.Public.{all_are, order_is}
-use Rattle.dbtg_replay.specs.declared.replay.AnswerForm.{AnswerForm}
 use Rattle.dbtg_replay.specs.declared.replay.AnswerForm.TheVariants.{Plain}
 use Rattle.dbtg_replay.specs.Replaying.{IsReplay, ReplaysHeld}
-use Rattle.dbtg.specs.Threading.{IsThreads, ThreadsHeld}
 
 pub at_hand_replay : (schema : List ℕ) (scripts : List (List ℕ)) (order : Order (List ℕ)) (which : OrderKind) (capacity : ℕ) (out : List ℕ) → which ≡ kind_of order
     → ReplaysHeld (StandsIn schema scripts order) (length scripts) which false Plain capacity out → IsReplay schema scripts order capacity out
@@ -18,10 +15,3 @@ at_hand_replay schema scripts order which capacity out e held =
     subst (λ (s : List ℕ). IsReplay s scripts order capacity out) texts.holds_schema
     (subst (λ (ss : List (List ℕ)). IsReplay texts.schema ss order capacity out) (all_are schema order scripts texts.scripts texts.holds_scripts texts.many)
     (subst (λ (o : Order (List ℕ)). IsReplay texts.schema texts.scripts o capacity out) (order_is schema scripts order texts.order texts.holds_order (texts.is_kind ∙ e)) held.1))
-
-pub at_hand_threads : (schema : List ℕ) (scripts : List (List ℕ)) (first : Bool) (form : AnswerForm) (capacity : ℕ) (out turns : List ℕ) → ThreadsHeld (StandsIn schema scripts Serial) (length scripts) first form capacity out turns
-    → IsThreads first form schema scripts capacity out turns
-at_hand_threads schema scripts first form capacity out turns held =
-    let texts = held.0 in
-    subst (λ (s : List ℕ). IsThreads first form s scripts capacity out turns) texts.holds_schema
-    (subst (λ (ss : List (List ℕ)). IsThreads first form texts.schema ss capacity out turns) (all_are schema Serial scripts texts.scripts texts.holds_scripts texts.many) held.1)

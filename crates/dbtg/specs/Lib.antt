@@ -1,3 +1,1 @@
-pub mod Threading
 pub mod Picturing
-pub mod Inside

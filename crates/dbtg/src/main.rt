@@ -8,7 +8,6 @@ ghost use Rattle.dbtg_command.specs.Refusals.{is_count, status_of};
 
 mod progress;
 mod replay;
-mod threads;
 mod timeline;
 
 use clap::error::ErrorKind;
@@ -27,7 +26,8 @@ use dbtg_outcomes::Wish;
 use dbtg_replay::replay::{AnswerForm, check_count, replay};
 use dbtg_replay::{moves_for_turns, refusals_of_first};
 use dbtg_running::{
-    Printed, PrintedOnThreads, RunOptions, check_programs, run, run_programs_on_threads,
+    OnThreads, Printed, PrintedOnThreads, RunOptions, check_programs, run, run_on_threads,
+    run_programs_on_threads,
 };
 use dbtg_schema::Schema;
 use dbtg_shell::{Broken, Session, converse, write_file};
@@ -39,7 +39,6 @@ use std::io::{self, IsTerminal, Write};
 use std::process::ExitCode;
 use std::sync::Wait;
 use std::thread::Threads;
-use threads::{OnThreads, run_on_threads};
 use timeline::{Form, timeline};
 
 /// The exit status if a program ended by ASSERT, SIZE or ASTRAY, or can end by one.

@@ -3,3 +3,6 @@ mod Echoed
 pub mod Rows
 mod Shown
 mod ReadBack
+mod ScriptsOnThreads
+mod SavedTurns
+mod TextsAtHand

@@ -3,4 +3,6 @@ pub mod Echoing
 pub mod Running
 pub mod Threading
 pub mod Checking
+pub mod ScriptsOnThreads
 pub mod Laws
+pub mod Inside

@@ -1,4 +1,5 @@
-//! The command `run`: the programs that a source gives, and their output, by turns or on threads; and what `check` says of them.
+//! What `run` and `threads` print of the texts that they are given: programs and their output, by turns or on threads, and scripts on
+//! threads; and what `check` says of programs.
 #![tactic(auto)]
 
 mod check;
@@ -6,10 +7,12 @@ mod command;
 mod echo;
 mod laws;
 mod programs;
+mod scripts_on_threads;
 mod threads;
 
 pub use check::check_programs;
 pub use command::{Printed, RunOptions, run, turns_wanted};
 pub use laws::a_printed_run_is_read_back;
 pub use programs::{Programs, read_programs};
+pub use scripts_on_threads::{OnThreads, run_on_threads, threads_bytes};
 pub use threads::{PrintedOnThreads, run_programs_on_threads};
