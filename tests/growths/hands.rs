@@ -2,12 +2,12 @@
 //! memory is made once more, and what is in hand must show the same.
 
 use super::tell;
-use dbtg_cells::{Cell, CellName, DbKey, Extent, Owner, Ring, Slot, Usage};
+use dbtg_cells::{Cell, CellName, DbKey, Extent, Owner, Owners, Ring, Slot, Usage};
 use dbtg_schema::{AreaNo, RecordNo, Row, Schema, SetNo};
 use dbtg_script::{read_script, units_text};
 use dbtg_step::{Run, next_need, opening_unit, prepare, run_serial, true_guesses};
 use dbtg_unit::{
-    Held, Need, Owners, Prepared, Statement, Status, Unit, finish, reserve_member, reserve_user,
+    Held, Need, Prepared, Statement, Status, Unit, finish, reserve_member, reserve_user,
 };
 use std::alloc::{AllocError, Global};
 use std::slice;
