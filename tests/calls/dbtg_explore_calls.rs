@@ -1,9 +1,9 @@
 //! Explores programs that meet, as a caller does, with memory to spare.
 
 use dbtg_explore::{Explored, Meeting, explore};
-use dbtg_outcomes::Unwatched;
 use dbtg_program::{End, read_program};
 use dbtg_schema::Schema;
+use dbtg_states::Unwatched;
 use std::test::*;
 
 /// One area, and nothing else that the programs name.

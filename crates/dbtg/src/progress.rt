@@ -1,7 +1,7 @@
 //! How far a search is, for people who wait: a line a second on standard error, where that is a terminal.
 
 use dbtg_command::FileReader;
-use dbtg_outcomes::Watch;
+use dbtg_states::Watch;
 use std::cell::Cell;
 use std::io::IsTerminal;
 use std::time::Instant;

@@ -25,8 +25,8 @@ use Rattle.dbtg_going.specs.Texts.{programs_text}
 use Rattle.dbtg_going.specs.Turns as turns
 use Rattle.dbtg_going.specs.Turns.{comes, made, statement_due}
 use Rattle.dbtg_going.proofs.Turning.{numbered_one, state_behind}
-use Rattle.dbtg_outcomes.specs.Results.{by_unit}
-use Rattle.dbtg_outcomes.proofs.States.Histories.{units_within}
+use Rattle.dbtg_states.specs.Users.{by_unit}
+use Rattle.dbtg_states.proofs.States.Units.{units_within}
 use Rattle.dbtg_explore.specs.Laws.{ComesOut, EveryRunComesOut, MakesAll}
 use Rattle.dbtg_explore.specs.Orders.{IsOrder, Meeting, after_turn, beginning, can_go_on, can_turn, due_of, history_of, waits}
 use Rattle.dbtg_explore.specs.Results.{reached_of, state_text}

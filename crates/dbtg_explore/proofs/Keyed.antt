@@ -23,10 +23,10 @@ use Rattle.dbtg_script.specs.Printing.Texts.{run_text}
 use Rattle.dbtg_going.specs.Texts.{programs_text}
 use Rattle.dbtg_going.specs.Turns as turns
 use Rattle.dbtg_going.specs.Turns.{after_turns, comes, made, statement_due, statement_of}
-use Rattle.dbtg_outcomes.specs.Inside.Spelling.{behind, list_apart, value_apart}
-use Rattle.dbtg_outcomes.specs.Spelling.{Apart, list_numbers, value_numbers}
-use Rattle.dbtg_outcomes.specs.Results.{in_unit_order}
-use Rattle.dbtg_outcomes.proofs.States.SameImages.{image_alike}
+use Rattle.dbtg_states.specs.Inside.Spelling.{behind, list_apart, value_apart}
+use Rattle.dbtg_states.specs.Spelling.{Apart, list_numbers, value_numbers}
+use Rattle.dbtg_states.specs.Users.{in_unit_order}
+use Rattle.dbtg_states.proofs.States.SameImages.{image_alike}
 use Rattle.dbtg_explore.specs.Orders.{IsMeeting, Meeting, after_order, after_turn, beginning, due_of, history_of}
 use Rattle.dbtg_explore.specs.Results.{reached_of, state_text}
 use Rattle.dbtg_explore.specs.States.{Essence, MeetingState, essence, sequential_after, state_of, without_versions}

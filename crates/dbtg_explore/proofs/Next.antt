@@ -22,15 +22,15 @@ use Rattle.dbtg_unit.proofs.Public.{In, any_element, any_in, in_map}
 use Rattle.dbtg_step.specs.Core.Reversible.{OnlyLastChanged, is_named}
 use Rattle.dbtg_step.specs.Core.Whole.{Making, state_now}
 use Rattle.dbtg_going.specs.declared.member.Going.{Going}
-use Rattle.dbtg_outcomes.specs.declared.transitions.Look.{Look}
-use Rattle.dbtg_outcomes.specs.declared.transitions.Transition.{Transition}
-use Rattle.dbtg_outcomes.specs.Looked.{IsReadyWith}
-use Rattle.dbtg_outcomes.specs.Numbers.{AreNumbers, Grow, Numbers, content_at}
-use Rattle.dbtg_outcomes.specs.Inside.Transitions.{Follow, IsLook, SayBefore, is_looked_at, part_at}
-use Rattle.dbtg_outcomes.specs.Transitions.{AddsAtMost, HasBefore, written}
-use Rattle.dbtg_outcomes.proofs.States.MadeAgain.{written_has, written_other}
-use Rattle.dbtg_outcomes.proofs.States.Numbers.{still_there}
-use Rattle.dbtg_outcomes.proofs.States.Places.{each_in, each_of, is_looked, looked_at, number_says, places, says_number, says_some, stays_there}
+use Rattle.dbtg_states.specs.declared.transitions.Look.{Look}
+use Rattle.dbtg_states.specs.declared.transitions.Transition.{Transition}
+use Rattle.dbtg_states.specs.Looked.{IsReadyWith}
+use Rattle.dbtg_states.specs.Numbers.{AreNumbers, Grow, Numbers, content_at}
+use Rattle.dbtg_states.specs.Inside.Transitions.{Follow, IsLook, SayBefore, is_looked_at, part_at}
+use Rattle.dbtg_states.specs.Transitions.{AddsAtMost, HasBefore, written}
+use Rattle.dbtg_states.proofs.States.Written.{written_has, written_other}
+use Rattle.dbtg_states.proofs.States.Numbers.{still_there}
+use Rattle.dbtg_states.proofs.States.Places.{each_in, each_of, is_looked, looked_at, number_says, places, says_number, says_some, stays_there}
 use Rattle.dbtg_explore.specs.declared.next_state.Seen as given
 use Rattle.dbtg_explore.specs.declared.search.Search as search
 use Rattle.dbtg_explore.specs.Orders.{IsMeeting, Meeting, due_of, history_of}

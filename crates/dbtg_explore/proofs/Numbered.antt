@@ -7,10 +7,10 @@ use Rattle.dbtg_unit.specs.declared.unit.Entry.{Entry}
 use Rattle.dbtg_step.specs.Core.Reversible.{OnlyChanged, OnlyLastChanged, is_named}
 use Rattle.dbtg_step.specs.Core.Whole.{Making}
 use Rattle.dbtg_going.specs.declared.member.Going.{Going}
-use Rattle.dbtg_outcomes.specs.Numbers.{AreNumbers, Grow, HasPut, IsNumberBut, Numbers, NumbersState}
-use Rattle.dbtg_outcomes.specs.Parts.{Parts, parts_in}
-use Rattle.dbtg_outcomes.proofs.States.Numbers.{grow_more, grow_none, stays_number, unit_put, with_parts}
-use Rattle.dbtg_outcomes.proofs.States.ShownParts.{unchanged_shown}
+use Rattle.dbtg_states.specs.Numbers.{AreNumbers, Grow, HasPut, IsNumberBut, Numbers, NumbersState}
+use Rattle.dbtg_states.specs.Parts.{Parts, parts_in}
+use Rattle.dbtg_states.proofs.States.Numbers.{grow_more, grow_none, stays_number, unit_put, with_parts}
+use Rattle.dbtg_states.proofs.States.ShownParts.{unchanged_shown}
 use Rattle.dbtg_explore.specs.Orders.{Meeting, history_of}
 use Rattle.dbtg_explore.specs.States.{sequential_after}
 use Rattle.dbtg_explore.specs.Inside.Parts.{AreNumbered, IsNumberOf, cell_part, parts_of, unit_part}

@@ -28,16 +28,16 @@ use Rattle.dbtg_program.specs.declared.program.Program.{Program}
 use Rattle.dbtg_program.specs.Going.{Due}
 use Rattle.dbtg_step.specs.Machine.SequentialDatabase.{unit_at, with_unit_at}
 use Rattle.dbtg_going.specs.Turns.{comes, statement_due}
-use Rattle.dbtg_outcomes.specs.declared.transitions.Look.{Look}
-use Rattle.dbtg_outcomes.specs.declared.transitions.Passage.{Passage}
-use Rattle.dbtg_outcomes.specs.declared.transitions.Transition.{Transition}
-use Rattle.dbtg_outcomes.specs.Looked.{IsReadyWith, LookedAtDetermines}
-use Rattle.dbtg_outcomes.specs.Numbers.{Numbers}
-use Rattle.dbtg_outcomes.specs.Transitions.{AreLooks, cell_place}
-use Rattle.dbtg_outcomes.specs.Inside.Transitions.{Follow, IsLook, SayBefore, is_looked_at, part_at}
-use Rattle.dbtg_outcomes.proofs.States.Next.{unit_is}
-use Rattle.dbtg_outcomes.proofs.States.Places.{at_cell, at_unit, behind_units, each_in, each_of, is_looked, its_number, number_says, place_by, places, says_some, stays_there}
-use Rattle.dbtg_outcomes.proofs.States.Transitions.{held_in, in_held}
+use Rattle.dbtg_states.specs.declared.transitions.Look.{Look}
+use Rattle.dbtg_states.specs.declared.transitions.Passage.{Passage}
+use Rattle.dbtg_states.specs.declared.transitions.Transition.{Transition}
+use Rattle.dbtg_states.specs.Looked.{IsReadyWith, LookedAtDetermines}
+use Rattle.dbtg_states.specs.Numbers.{Numbers}
+use Rattle.dbtg_states.specs.Transitions.{AreLooks, cell_place}
+use Rattle.dbtg_states.specs.Inside.Transitions.{Follow, IsLook, SayBefore, is_looked_at, part_at}
+use Rattle.dbtg_states.proofs.States.Units.{unit_is}
+use Rattle.dbtg_states.proofs.States.Places.{at_cell, at_unit, behind_units, each_in, each_of, is_looked, its_number, number_says, place_by, places, says_some, stays_there}
+use Rattle.dbtg_states.proofs.States.InHand.{held_in, in_held}
 use Rattle.dbtg_explore.specs.declared.next_state.Seen as given
 use Rattle.dbtg_explore.specs.Orders.{IsMeeting, Meeting, due_of, history_of}
 use Rattle.dbtg_explore.specs.States.{MeetingState, sequential_after, state_of}

@@ -18,7 +18,7 @@ use Rattle.dbtg_going.specs.declared.around.Around.{Around}
 use Rattle.dbtg_going.specs.declared.going.ProgramRun.{ProgramRun}
 use Rattle.dbtg_going.specs.Texts.{programs_text}
 use Rattle.dbtg_going.specs.Turns.{IsRunOf, after_turns, turns_before, turns_of}
-use Rattle.dbtg_outcomes.specs.Results.{by_unit}
+use Rattle.dbtg_states.specs.Users.{by_unit}
 use Rattle.dbtg_explore.specs.declared.explored.Endless.{Endless}
 use Rattle.dbtg_explore.specs.Explored.{IsEndless}
 use Rattle.dbtg_explore.specs.Orders.{IsEnd, IsOrder, Meeting, beginning, can_go_on, can_turn, history_of, waits}

@@ -14,7 +14,7 @@ use Rattle.dbtg_going.specs.declared.member.Standing.{Standing}
 use Rattle.dbtg_going.specs.declared.member.Standing.TheVariants.{Ended, GoesOn}
 use Rattle.dbtg_going.specs.Texts.{programs_text}
 use Rattle.dbtg_going.specs.Turns.{state_in}
-use Rattle.dbtg_outcomes.specs.Results.{by_unit}
+use Rattle.dbtg_states.specs.Users.{by_unit}
 use Rattle.dbtg_explore.specs.declared.explored.Failure.{Failure}
 use Rattle.dbtg_explore.specs.Orders.{IsBefore, IsEnd, IsLower, IsNoLater, IsOrder, Meeting}
 use Rattle.dbtg_explore.specs.Pairwise.{ArePairwise}

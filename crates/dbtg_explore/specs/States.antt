@@ -7,7 +7,7 @@ use Rattle.dbtg_unit.specs.Database.Laws.Replay.{State, opening_state, replay}
 use Rattle.dbtg_program.specs.declared.program.Program.{Program}
 use Rattle.dbtg_program.specs.Going.{Due}
 use Rattle.dbtg_going.specs.Turns.{comes}
-use Rattle.dbtg_outcomes.specs.Alike.{Unordered}
+use Rattle.dbtg_states.specs.Alike.{Unordered}
 use Rattle.dbtg_explore.specs.Orders.{IsOrder, Meeting, history_of}
 use Rattle.dbtg_explore.specs.Pairwise.{ArePairwise}
 use Rattle.dbtg_explore.specs.Versions.{essential, unversioned}

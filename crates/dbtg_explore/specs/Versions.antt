@@ -9,7 +9,7 @@ use Rattle.dbtg_unit.specs.declared.unit.Entry.{Entry}
 use Rattle.dbtg_unit.specs.declared.unit.Unit.{Unit}
 use Rattle.dbtg_unit.specs.Database.State.Base.{Database, Record}
 use Rattle.dbtg_unit.specs.Database.Laws.Replay.{State, answers, opening_state, replay, state_after}
-use Rattle.dbtg_outcomes.specs.Alike.{Unordered, unordered}
+use Rattle.dbtg_states.specs.Alike.{Unordered, unordered}
 
 -- the record still has the version that is kept of it
 abbrev pub is_own : Database → DbKey × ℕ → Bool

@@ -17,8 +17,8 @@ use crate::found::Found;
 use crate::meeting::Meeting;
 use crate::standing::failure;
 use crate::walk::Walk;
-use dbtg_outcomes::{Numbers, as_numbers};
 use dbtg_schema::Row;
+use dbtg_states::{Numbers, as_numbers};
 use std::alloc::{AllocError, Global};
 
 /// The first order to each result, and the failures.

@@ -6,7 +6,7 @@ ghost use Rattle.dbtg_explore.specs.Inside.Visits.{HasVisited, IsThrough, IsVisi
 ghost use Rattle.dbtg_explore.specs.Inside.Walks.{Stands, StandsAt};
 ghost use Rattle.dbtg_explore.specs.Orders.{IsMeeting};
 ghost use Rattle.dbtg_explore.specs.States.{HasMoreStates};
-ghost use Rattle.dbtg_outcomes.specs.declared.search.Stop.TheVariants.{States};
+ghost use Rattle.dbtg_states.specs.declared.stop.Stop.TheVariants.{States};
 ghost use Rattle.std.specs.Prelude.{◌≡◌, ◌≤◌, ◌<◌, [], length, slice_index_or, IfErr, IfOk, OnOk};
 
 use crate::endless::endless_in;
@@ -14,9 +14,9 @@ use crate::ends::Ends;
 use crate::meeting::Meeting;
 use crate::search::Search;
 use crate::walk::Walk;
-use dbtg_outcomes::{Stop, Watch};
 use dbtg_program::End;
 use dbtg_schema::Row;
+use dbtg_states::{Stop, Watch};
 use std::alloc::{AllocError, Global};
 
 /// A unit whose program fails, and how.

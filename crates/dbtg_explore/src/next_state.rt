@@ -14,7 +14,7 @@ use crate::meeting::Meeting;
 use crate::search::Search;
 use crate::walk::Walk;
 use dbtg_cells::CellName;
-use dbtg_outcomes::{
+use dbtg_states::{
     Numbers, Passage, Places, Transition, Transitions, needed_cells, what_is_looked_at_determines,
 };
 use std::alloc::{AllocError, Global};

@@ -7,14 +7,14 @@ ghost use Rattle.dbtg_explore.specs.Inside.Parts.{IsNumberOf, parts_of, unit_par
 ghost use Rattle.dbtg_explore.specs.Inside.Walks.{HasTurned, IsPlace, Stands, StandsAt, order_of};
 ghost use Rattle.dbtg_explore.specs.Orders.{IsMeeting, can_turn};
 ghost use Rattle.dbtg_interned.specs.Arrays.{IsArray, size};
-ghost use Rattle.dbtg_outcomes.specs.Numbers.{AreNumbers, Grow, HasPut, IsNumberBut};
+ghost use Rattle.dbtg_states.specs.Numbers.{AreNumbers, Grow, HasPut, IsNumberBut};
 ghost use Rattle.std.specs.List.{list_all};
 ghost use Rattle.std.specs.Prelude.{◌≡◌, ◌+◌, ◌-◌, ◌<◌, ◌≤◌, ◌++◌, ◌∷◌, [], List, true, false, length, take, IfOk, OnOk};
 
 use crate::meeting::Meeting;
 use crate::walk::Walk;
 use dbtg_cells::{CellName, cell_count};
-use dbtg_outcomes::{Numbers, Spelling};
+use dbtg_states::{Numbers, Spelling};
 use std::alloc::{AllocError, Global};
 
 impl<'a> Meeting<'a> {

@@ -5,15 +5,15 @@ ghost use Rattle.dbtg_explore.specs.Inside.Walks.{Stands, StandsAt};
 ghost use Rattle.dbtg_explore.specs.Inside.Steps.{Goes, IsAt};
 ghost use Rattle.dbtg_explore.specs.Orders.{IsMeeting, can_turn, history_of};
 ghost use Rattle.dbtg_explore.specs.States.{HasMoreStates};
-ghost use Rattle.dbtg_outcomes.specs.declared.search.Stop.TheVariants.{States};
+ghost use Rattle.dbtg_states.specs.declared.stop.Stop.TheVariants.{States};
 ghost use Rattle.std.specs.Prelude.{◌≡◌, ◌+◌, ◌<◌, [], true, length, slice_index_or, IfErr, IfOk, OnOk};
 
 use crate::known::Known;
 use crate::meeting::Meeting;
 use crate::next_state::Seen;
 use crate::walk::Walk;
-use dbtg_outcomes::{Numbers, Stop};
 use dbtg_rounds::Edge;
+use dbtg_states::{Numbers, Stop};
 use std::alloc::{AllocError, Global};
 
 /// The first order to each state that is found, the numbers of states, the turns from state to state, and how many states there may be.

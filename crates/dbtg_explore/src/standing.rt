@@ -7,8 +7,8 @@ ghost use Rattle.std.specs.List.{list_any, range_with_len};
 ghost use Rattle.std.specs.Prelude.{◌≡◌, ◌<◌, length};
 
 use crate::meeting::Meeting;
-use dbtg_outcomes::Numbers;
 use dbtg_program::End;
+use dbtg_states::Numbers;
 
 // The number at this place of what the array of a state says of a unit; 0 if it says nothing there.
 fn said(numbers: &Numbers, state: u32, unit: u8, at: usize) -> u64

@@ -1,16 +1,16 @@
 //! What tells a run of programs from others.
 
 ghost use Rattle.dbtg_going.specs.Texts.{programs_text};
-ghost use Rattle.dbtg_outcomes.specs.Results.{by_unit};
+ghost use Rattle.dbtg_states.specs.Users.{by_unit};
 ghost use Rattle.dbtg_script.specs.Printing.Texts.{run_text};
 ghost use Rattle.std.specs.List.{range_with_len};
 ghost use Rattle.std.specs.Prelude.{◌≡◌, ◌≤◌, ◌++◌, [], length, map, IfOk};
 
 use dbtg_going::{Reached, push_each_program};
-use dbtg_outcomes::usage_by_unit;
 use dbtg_program::Program;
 use dbtg_schema::Schema;
 use dbtg_script::push_run;
+use dbtg_states::usage_by_unit;
 use dbtg_step::Run;
 use dbtg_unit::LAST_UNIT;
 use std::alloc::{AllocError, Global};

@@ -5,7 +5,7 @@ use Rattle.dbtg_schema.specs.Lists.{Lists}
 use Rattle.dbtg_program.specs.declared.program.Program.{Program}
 use Rattle.dbtg_going.specs.declared.going.ProgramRun.{ProgramRun}
 use Rattle.dbtg_going.specs.Turns.{IsRunOf, turns_of}
-use Rattle.dbtg_outcomes.specs.declared.brief.Told.{Told}
+use Rattle.dbtg_states.specs.declared.brief.Told.{Told}
 use Rattle.dbtg_exploring.specs.declared.setting.Exploring.{Exploring}
 use Rattle.dbtg_exploring.specs.Inside.Shown.{IsShown}
 use Rattle.dbtg_exploring.specs.Texts.{AreResultTexts, IsResultText, and_told, result_head, shown_text}

@@ -7,10 +7,10 @@ use Rattle.std.specs.List.{range_with_len}
 use Rattle.dbtg_schema.specs.Lists.{Lists}
 use Rattle.dbtg_script.specs.Printing.Texts.{run_text}
 use Rattle.dbtg_script.specs.Printing.WordTexts.{turns_text}
-use Rattle.dbtg_outcomes.specs.declared.brief.Told.{Told}
-use Rattle.dbtg_outcomes.specs.Brief.{none_before, shown_behind}
-use Rattle.dbtg_outcomes.specs.Named.{named}
-use Rattle.dbtg_outcomes.specs.Results.{by_unit}
+use Rattle.dbtg_states.specs.declared.brief.Told.{Told}
+use Rattle.dbtg_states.specs.Brief.{none_before, shown_behind}
+use Rattle.dbtg_states.specs.Named.{named}
+use Rattle.dbtg_states.specs.Users.{by_unit}
 use Rattle.dbtg_program.specs.declared.program.Program.{Program}
 use Rattle.dbtg_going.specs.declared.going.ProgramRun.{ProgramRun}
 use Rattle.dbtg_going.specs.Texts.{end_text, given_text, programs_text}

@@ -15,10 +15,10 @@ use crate::begun::begun_turns;
 use crate::setting::{Exploring, Setting};
 use dbtg_command::{Fault, Source, read_schema};
 use dbtg_explore::{Explored, Meeting, explore};
-use dbtg_outcomes::{Stop, Watch};
 use dbtg_replay::replay::check_count;
 use dbtg_running::{Printed, read_programs, turns_wanted};
 use dbtg_schema::{Row, Schema};
+use dbtg_states::{Stop, Watch};
 use dbtg_unit::LAST_UNIT;
 use std::alloc::Global;
 

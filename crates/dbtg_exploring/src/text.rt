@@ -5,17 +5,17 @@ ghost use Rattle.dbtg_exploring.specs.Texts.{AreResultTexts, AreTold, and_told, 
 ghost use Rattle.dbtg_going.specs.Texts.{programs_text};
 ghost use Rattle.dbtg_going.specs.declared.going.ProgramRun.{ProgramRun};
 ghost use Rattle.dbtg_going.specs.Turns.{IsRunOf, turns_of};
-ghost use Rattle.dbtg_outcomes.specs.declared.brief.Told.{Told as GivenTold};
-ghost use Rattle.dbtg_outcomes.specs.Brief.{none_before};
+ghost use Rattle.dbtg_states.specs.declared.brief.Told.{Told as GivenTold};
+ghost use Rattle.dbtg_states.specs.Brief.{none_before};
 ghost use Rattle.dbtg_schema.specs.Sound.{IsSound};
 ghost use Rattle.std.specs.Prelude.{◌≡◌, ◌≤◌, ◌++◌, List, IfOk, OnOk, Option, Some, flat_map, length};
 
 use crate::setting::Setting;
 use dbtg_explore::{Endless, Explored, Failure, told_text};
 use dbtg_going::{ProgramRun, Reached, push_each_program, push_end, run_programs, run_text};
-use dbtg_outcomes::{Told, as_numbers, named, none_before, push_shown};
 use dbtg_schema::Row;
 use dbtg_script::{push_number, turns_text};
+use dbtg_states::{Told, as_numbers, named, none_before, push_shown};
 use dbtg_unit::LAST_UNIT;
 use std::alloc::{AllocError, Global};
 

@@ -14,7 +14,7 @@ use Rattle.dbtg_unit.specs.declared.unit.Status.{Status}
 use Rattle.dbtg_unit.specs.declared.unit.Status.TheVariants.{Done, Refused}
 use Rattle.dbtg_unit.specs.Database.Statements.Codes.{cause_code, statement_code, status_code}
 use Rattle.dbtg_outcomes.specs.declared.answered.Answered.{Answered}
-use Rattle.dbtg_outcomes.specs.declared.brief.Told.{Told}
+use Rattle.dbtg_states.specs.declared.brief.Told.{Told}
 use Rattle.dbtg_outcomes.specs.declared.outcomes.OneResult.{OneResult}
 use Rattle.dbtg_outcomes.specs.declared.outcomes.Outcomes.{Outcomes}
 use Rattle.dbtg_outcomes.specs.declared.wishes.Wish.{Wish}

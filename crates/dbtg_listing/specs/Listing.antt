@@ -10,10 +10,10 @@ use Rattle.dbtg_unit.specs.declared.statement.Statement.{Statement}
 use Rattle.dbtg_outcomes.specs.declared.answered.Answered.{Answered}
 use Rattle.dbtg_outcomes.specs.declared.outcomes.OneResult.{OneResult}
 use Rattle.dbtg_outcomes.specs.declared.outcomes.Outcomes.{Outcomes}
-use Rattle.dbtg_outcomes.specs.declared.brief.Told.{Told}
-use Rattle.dbtg_outcomes.specs.Brief.{none_before, shown_behind, told_of}
+use Rattle.dbtg_states.specs.declared.brief.Told.{Told}
+use Rattle.dbtg_states.specs.Brief.{none_before, shown_behind}
+use Rattle.dbtg_outcomes.specs.Results.{told_of, Meeting}
 use Rattle.dbtg_outcomes.specs.Outcomes.{AreOutcomes, count_states}
-use Rattle.dbtg_outcomes.specs.Results.{Meeting}
 use Rattle.dbtg_script.specs.declared.limits.TheConstants.{MOST_MOVES}
 use Rattle.dbtg_script.specs.Statements.{script}
 use Rattle.dbtg_script.specs.Printing.Texts.{four_digits}

@@ -4,7 +4,7 @@ ghost use Rattle.std.specs.List.{flat_map, list_all};
 ghost use Rattle.dbtg_schema.specs.Sound.{IsSound};
 ghost use Rattle.dbtg_unit.specs.declared.moves.Move.{Move};
 ghost use Rattle.dbtg_outcomes.specs.Outcomes.{IsMeeting};
-ghost use Rattle.dbtg_outcomes.specs.Brief.{none_before};
+ghost use Rattle.dbtg_states.specs.Brief.{none_before};
 ghost use Rattle.dbtg_script.specs.Printing.WordTexts.{moves_words_text, turns_text};
 ghost use Rattle.dbtg_listing.specs.Listing.{AreTold, IsListing, IsLong, IsOver, OutcomesHeld, ToldOfOutcomes, and_told, count_text, differing_text, orders_text, result_line, shown_text, spaced_status, summary_text, worded};
 ghost use Rattle.dbtg_listing.specs.Inside.Listing.{IsFront, IsShown, IsUntold, RunsMeeting, are_short};
@@ -16,14 +16,12 @@ ghost use Rattle.dbtg_command.specs.declared.fault.Fault.TheVariants.{Memory, Mo
 ghost use Rattle.dbtg_command.specs.declared.order.OrderKind.TheVariants.{Serial};
 
 use dbtg_command::{Fault, Source, copy_each_script};
-use dbtg_outcomes::{
-    Answered, Meeting, OneResult, Outcomes, Stop, Told, Watch, all_outcomes, none_before,
-    push_shown,
-};
+use dbtg_outcomes::{Answered, Meeting, OneResult, Outcomes, all_outcomes};
 use dbtg_replay::replay::{AnswerForm, Shown, push_given, schema_for_run};
 use dbtg_replay::{behind, first_turns, moves_behind_first, read_scripts};
 use dbtg_schema::{Row, Schema};
 use dbtg_script::{MOST_MOVES, moves_words_text, push_number, push_status, turns_text};
+use dbtg_states::{Stop, Told, Watch, none_before, push_shown};
 use dbtg_step::{Run, Turned, TurnedCore};
 use dbtg_unit::Move;
 use std::alloc::{AllocError, Global};

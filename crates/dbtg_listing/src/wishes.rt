@@ -10,11 +10,12 @@ ghost use Rattle.dbtg_command.specs.declared.order.OrderKind.TheVariants.{Serial
 
 use crate::listing::{ListingOptions, push_line};
 use dbtg_command::{Fault, Source};
-use dbtg_outcomes::{Meeting, Stop, Watch, Wish, broken_turns, is_there};
+use dbtg_outcomes::{Meeting, Wish, broken_turns, is_there};
 use dbtg_replay::replay::schema_for_run;
 use dbtg_replay::{behind, first_turns, read_scripts};
 use dbtg_schema::Schema;
 use dbtg_script::{push_number, push_status, turns_text};
+use dbtg_states::{Stop, Watch};
 use std::alloc::{AllocError, Global};
 
 /// The result of a wish: it holds, or some order breaks it, each with its text; or there is no such statement.

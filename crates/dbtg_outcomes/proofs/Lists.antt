@@ -4,6 +4,5 @@
 pub mod Entries
 pub mod Gathered
 pub mod Members
-pub mod Ranges
 pub mod Rising
 pub mod Weights

@@ -1,9 +1,8 @@
 -- The states that orders lead to, layer by layer, and the results in the end.
--- May use: `Lists` and `Orders`, and the image and replay of dbtg_unit.
+-- May use: `Lists` and `Orders`, the states of dbtg_states, and the image and replay of dbtg_unit.
 -- Promises: `SameStates`: what a search may put together; `Results`, `ComesOut`: what is returned is all that can come out; `Broken`:
 -- the turns that break a wish are found, if there are any; `Transitions`, `MadeAgain`: a statement is not made again where the same is
 -- looked at.
-pub mod Alike
 pub mod Alone
 pub mod AtTurn
 pub mod Broken
@@ -11,26 +10,18 @@ pub mod ComesOut
 pub mod Entered
 pub mod First
 pub mod Histories
-pub mod InHand
 pub mod Layers
 pub mod LeadOn
-pub mod Looked
-pub mod Looks
 pub mod MadeAgain
 pub mod Next
 pub mod Noted
 pub mod Numbers
 pub mod Placed
-pub mod Places
-pub mod PutCells
 pub mod Results
 pub mod Runs
-pub mod SameImages
 pub mod SameParts
 pub mod SameStates
 pub mod Searched
-pub mod ShownParts
-pub mod Spelled
 pub mod States
 pub mod Transitions
 pub mod Walks

@@ -1,11 +1,7 @@
 -- Lists in groups: the elements of a group have the same key.
-use Rattle.std.specs.Prelude.{ℕ, Bool, ◌||◌, false, List, [], ◌∷◌, filter, length, map, if◌then◌else◌}
+use Rattle.std.specs.Prelude.{ℕ, List, [], ◌∷◌, filter, length, map, if◌then◌else◌}
 use Rattle.std.specs.Str.{bytes_eq}
-
--- one of the keys equals this one
-abbrev pub among : List (List ℕ) → List ℕ → Bool
-among [] k = false
-among (j ∷ js) k = bytes_eq k j || among js k
+use Rattle.dbtg_states.specs.Among.{among}
 
 -- the elements of xs whose key is not among these, nor that of an earlier element
 abbrev pub firsts : {A : Type 0} → (A → List ℕ) → List (List ℕ) → List A → List A

@@ -3,12 +3,10 @@
 pub mod Gathered
 pub mod Given
 pub mod Grouped
-pub mod InHand
 pub mod Numbers
 pub mod Outcomes
 pub mod Parts
 pub mod Search
-pub mod Spelling
 pub mod Statuses
 pub mod Steps
 pub mod Transitions

@@ -19,7 +19,8 @@ use Rattle.dbtg_step.specs.Machine.Headline.{RunIs, machine_after}
 use Rattle.dbtg_outcomes.specs.Groups.{groups}
 use Rattle.dbtg_outcomes.specs.Orders.{made_first, orders}
 use Rattle.dbtg_outcomes.specs.Outcomes.{Comes}
-use Rattle.dbtg_outcomes.specs.Results.{Meeting, by_unit, result_text, units_of, untimed}
+use Rattle.dbtg_states.specs.Users.{by_unit}
+use Rattle.dbtg_outcomes.specs.Results.{Meeting, result_text, units_of, untimed}
 
 -- THE ORDERS
 

@@ -1,16 +1,8 @@
-pub mod Alike
-pub mod Brief
 pub mod Counted
 pub mod Groups
 pub mod Laws
-pub mod Looked
-pub mod Named
-pub mod Numbers
 pub mod Orders
 pub mod Outcomes
-pub mod Parts
 pub mod Results
-pub mod Spelling
-pub mod Transitions
 pub mod Wishes
 pub mod Inside

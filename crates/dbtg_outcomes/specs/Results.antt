@@ -1,19 +1,21 @@
 -- What an order leads to: the state after it, and the text that tells its result from others; and that text line
 -- by line.
 -- m is a meeting of scripts, u a unit.
-use Rattle.std.specs.Prelude.{ℕ, ◌+◌, ◌==◌, Bool, List, [], ◌∷◌, ◌++◌, map, filter, length, option_map, option_to_list, flat_map, decimal, if◌then◌else◌}
+use Rattle.std.specs.Prelude.{ℕ, ◌+◌, Bool, List, [], ◌∷◌, ◌++◌, map, length, option_map, option_to_list, flat_map, decimal, if◌then◌else◌}
 use Rattle.std.specs.List.{range_with_len}
 use Rattle.dbtg_schema.specs.Lists.{Lists}
-use Rattle.dbtg_cells.specs.declared.usage.Mode.{Mode}
 use Rattle.dbtg_script.specs.Printing.Spelling.{behind}
 use Rattle.dbtg_script.specs.Printing.Texts.{answer_text, answers_text, run_text}
 use Rattle.dbtg_unit.specs.declared.statement.Statement.{Statement}
 use Rattle.dbtg_unit.specs.declared.unit.Entry.{Entry}
-use Rattle.dbtg_unit.specs.Database.State.Image.{Image, image_of}
+use Rattle.dbtg_unit.specs.Database.State.Image.{image_of}
 use Rattle.dbtg_unit.specs.Database.Laws.Replay.{State, after_effect, entries_of, opening_state, effect_of_unit, state_after}
 use Rattle.dbtg_step.specs.declared.results.Run.{Run}
+use Rattle.dbtg_states.specs.Users.{by_unit, in_unit_order}
 use Rattle.dbtg_outcomes.specs.Orders.{made}
-use Rattle.dbtg_outcomes.specs.Spelling.{image_numbers, list_numbers, one_number, unit_numbers}
+use Rattle.dbtg_states.specs.Spelling.{image_numbers, list_numbers, one_number, unit_numbers}
+use Rattle.dbtg_states.specs.declared.brief.Told.{Told}
+use Rattle.dbtg_states.specs.Named.{named}
 
 -- scripts that run at the same time, a unit for each; whether the last of them is made before all others; and whether the answers
 -- that units get tell results apart
@@ -56,14 +58,6 @@ unit_answers m order u =
 abbrev pub answers_told : Meeting → List (ℕ × Statement) → List (List ℕ)
 answers_told m order = if m.tells then map (unit_answers m order) (units_of m) else []
 
--- who has an area open, in the order of the units
-abbrev pub by_unit : List ℕ → List (ℕ × Mode) → List (ℕ × Mode)
-by_unit units users = flat_map (λ u. filter (λ e. e.0 == u) users) units
-
--- an image with the units that have an area open in that order
-abbrev pub in_unit_order : List ℕ → Image → Image
-in_unit_order units image = record image { usage = map (by_unit units) image.usage }
-
 -- what is printed after `--`, except that the units that have an area open are in the order of their numbers; before it the
 -- answers that tell results apart
 abbrev pub result_text : Meeting → List (ℕ × Statement) → List ℕ
@@ -101,3 +95,7 @@ placed_told m history = if m.tells then flat_map (λ u. all_placed_answers m.sch
 abbrev pub told_text : Meeting → Run → List ℕ
 told_text m run =
     placed_told m run.history ++ run_text m.schema [] run.image.records run.image.lists run.image.next (map (by_unit (units_of m)) run.image.usage) run.units
+
+-- what tells the run of a meeting from others
+abbrev pub told_of : Meeting → Run → Told
+told_of m run = record { text = told_text m run; named = named m.tells (units_of m) run }

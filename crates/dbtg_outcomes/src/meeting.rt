@@ -6,14 +6,12 @@ ghost use Rattle.dbtg_unit.specs.Database.Laws.Replaying.{statements_of};
 ghost use Rattle.dbtg_step.specs.Core.Whole.{HasMade};
 ghost use Rattle.dbtg_outcomes.specs.Outcomes.{HasStatus, IsMeeting};
 ghost use Rattle.dbtg_outcomes.specs.Inside.Walks.{IsMaking};
-ghost use Rattle.dbtg_outcomes.specs.Brief.{told_of};
-ghost use Rattle.dbtg_outcomes.specs.Results.{answers_told, placed_told, result_text, told_text};
+ghost use Rattle.dbtg_outcomes.specs.Results.{answers_told, placed_told, result_text, told_of, told_text};
 
-use crate::brief::Told;
-use crate::facts::named;
-use crate::told::{answers_by_unit, placed_by_unit, result_text, usage_by_unit};
+use crate::told::{answers_by_unit, placed_by_unit, result_text};
 use dbtg_schema::{Row, Schema};
 use dbtg_script::push_run;
+use dbtg_states::{Told, named, usage_by_unit};
 use dbtg_step::{Run, WholeDatabase};
 use dbtg_unit::{Entry, Statement};
 use std::alloc::{AllocError, Global};
@@ -44,17 +42,6 @@ pub(crate) fn made_by(history: &[Entry], unit: u8) -> usize
     ensures { result ≡ length (entries_of unit history.now) }
 {
     history.iter().filter(|entry| entry.unit == unit).count()
-}
-
-/// Bytes as numbers.
-pub fn as_numbers(alloc: Global, bytes: &[u8]) -> Result<Vec<u64>, AllocError>
-    ensures { IfOk result (λ numbers. numbers.items ≡ bytes.now) }
-{
-    let mut numbers = Vec::new(alloc);
-    for byte in bytes {
-        numbers.push(*byte as u64)?;
-    }
-    Ok(numbers)
 }
 
 // Has a unit of the database make a copy of the statement.

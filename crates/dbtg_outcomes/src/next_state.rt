@@ -3,18 +3,27 @@ ghost use Rattle.std.specs.Prelude.{◌≡◌, ◌<◌, ℕ, List, true, is_some
 ghost use Rattle.dbtg_unit.specs.declared.statement.Statement.{Statement};
 ghost use Rattle.dbtg_outcomes.specs.Orders.{next_of};
 ghost use Rattle.dbtg_outcomes.specs.Outcomes.{IsMeeting};
+ghost use Rattle.dbtg_outcomes.specs.Results.{Meeting as MeetingOfScripts};
 ghost use Rattle.dbtg_outcomes.specs.Inside.Steps.{HasNumber, HaveStatements, Reaches};
-ghost use Rattle.dbtg_outcomes.specs.Inside.Transitions.{AreLookedAt, IsPassage};
+ghost use Rattle.dbtg_outcomes.specs.Inside.Transitions.{AreLookedAt, IsPassage, SeenIsKnown};
 ghost use Rattle.dbtg_outcomes.specs.Inside.Walks.{Stands, have_statements, order_of};
 
 use crate::groups::Group;
-use crate::looks::Places;
 use crate::meeting::Meeting;
-use crate::needing::needed_cells;
-use crate::transitions::{Passage, Transition, seen_is_known};
 use crate::walk::Walk;
 use dbtg_cells::CellName;
+use dbtg_erase::delete_is_determined;
+use dbtg_plan::each_statement_is_determined;
+use dbtg_states::{Passage, Places, Transition, needed_cells};
 use std::alloc::{AllocError, Global};
+
+// What was seen once is so wherever the same is looked at.
+fn seen_is_known()
+    ensures { (m : MeetingOfScripts) → IsMeeting m → SeenIsKnown m }
+{
+    each_statement_is_determined();
+    delete_is_determined();
+}
 
 impl<'a> Meeting<'a> {
     // Goes to where these turns lead. Gives the cells that the unit's next statement looks at there, if they are not too many.

@@ -5,15 +5,14 @@ ghost use Rattle.dbtg_cells.specs.CellNumbers.{cell_count, cells_in_order, is_ce
 ghost use Rattle.dbtg_interned.specs.Arrays.{IsArray, size};
 ghost use Rattle.dbtg_unit.specs.Database.Laws.Replaying.{statements_of};
 ghost use Rattle.dbtg_outcomes.specs.Outcomes.{IsMeeting};
-ghost use Rattle.dbtg_outcomes.specs.Numbers.{AreNumbers, NumbersState, HasPut, IsNumberBut, Grow};
+ghost use Rattle.dbtg_states.specs.Numbers.{AreNumbers, NumbersState, HasPut, IsNumberBut, Grow};
 ghost use Rattle.dbtg_outcomes.specs.Inside.Numbers.{IsNumberOf};
 ghost use Rattle.dbtg_outcomes.specs.Inside.Parts.{parts_of, unit_part};
 ghost use Rattle.dbtg_outcomes.specs.Inside.Walks.{IsMaking, LeadsTo};
 
-use crate::contents::Spelling;
 use crate::meeting::Meeting;
-use crate::numbers::{Numbers, USUAL_LENGTH};
 use dbtg_cells::{CellName, cell_count};
+use dbtg_states::{Numbers, Spelling, USUAL_LENGTH};
 use dbtg_step::{ReversibleDatabase, WholeDatabase};
 use std::alloc::{AllocError, Global};
 

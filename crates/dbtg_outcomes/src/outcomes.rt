@@ -1,6 +1,6 @@
 //! All that can come out when scripts run at the same time.
 ghost use Rattle.std.specs.Prelude.{◌≡◌, ◌≤◌, ◌<◌, Some, map, All, IfErr, IfOk, MatchResult, OnOk};
-ghost use Rattle.dbtg_outcomes.specs.declared.search.Stop.TheVariants.{States};
+ghost use Rattle.dbtg_states.specs.declared.stop.Stop.TheVariants.{States};
 ghost use Rattle.dbtg_outcomes.specs.Inside.Given.{all_orders, one_result};
 ghost use Rattle.dbtg_outcomes.specs.Orders.{count_statements, others};
 ghost use Rattle.dbtg_outcomes.specs.Outcomes.{AreOutcomes, IsMeeting, count_states};
@@ -12,11 +12,11 @@ use crate::answered::{Answered, answered_by};
 use crate::count::sum_of;
 use crate::groups::{Group, Groups};
 use crate::meeting::Meeting;
-use crate::search::{Search, Stop};
+use crate::search::Search;
 use crate::walk::Walk;
-use crate::watch::Watch;
 use dbtg_interned::Texts;
 use dbtg_schema::Row;
+use dbtg_states::{Stop, Watch};
 use std::alloc::{AllocError, Global};
 
 /// A result: the first order that leads to it, by the units whose turn it is, and how many orders lead to it; none if that is

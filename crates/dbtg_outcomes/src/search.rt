@@ -1,7 +1,7 @@
 //! A search among all orders of the statements of scripts, layer by layer: a layer has the states after a number of statements, each
 //! with the first order that leads there and the number of all orders that do.
 ghost use Rattle.std.specs.Prelude.{◌≡◌, ◌≤◌, ◌<◌, ◌∷◌, [], length, All, IfErr, IfOk, MatchResult, OnOk};
-ghost use Rattle.dbtg_outcomes.specs.declared.search.Stop.TheVariants.{Memory, States};
+ghost use Rattle.dbtg_states.specs.declared.stop.Stop.TheVariants.{States};
 ghost use Rattle.dbtg_outcomes.specs.Orders.{count_statements, made_first, others};
 ghost use Rattle.dbtg_outcomes.specs.Outcomes.{IsMeeting, count_states, states_within};
 ghost use Rattle.dbtg_outcomes.specs.Results.{units_of};
@@ -14,33 +14,10 @@ use crate::meeting::Meeting;
 use crate::notes::{Note, enter_note};
 use crate::turns::{made_by, turns_with};
 use crate::walk::Walk;
-use crate::watch::Watch;
 use dbtg_schema::Row;
+use dbtg_states::{Stop, Watch};
 use dbtg_unit::Statement;
-use std::alloc::{AllocError, AllocFailed, Global};
-
-/// Why there are no outcomes: memory was refused, or there are more states than allowed.
-#[derive(Debug, Drop, PartialEq, Eq)]
-pub enum Stop {
-    Memory,
-    States,
-}
-
-impl From<AllocError> for Stop {
-    ghost from_gives = { λ _ e. e ≡ Memory };
-
-    fn from(_error: AllocError) -> Stop {
-        Stop::Memory
-    }
-}
-
-impl<T: Drop> From<AllocFailed<T>> for Stop {
-    ghost from_gives = { λ _ e. e ≡ Memory };
-
-    fn from(_error: AllocFailed<T>) -> Stop {
-        Stop::Memory
-    }
-}
+use std::alloc::{AllocError, Global};
 
 impl<'a> Meeting<'a> {
     // Extends the order of a group by the next statement of this unit, if it has one.

@@ -4,15 +4,14 @@ ghost use Rattle.dbtg_cells.specs.CellNumbers.{cell_count};
 ghost use Rattle.dbtg_interned.specs.Arrays.{size};
 ghost use Rattle.dbtg_outcomes.specs.Orders.{next_of};
 ghost use Rattle.dbtg_outcomes.specs.Outcomes.{IsMeeting};
-ghost use Rattle.dbtg_outcomes.specs.Numbers.{AreNumbers};
+ghost use Rattle.dbtg_states.specs.Numbers.{AreNumbers};
 ghost use Rattle.dbtg_outcomes.specs.Inside.Numbers.{IsNumberOf};
 ghost use Rattle.dbtg_outcomes.specs.Inside.Walks.{AreTaken, HasNextStatus, HasTaken, IsTakenBack, Stands, have_statements, order_of, statement_at};
 
 use crate::meeting::Meeting;
 use crate::notes::Note;
-use crate::numbers::Numbers;
-use crate::transitions::Transitions;
 use crate::turns::{made_by, shared_by};
+use dbtg_states::{Numbers, Transitions};
 use dbtg_step::{ReversibleDatabase, WholeDatabase};
 use dbtg_unit::Statement;
 use std::alloc::{AllocError, Global};

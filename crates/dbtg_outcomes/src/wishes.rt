@@ -1,6 +1,6 @@
 //! A wish for the status of a statement over all orders, and turns that break it.
 ghost use Rattle.std.specs.Prelude.{◌≡◌, ◌≤◌, ◌<◌, length, true, All, IfErr, IfOk, OnOk};
-ghost use Rattle.dbtg_outcomes.specs.declared.search.Stop.TheVariants.{States};
+ghost use Rattle.dbtg_states.specs.declared.stop.Stop.TheVariants.{States};
 ghost use Rattle.dbtg_outcomes.specs.Orders.{count_statements, others};
 ghost use Rattle.dbtg_outcomes.specs.Outcomes.{IsMeeting, count_states};
 ghost use Rattle.dbtg_outcomes.specs.Wishes.{IsJudged, breaks, is_there};
@@ -10,11 +10,11 @@ ghost use Rattle.dbtg_outcomes.specs.Inside.Wishes.{Hunts, HuntsOn, IsBroken, Is
 
 use crate::groups::Group;
 use crate::meeting::Meeting;
-use crate::search::{Search, Stop};
+use crate::search::Search;
 use crate::turns::{made_by, turns_with};
 use crate::walk::Walk;
-use crate::watch::Watch;
 use dbtg_schema::Row;
+use dbtg_states::{Stop, Watch};
 use dbtg_unit::Statement;
 use std::alloc::{AllocError, Global};
 

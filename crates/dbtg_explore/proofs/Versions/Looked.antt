@@ -27,8 +27,8 @@ use Rattle.dbtg_unit.specs.Database.Laws.StaysLegal.{IsLegalState}
 use Rattle.dbtg_unit.specs.Hands.Hands.{Hands}
 use Rattle.dbtg_unit.specs.Hands.Local.{holds}
 use Rattle.dbtg_unit.proofs.Public.{In, effect_keeps_legal}
-use Rattle.dbtg_outcomes.specs.Looked.{HoldsAll, IsStateWith, LookAlike, LookedAtDetermines, says}
-use Rattle.dbtg_outcomes.specs.Parts.{shown_numbers}
+use Rattle.dbtg_states.specs.Looked.{HoldsAll, IsStateWith, LookAlike, LookedAtDetermines, says}
+use Rattle.dbtg_states.specs.Parts.{shown_numbers}
 use Rattle.dbtg_explore.specs.Versions.{is_own, unversioned_database, unversioned_entry, unversioned_unit}
 use Rattle.dbtg_explore.proofs.Parts.{shown_first}
 use Rattle.dbtg_explore.proofs.Versions.Images.{own_shown}

@@ -15,7 +15,7 @@ use Rattle.dbtg_unit.specs.Database.State.Base.{Database, Record, is_live, key_a
 use Rattle.dbtg_unit.specs.Database.State.Cells.{cell, slot_of}
 use Rattle.dbtg_unit.specs.Database.State.Legal.{Legal}
 use Rattle.dbtg_unit.proofs.Public.{In, in_map, of_map}
-use Rattle.dbtg_outcomes.specs.Parts.{record_numbers, shown_numbers}
+use Rattle.dbtg_states.specs.Parts.{record_numbers, shown_numbers}
 use Rattle.dbtg_explore.specs.Inside.Versions.{shows_version}
 use Rattle.dbtg_explore.specs.Versions.{at_first, is_own, unversioned_database, unversioned_entry, unversioned_unit}
 use Rattle.dbtg_explore.proofs.Parts.{shown_first}

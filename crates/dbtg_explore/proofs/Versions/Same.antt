@@ -14,8 +14,8 @@ use Rattle.dbtg_unit.specs.Database.State.Units.{opening_unit}
 use Rattle.dbtg_unit.specs.Database.Statements.Effect.{StatementEffect, effect}
 use Rattle.dbtg_unit.specs.Database.Laws.Replay.{State, after, after_effect, after_entry, effect_of_unit, opening_state, replay, unit_of}
 use Rattle.dbtg_unit.proofs.Public.{In, of_map}
-use Rattle.dbtg_outcomes.specs.Alike.{unordered}
-use Rattle.dbtg_outcomes.proofs.States.Alike.{steps_alike}
+use Rattle.dbtg_states.specs.Alike.{unordered}
+use Rattle.dbtg_states.proofs.States.Alike.{steps_alike}
 use Rattle.dbtg_explore.specs.Versions.{GoOnAlike, at_first, essential, unversioned, unversioned_database, unversioned_unit}
 use Rattle.dbtg_explore.proofs.Versions.Steps.{Alike, effect_alike}
 use Rattle.dbtg_explore.proofs.Versions.Stored.{first_twice, stays_same}

@@ -4,7 +4,7 @@ use Rattle.dbtg_program.specs.declared.program.End.{End}
 use Rattle.dbtg_program.specs.declared.program.End.TheVariants.{Stop, Assert, Size, Astray}
 use Rattle.dbtg_program.specs.States.{ProgramState}
 use Rattle.dbtg_program.specs.Going.{Due, due, ended}
-use Rattle.dbtg_outcomes.specs.Spelling.{list_numbers, value_numbers}
+use Rattle.dbtg_states.specs.Spelling.{list_numbers, value_numbers}
 
 -- for a program's state the sentence, the status and the values
 abbrev pub program_numbers : ProgramState → List ℕ

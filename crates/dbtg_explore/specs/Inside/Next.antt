@@ -6,9 +6,9 @@ use Rattle.dbtg_cells.specs.declared.name.CellName.TheVariants.{Usage, Extent, R
 use Rattle.dbtg_unit.specs.Database.State.Cells.{cell}
 use Rattle.dbtg_step.specs.Core.Reversible.{made_first}
 use Rattle.dbtg_step.specs.Core.Whole.{Making, state_now}
-use Rattle.dbtg_outcomes.specs.declared.transitions.Transition.{Transition}
-use Rattle.dbtg_outcomes.specs.Numbers.{Grow, Numbers}
-use Rattle.dbtg_outcomes.specs.Transitions.{HasBefore}
+use Rattle.dbtg_states.specs.declared.transitions.Transition.{Transition}
+use Rattle.dbtg_states.specs.Numbers.{Grow, Numbers}
+use Rattle.dbtg_states.specs.Transitions.{HasBefore}
 use Rattle.dbtg_explore.specs.declared.next_state.Seen as given
 use Rattle.dbtg_explore.specs.declared.search.Search as search
 use Rattle.dbtg_explore.specs.Orders.{Meeting, history_of}

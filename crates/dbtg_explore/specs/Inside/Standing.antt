@@ -4,7 +4,7 @@ use Rattle.std.specs.Prelude.{ℕ, ◌-◌, ◌==◌, ◌&&◌, Bool, not, [], O
 use Rattle.std.specs.List.{list_any, range_with_len}
 use Rattle.dbtg_program.specs.declared.program.End.{End}
 use Rattle.dbtg_program.specs.declared.program.End.TheVariants.{Assert, Size, Astray}
-use Rattle.dbtg_outcomes.specs.Numbers.{Numbers, content_at}
+use Rattle.dbtg_states.specs.Numbers.{Numbers, content_at}
 use Rattle.dbtg_explore.specs.Orders.{Meeting}
 
 -- the number at a place of what is said of a unit; 0 if nothing is said there

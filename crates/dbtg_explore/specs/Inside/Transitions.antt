@@ -12,12 +12,12 @@ use Rattle.dbtg_unit.specs.declared.unit.Unit.{Unit}
 use Rattle.dbtg_unit.specs.Database.State.Base.{Database}
 use Rattle.dbtg_unit.specs.Database.State.Cells.{cell}
 use Rattle.dbtg_step.specs.Machine.SequentialDatabase.{unit_at}
-use Rattle.dbtg_outcomes.specs.declared.transitions.Look.{Look}
-use Rattle.dbtg_outcomes.specs.declared.transitions.Passage.{Passage}
-use Rattle.dbtg_outcomes.specs.declared.transitions.Transition.{Transition}
-use Rattle.dbtg_outcomes.specs.Looked.{IsReadyWith}
-use Rattle.dbtg_outcomes.specs.Numbers.{Numbers}
-use Rattle.dbtg_outcomes.specs.Inside.Transitions.{Follow, IsLook, SayBefore}
+use Rattle.dbtg_states.specs.declared.transitions.Look.{Look}
+use Rattle.dbtg_states.specs.declared.transitions.Passage.{Passage}
+use Rattle.dbtg_states.specs.declared.transitions.Transition.{Transition}
+use Rattle.dbtg_states.specs.Looked.{IsReadyWith}
+use Rattle.dbtg_states.specs.Numbers.{Numbers}
+use Rattle.dbtg_states.specs.Inside.Transitions.{Follow, IsLook, SayBefore}
 use Rattle.dbtg_explore.specs.declared.next_state.Seen as given
 use Rattle.dbtg_explore.specs.Orders.{Meeting, due_of, history_of}
 use Rattle.dbtg_explore.specs.States.{sequential_after}

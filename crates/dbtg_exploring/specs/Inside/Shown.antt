@@ -2,7 +2,7 @@
 use Rattle.std.specs.Prelude.{ℕ, ◌≡◌, ◌++◌, List, Option}
 use Rattle.dbtg_schema.specs.Lists.{Lists}
 use Rattle.dbtg_program.specs.declared.program.Program.{Program}
-use Rattle.dbtg_outcomes.specs.declared.brief.Told.{Told}
+use Rattle.dbtg_states.specs.declared.brief.Told.{Told}
 use Rattle.dbtg_exploring.specs.declared.setting.Exploring.{Exploring}
 use Rattle.dbtg_exploring.specs.Texts.{IsResultText, and_told}
 

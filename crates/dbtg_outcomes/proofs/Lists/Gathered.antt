@@ -7,7 +7,8 @@ use Rattle.std.specs.Bool.{⊤}
 use Rattle.std.proofs.lemmas.Bool.{cases_Bool, or_from, or_parts}
 use Rattle.std.proofs.lemmas.Slice.Eq.{bytes_eq-Decides}
 use Rattle.dbtg_outcomes.specs.Inside.Gathered.{each_of, enter, gathered}
-use Rattle.dbtg_outcomes.specs.Groups.{among, groups}
+use Rattle.dbtg_states.specs.Among.{among}
+use Rattle.dbtg_outcomes.specs.Groups.{groups}
 use Rattle.dbtg_outcomes.proofs.Lists.Weights.{Alike, Apart, alike_refl, alike_trans, collected, collected_alike, collected_apart, collected_ones, merged, total, total_ones}
 
 pub gathered_append : {A : Type 0} (key : A → List ℕ) (acc ws vs : List (A × ℕ)) → gathered key acc (ws ++ vs) ≡ gathered key (gathered key acc ws) vs

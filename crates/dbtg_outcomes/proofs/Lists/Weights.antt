@@ -9,7 +9,8 @@ use Rattle.std.proofs.Math.Nat.{mul-suc}
 use Rattle.std.proofs.lemmas.Slice.Eq.{bytes_eq-Decides}
 use Rattle.std.proofs.lemmas.List.{map-append}
 use Rattle.dbtg_outcomes.specs.Inside.Gathered.{each_of}
-use Rattle.dbtg_outcomes.specs.Groups.{among, firsts, groups}
+use Rattle.dbtg_states.specs.Among.{among}
+use Rattle.dbtg_outcomes.specs.Groups.{firsts, groups}
 
 -- KEYS
 

@@ -11,7 +11,7 @@ use Rattle.dbtg_outcomes.specs.declared.groups.Group.{Group}
 use Rattle.dbtg_outcomes.specs.declared.walk.Walk.{Walk}
 use Rattle.dbtg_outcomes.specs.Inside.Gathered.{each_of, gathered}
 use Rattle.dbtg_outcomes.specs.Inside.Grouped.{IsAdded, Numbered}
-use Rattle.dbtg_outcomes.specs.Numbers.{AreNumbers, Grow, Numbers}
+use Rattle.dbtg_states.specs.Numbers.{AreNumbers, Grow, Numbers}
 use Rattle.dbtg_outcomes.specs.Inside.Numbers.{IsNumberOf}
 use Rattle.dbtg_outcomes.specs.Orders.{extended, extended_by, made, next_of}
 use Rattle.dbtg_outcomes.specs.Outcomes.{HasStatus}
@@ -26,7 +26,7 @@ use Rattle.dbtg_outcomes.proofs.States.Numbers.{stay_more, stay_none}
 use Rattle.dbtg_outcomes.proofs.Orders.Nexts.{hold_ended, hold_extended, noted_extended}
 use Rattle.dbtg_outcomes.proofs.Orders.Turns.{made_in_turns, order_then, some_is, there_then}
 use Rattle.dbtg_outcomes.proofs.States.Noted.{noted_append, noted_none, noted_nothing}
-use Rattle.dbtg_outcomes.proofs.Lists.Ranges.{next_range}
+use Rattle.dbtg_states.proofs.Ranges.{next_range}
 
 module _ (m : Meeting) where
   -- ONE GROUP, UNIT BY UNIT

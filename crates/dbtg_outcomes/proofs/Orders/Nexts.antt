@@ -7,7 +7,7 @@ use Rattle.dbtg_outcomes.specs.declared.groups.Group.{Group}
 use Rattle.dbtg_outcomes.specs.declared.notes.Note.{Note}
 use Rattle.dbtg_outcomes.specs.Inside.Gathered.{each_of, gathered}
 use Rattle.dbtg_outcomes.specs.Inside.Grouped.{IsAdded, Numbered}
-use Rattle.dbtg_outcomes.specs.Numbers.{AreNumbers, Grow, Numbers}
+use Rattle.dbtg_states.specs.Numbers.{AreNumbers, Grow, Numbers}
 use Rattle.dbtg_outcomes.specs.Inside.Numbers.{IsNumberOf}
 use Rattle.dbtg_outcomes.specs.Orders.{extended_by, made, next_of}
 use Rattle.dbtg_outcomes.specs.Outcomes.{HasStatus}

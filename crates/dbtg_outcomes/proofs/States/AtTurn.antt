@@ -12,13 +12,13 @@ use Rattle.dbtg_unit.specs.Database.Laws.Replay.{IsHistoryOf, State}
 use Rattle.dbtg_unit.specs.Database.Laws.StaysLegal.{IsLegalState}
 use Rattle.dbtg_unit.specs.Database.State.LegalWith.{IsUnitIn}
 use Rattle.dbtg_step.specs.Core.Whole.{Making, state_now}
-use Rattle.dbtg_outcomes.specs.Looked.{IsReadyWith}
+use Rattle.dbtg_states.specs.Looked.{IsReadyWith}
 use Rattle.dbtg_outcomes.specs.Outcomes.{IsMeeting}
 use Rattle.dbtg_outcomes.specs.Results.{Meeting, state_of}
 use Rattle.dbtg_outcomes.specs.Inside.Transitions.{AreLookedAt}
 use Rattle.dbtg_outcomes.specs.Inside.Walks.{IsMaking}
 use Rattle.dbtg_outcomes.proofs.States.LeadOn.{legal_now}
-use Rattle.dbtg_outcomes.proofs.States.Next.{unit_is}
+use Rattle.dbtg_states.proofs.States.Units.{unit_is}
 use Rattle.dbtg_outcomes.proofs.States.Runs.{run_state_is}
 
 -- what follows from what there is follows if there is any

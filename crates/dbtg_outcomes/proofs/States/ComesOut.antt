@@ -27,8 +27,10 @@ use Rattle.dbtg_outcomes.specs.Groups.{groups}
 use Rattle.dbtg_outcomes.specs.Laws.{BeginsWith, ComesOut, EveryHistoryComesOut, IsAtEnd, answers_of_run, text_of_run}
 use Rattle.dbtg_outcomes.specs.Orders.{made_first, orders}
 use Rattle.dbtg_outcomes.specs.Outcomes.{Comes, IsMeeting}
-use Rattle.dbtg_outcomes.specs.Results.{Meeting, answers_told, by_unit, result_text, state_of, units_of}
-use Rattle.dbtg_outcomes.proofs.States.Histories.{made_is, map_units, units_within}
+use Rattle.dbtg_states.specs.Users.{by_unit}
+use Rattle.dbtg_outcomes.specs.Results.{Meeting, answers_told, result_text, state_of, units_of}
+use Rattle.dbtg_states.proofs.States.Units.{units_within}
+use Rattle.dbtg_outcomes.proofs.States.Histories.{made_is, map_units}
 use Rattle.dbtg_outcomes.proofs.Lists.Members.{in_contains}
 use Rattle.dbtg_outcomes.proofs.Orders.Mixed.{Begins, mixed_is_order, own}
 use Rattle.dbtg_outcomes.proofs.States.States.{has_group}

@@ -12,7 +12,7 @@ use Rattle.dbtg_outcomes.specs.declared.notes.Note.{Note}
 use Rattle.dbtg_outcomes.specs.Outcomes.{place_of, places_from}
 use Rattle.dbtg_outcomes.specs.Inside.Statuses.{AreAllAnswered, AreAnswered, AreOfNotes, AreRows, IsAnswered, IsEntered, TakeNote, TakesNote}
 use Rattle.dbtg_outcomes.proofs.Lists.Members.{contains_in}
-use Rattle.dbtg_outcomes.proofs.Lists.Ranges.{next_range}
+use Rattle.dbtg_states.proofs.Ranges.{next_range}
 
 -- NOTE BY NOTE
 

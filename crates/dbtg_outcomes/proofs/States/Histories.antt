@@ -1,6 +1,6 @@
 -- Histories of the sequential database, and the orders of their statements.
 -- es are entries, u is a unit, n is how many units there are.
-use Rattle.std.proofs.Common.{◌≡◌, refl, sym, ◌∙◌, ap, subst, ℕ, zero, suc, ◌<◌, ◌≤◌, true, false, List, [], ◌∷◌, ◌++◌, length, map, Option, Some, None, arith, slice_get}
+use Rattle.std.proofs.Common.{◌≡◌, refl, sym, ◌∙◌, ap, ℕ, true, false, List, [], ◌∷◌, ◌++◌, length, map, Option, Some, None, arith}
 use Rattle.std.specs.Prelude.{◌==◌, filter, option_map, option_to_list, if◌then◌else◌}
 use Rattle.dbtg_schema.specs.Lists.{Lists}
 use Rattle.dbtg_script.specs.Printing.Texts.{answers_text}
@@ -9,7 +9,6 @@ use Rattle.dbtg_unit.specs.declared.unit.Entry.{Entry}
 use Rattle.dbtg_unit.specs.Database.Statements.Effect.{StatementEffect}
 use Rattle.dbtg_unit.specs.Database.Laws.Replay.{AnswersHold, IsHistoryOf, State, after_entry, entries_of, opening_state, effect_of_unit}
 use Rattle.dbtg_unit.specs.Database.Laws.Replaying.{statements_of}
-use Rattle.dbtg_unit.proofs.Public.{effect_keeps_count, unit_is_there}
 use Rattle.dbtg_outcomes.specs.Orders.{made}
 use Rattle.dbtg_outcomes.specs.Results.{Meeting, answers_told, entries_in, unit_answers, units_of, untimed}
 
@@ -46,20 +45,6 @@ module _ (schema : Lists) (capacity : ℕ) where
   entries_are state [] h = refl
   entries_are state (e ∷ es) h =
       λ i. entry_is e (effect_of_unit schema capacity state e.unit e.statement) h.0 i ++ entries_are (after_entry schema capacity state e) es h.1 i
-
-  -- UNITS
-
-  pub units_within : (state : State) (es : List Entry) (i : ℕ) (e : Entry) → AnswersHold schema capacity state es → slice_get es i ≡ Some e → (0 < e.unit) × (e.unit ≤ length state.units)
-  unfolding AnswersHold
-  units_within state [] i e h g = absurd (cc)
-  units_within state (f ∷ es) zero e h g =
-      let same : f ≡ e = cc in
-      subst (λ (d : Entry). (0 < d.unit) × (d.unit ≤ length state.units)) same (unit_is_there schema capacity state f h.0)
-  units_within state (f ∷ es) (suc i) e h g =
-      let rest = units_within (after_entry schema capacity state f) es i e h.1 g in
-      let many = effect_keeps_count state f.unit (effect_of_unit schema capacity state f.unit f.statement) in
-      let high = rest.1 in
-      (rest.0, omega arith)
 
 module _ (m : Meeting) where
   -- the answers of units as they are printed

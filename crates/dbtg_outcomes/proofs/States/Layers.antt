@@ -9,13 +9,13 @@ use Rattle.dbtg_unit.specs.declared.statement.Statement.{Statement}
 use Rattle.dbtg_outcomes.specs.declared.groups.Group.{Group}
 use Rattle.dbtg_outcomes.specs.Counted.{counted}
 use Rattle.dbtg_outcomes.specs.Inside.Grouped.{IsAdded, Lacks, Numbered, sum_of}
-use Rattle.dbtg_outcomes.specs.Groups.{among}
+use Rattle.dbtg_states.specs.Among.{among}
 use Rattle.dbtg_outcomes.specs.Results.{Meeting}
 use Rattle.dbtg_outcomes.specs.Inside.Gathered.{enter}
 use Rattle.dbtg_outcomes.specs.Inside.Numbers.{IsNumberOf}
 use Rattle.dbtg_outcomes.specs.Inside.Search.{AreHeld, IsHeld, Stand}
 use Rattle.dbtg_outcomes.specs.Inside.Steps.{HasNumber}
-use Rattle.dbtg_outcomes.specs.Numbers.{Numbers}
+use Rattle.dbtg_states.specs.Numbers.{Numbers}
 use Rattle.dbtg_outcomes.proofs.Lists.Weights.{Apart}
 
 -- NUMBERS OF ORDERS

@@ -20,16 +20,16 @@ use Rattle.dbtg_step.specs.Core.Reversible.{OnlyChanged, OnlyLastChanged, made_f
 use Rattle.dbtg_step.specs.Core.Whole.{Making, state_now}
 use Rattle.dbtg_outcomes.specs.Orders.{made}
 use Rattle.dbtg_outcomes.specs.Results.{Meeting, state_of, unit_answers}
-use Rattle.dbtg_outcomes.specs.Numbers.{IsNumberBut, Numbers, NumbersState}
-use Rattle.dbtg_outcomes.specs.Parts.{Parts, parts_in, shown_numbers}
+use Rattle.dbtg_states.specs.Numbers.{IsNumberBut, Numbers, NumbersState}
+use Rattle.dbtg_states.specs.Parts.{Parts, parts_in, shown_numbers}
 use Rattle.dbtg_outcomes.specs.Inside.Parts.{cell_part, parts_of, unit_part}
 use Rattle.dbtg_outcomes.specs.Inside.Walks.{IsMaking}
-use Rattle.dbtg_outcomes.specs.Spelling.{unit_numbers}
+use Rattle.dbtg_states.specs.Spelling.{unit_numbers}
 use Rattle.dbtg_outcomes.proofs.Orders.Begun.{made_more}
-use Rattle.dbtg_outcomes.proofs.States.Numbers.{Follows}
+use Rattle.dbtg_states.proofs.States.Numbers.{Follows}
 use Rattle.dbtg_outcomes.proofs.States.Runs.{run_state_is}
 use Rattle.dbtg_outcomes.proofs.States.SameStates.{answers_more, state_more}
-use Rattle.dbtg_outcomes.proofs.States.ShownParts.{unchanged_shown}
+use Rattle.dbtg_states.proofs.States.ShownParts.{unchanged_shown}
 
 module _ (m : Meeting) where
   -- LEGAL STATES

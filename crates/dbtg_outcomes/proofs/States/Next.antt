@@ -13,12 +13,13 @@ use Rattle.dbtg_unit.specs.declared.unit.Unit.{Unit}
 use Rattle.dbtg_unit.specs.Database.State.Cells.{cell}
 use Rattle.dbtg_unit.specs.Database.Statements.Effect.{StatementEffect, effect}
 use Rattle.dbtg_unit.specs.Database.Statements.Fits.{fits}
-use Rattle.dbtg_unit.specs.Database.Laws.Replay.{State, after, after_effect, effect_of_unit, entries_of, opening_state, unit_of}
+use Rattle.dbtg_unit.specs.Database.Laws.Replay.{State, after, after_effect, effect_of_unit, entries_of, opening_state}
 use Rattle.dbtg_unit.specs.Database.Laws.StaysLegal.{IsLegalState}
 use Rattle.dbtg_unit.proofs.Public.{In, all_at, effect_keeps_legal}
+use Rattle.dbtg_states.proofs.States.Units.{unit_is}
 use Rattle.dbtg_outcomes.specs.Orders.{made, next_of}
 use Rattle.dbtg_outcomes.specs.Outcomes.{IsMeeting}
-use Rattle.dbtg_outcomes.specs.Parts.{shown_numbers}
+use Rattle.dbtg_states.specs.Parts.{shown_numbers}
 use Rattle.dbtg_outcomes.specs.Results.{Meeting, state_of, unit_answers}
 use Rattle.dbtg_outcomes.specs.Inside.Parts.{cell_part}
 use Rattle.dbtg_outcomes.proofs.Orders.Begun.{next_of_unit}
@@ -26,10 +27,6 @@ use Rattle.dbtg_outcomes.proofs.States.Runs.{units_after_order}
 use Rattle.dbtg_outcomes.proofs.States.SameStates.{answers_more, state_more}
 
 -- ONE STATEMENT
-
-pub unit_is : (state : State) (u : ℕ) → 0 < u → unit_of state u ≡ slice_get state.units (u - 1)
-unit_is state zero low = absurd (omega (arith, low))
-unit_is state (suc n) low = let is : suc n - 1 ≡ n = omega arith in ap (slice_get state.units) (sym is)
 
 module _ (m : Meeting) (o : List (ℕ × Statement)) (u : ℕ) (x : Statement) (unit : Unit) (numbered : 0 < u) (stands : slice_get (state_of m o).units (u - 1) ≡ Some unit) where
   -- what the statement does

@@ -16,15 +16,16 @@ use Rattle.dbtg_unit.specs.Database.Laws.Replay.{State, after_effect, entries_of
 use Rattle.dbtg_unit.specs.Database.Laws.StaysLegal.{IsLegalState}
 use Rattle.dbtg_unit.proofs.Public.{In, map_agrees_on_list}
 use Rattle.dbtg_step.specs.Machine.SequentialDatabase.{unit_at}
-use Rattle.dbtg_outcomes.specs.Alike.{unordered}
+use Rattle.dbtg_states.specs.Alike.{unordered}
 use Rattle.dbtg_outcomes.specs.Outcomes.{HasStatus}
 use Rattle.dbtg_outcomes.specs.Orders.{extended, extended_by, made, next_of}
-use Rattle.dbtg_outcomes.specs.Results.{Meeting, answers_told, entries_in, entry_in, in_unit_order, result_text, state_key, state_of, unit_answers, units_of}
-use Rattle.dbtg_outcomes.specs.Inside.Spelling.{image_apart, list_apart, one_apart, unit_apart, behind}
-use Rattle.dbtg_outcomes.specs.Spelling.{image_numbers, list_numbers, one_number, unit_numbers}
-use Rattle.dbtg_outcomes.proofs.States.Alike.{StepsAlike, steps_alike}
+use Rattle.dbtg_states.specs.Users.{in_unit_order}
+use Rattle.dbtg_outcomes.specs.Results.{Meeting, answers_told, entries_in, entry_in, result_text, state_key, state_of, unit_answers, units_of}
+use Rattle.dbtg_states.specs.Inside.Spelling.{image_apart, list_apart, one_apart, unit_apart, behind}
+use Rattle.dbtg_states.specs.Spelling.{image_numbers, list_numbers, one_number, unit_numbers}
+use Rattle.dbtg_states.proofs.States.Alike.{StepsAlike, steps_alike}
 use Rattle.dbtg_outcomes.proofs.States.Runs.{units_after_order}
-use Rattle.dbtg_outcomes.proofs.States.SameImages.{image_alike, map_same, same_unordered}
+use Rattle.dbtg_states.proofs.States.SameImages.{image_alike, map_same, same_unordered}
 use Rattle.dbtg_outcomes.proofs.Orders.Begun.{made_more}
 
 -- ONE MORE STATEMENT

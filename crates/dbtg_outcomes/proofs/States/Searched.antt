@@ -24,7 +24,7 @@ use Rattle.dbtg_outcomes.specs.Outcomes.{AreStatuses, Comes, IsMeeting, count_st
 use Rattle.dbtg_outcomes.specs.Results.{Meeting, state_key, units_of}
 use Rattle.dbtg_outcomes.specs.Inside.Search.{AreHeld, AreNotedOf, HasNote, IsAt, IsHeld, IsNextNote, IsNote, IsNoteIn, layer}
 use Rattle.dbtg_outcomes.specs.Inside.Steps.{Advances, ExtendsAll, GoesOn, HasNumber, HaveStatements, IsAtState, IsOver, IsUnderWay, LeadToMore, next_orders, nexts, with_each}
-use Rattle.dbtg_outcomes.specs.Numbers.{Numbers}
+use Rattle.dbtg_states.specs.Numbers.{Numbers}
 use Rattle.dbtg_outcomes.specs.Inside.Walks.{LeadTo, Stands, order_of}
 use Rattle.dbtg_outcomes.specs.declared.answered.Answered.{Answered}
 use Rattle.dbtg_outcomes.specs.Inside.Statuses.{AreOfNotes}

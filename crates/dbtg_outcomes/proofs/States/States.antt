@@ -17,7 +17,8 @@ use Rattle.dbtg_unit.specs.Database.Laws.Replay.{State, opening_state, replay}
 use Rattle.dbtg_unit.specs.Database.Laws.Replaying.{statements_of}
 use Rattle.dbtg_unit.proofs.Public.{In, all_at, element_at, in_map, of_flat_map, of_map, opening_is_legal, replay_keeps_legal, statements_determine}
 use Rattle.dbtg_outcomes.specs.Inside.Gathered.{each_of}
-use Rattle.dbtg_outcomes.specs.Groups.{among, firsts, groups}
+use Rattle.dbtg_states.specs.Among.{among}
+use Rattle.dbtg_outcomes.specs.Groups.{firsts, groups}
 use Rattle.dbtg_outcomes.specs.Inside.Search.{layer}
 use Rattle.dbtg_outcomes.specs.Orders.{completed, made_first, orders_after}
 use Rattle.dbtg_outcomes.specs.Results.{Meeting, result_text, state_key, state_of}

@@ -1,66 +1,49 @@
 -- What was seen once of a transition is so wherever the same is looked at.
 -- m is a meeting, o and q are orders, u is a unit, x and y are statements, l is a look, i a place in an array, c the name of a cell, n and k
 -- are numbers of states.
-use Rattle.std.proofs.Common.{◌≡◌, refl, sym, ◌∙◌, ap, subst, ℕ, suc, ◌+◌, ◌-◌, ◌<◌, ◌≤◌, Bool, true, false, cond, List, [], ◌∷◌, ◌++◌, length, Option, Some, None, inl, inr, ⊎_elim, arith, map, slice_get}
+use Rattle.std.proofs.Common.{◌≡◌, refl, sym, ◌∙◌, ap, subst, ℕ, suc, ◌+◌, ◌-◌, ◌<◌, ◌≤◌, Bool, true, false, List, [], ◌∷◌, ◌++◌, length, Option, Some, None, inl, inr, ⊎_elim, arith, map, slice_get}
 use Rattle.std.specs.Prelude.{◌≢◌, All, flat_map, is_some, option_and_then, option_map, option_to_list, unwrap_or, if◌then◌else◌}
-use Rattle.std.proofs.lemmas.Bool.{cases_Bool, cases_lt, false≢true, false_from_ne_true}
+use Rattle.std.proofs.lemmas.Bool.{cases_lt, false≢true, false_from_ne_true}
 use Rattle.std.proofs.lemmas.List.{length-append}
 use Rattle.std.proofs.lemmas.List.Elements.{All-weaker}
 use Rattle.std.proofs.lemmas.Option.{same_Some, slice_get_within}
 use Rattle.dbtg_interned.specs.Kept.{Keeps}
 use Rattle.dbtg_interned.specs.Arrays.{elements}
 use Rattle.dbtg_cells.specs.CellNumbers.{cell_count, cell_number, cells_in_order}
-use Rattle.dbtg_cells.specs.Names.{name_eq}
-use Rattle.dbtg_cells.specs.declared.cell.Cell.{Cell}
 use Rattle.dbtg_cells.specs.declared.name.CellName.{CellName}
-use Rattle.dbtg_cells.proofs.Public.{name_eq_refl, numbered_at, same_name, stands_at}
+use Rattle.dbtg_cells.proofs.Public.{numbered_at, stands_at}
 use Rattle.dbtg_unit.specs.declared.statement.Statement.{Statement}
 use Rattle.dbtg_unit.specs.declared.unit.Answer.{Answer}
 use Rattle.dbtg_unit.specs.declared.unit.Unit.{Unit}
 use Rattle.dbtg_unit.specs.Database.Statements.Codes.{status_code}
 use Rattle.dbtg_unit.specs.Database.Statements.Effect.{StatementEffect}
 use Rattle.dbtg_unit.specs.Database.Laws.StaysLegal.{IsLegalState}
-use Rattle.dbtg_unit.specs.Hands.Local.{holds, names_of}
+use Rattle.dbtg_unit.specs.Hands.Local.{holds}
 use Rattle.dbtg_unit.proofs.Public.{In, in_map, of_map}
 use Rattle.dbtg_plan.specs.Locality.{EachIsDetermined}
 use Rattle.dbtg_erase.specs.Locality.{DeleteIsDetermined}
 use Rattle.dbtg_step.specs.Machine.SequentialDatabase.{unit_at}
-use Rattle.dbtg_outcomes.specs.declared.transitions.Look.{Look}
-use Rattle.dbtg_outcomes.specs.declared.transitions.Transition.{Transition}
-use Rattle.dbtg_outcomes.specs.Looked.{IsReadyWith, LookAlike}
-use Rattle.dbtg_outcomes.specs.Numbers.{Numbers}
+use Rattle.dbtg_states.proofs.States.InHand.{held_in, in_held}
+use Rattle.dbtg_states.specs.declared.transitions.Look.{Look}
+use Rattle.dbtg_states.specs.declared.transitions.Transition.{Transition}
+use Rattle.dbtg_states.specs.Looked.{IsReadyWith, LookAlike}
+use Rattle.dbtg_states.specs.Numbers.{Numbers}
 use Rattle.dbtg_outcomes.specs.Orders.{made, next_of}
 use Rattle.dbtg_outcomes.specs.Outcomes.{IsMeeting}
 use Rattle.dbtg_outcomes.specs.Results.{Meeting, state_of, unit_answers}
-use Rattle.dbtg_outcomes.specs.Spelling.{unit_numbers}
-use Rattle.dbtg_outcomes.specs.Transitions.{cell_place}
+use Rattle.dbtg_states.specs.Spelling.{unit_numbers}
+use Rattle.dbtg_states.specs.Transitions.{cell_place}
 use Rattle.dbtg_outcomes.specs.Inside.Parts.{cell_part, parts_of, unit_part}
-use Rattle.dbtg_outcomes.specs.Inside.Transitions.{IsKnown, IsLook, IsTransition, LeadsAs, SayBefore, WasSeen, is_looked_at, part_at}
+use Rattle.dbtg_states.specs.Inside.Transitions.{IsLook, SayBefore, is_looked_at, part_at}
+use Rattle.dbtg_outcomes.specs.Inside.Transitions.{IsKnown, IsTransition, LeadsAs, WasSeen}
 use Rattle.dbtg_outcomes.proofs.Orders.Begun.{made_own}
 use Rattle.dbtg_outcomes.proofs.States.LeadOn.{same_unit_part}
-use Rattle.dbtg_outcomes.proofs.States.Looked.{looked_at_determines}
+use Rattle.dbtg_states.proofs.States.Looked.{looked_at_determines}
 use Rattle.dbtg_outcomes.proofs.States.Runs.{units_after_order}
-use Rattle.dbtg_outcomes.proofs.States.SameParts.{cons_parts, unit_spelled}
-use Rattle.dbtg_outcomes.proofs.States.Next.{IsNextFit, answers_then, cell_then, its_effect, its_unit, next_fits, outcome, printed, unit_is, unit_then}
-use Rattle.dbtg_outcomes.proofs.States.Places.{at_cell, at_unit, behind_units, each_in, each_of, is_looked, its_number, number_says, place_by, places, says_some, stays_there}
-
--- THE CELLS THAT ARE HELD
-
-pub held_in : (cells : List (CellName × Cell)) (c : CellName) → holds cells c ≡ true → In c (names_of cells)
-held_in [] c h = absurd (false≢true h)
-held_in (e ∷ es) c h =
-    elim (cases_Bool (name_eq c e.0)) [
-      | inl same ↦ inl (sym (same_name c e.0 same))
-      | inr apart ↦ inr (held_in es c (subst (λ b. cond b true (holds es c) ≡ true) apart h))
-    ]
-
-pub in_held : (cells : List (CellName × Cell)) (c : CellName) → In c (names_of cells) → holds cells c ≡ true
-in_held [] c i = absurd i
-in_held (e ∷ es) c i =
-    ⊎_elim
-    (λ same. subst (λ (d : CellName). holds (e ∷ es) d ≡ true) same (ap (λ b. cond b true (holds es e.0)) (name_eq_refl e.0)))
-    (λ j. elim (name_eq c e.0) as (λ b. cond b true (holds es c) ≡ true) [ true ↦ refl | false ↦ in_held es c j ])
-    i
+use Rattle.dbtg_states.proofs.States.SameParts.{cons_parts, unit_spelled}
+use Rattle.dbtg_states.proofs.States.Units.{unit_is}
+use Rattle.dbtg_outcomes.proofs.States.Next.{IsNextFit, answers_then, cell_then, its_effect, its_unit, next_fits, outcome, printed, unit_then}
+use Rattle.dbtg_states.proofs.States.Places.{at_cell, at_unit, behind_units, each_in, each_of, is_looked, its_number, number_says, place_by, places, says_some, stays_there}
 
 -- THE SAME AS ONCE
 

@@ -18,8 +18,8 @@ use Rattle.dbtg_outcomes.specs.declared.walk.Walk.{Walk}
 use Rattle.dbtg_outcomes.specs.Orders.{made, next_of}
 use Rattle.dbtg_outcomes.specs.Outcomes.{HasStatus, IsMeeting}
 use Rattle.dbtg_outcomes.specs.Results.{Meeting}
-use Rattle.dbtg_outcomes.specs.Numbers.{Grow, Numbers}
-use Rattle.dbtg_outcomes.specs.declared.transitions.Transition.{Transition}
+use Rattle.dbtg_states.specs.Numbers.{Grow, Numbers}
+use Rattle.dbtg_states.specs.declared.transitions.Transition.{Transition}
 use Rattle.dbtg_outcomes.specs.Inside.Transitions.{AreKnown}
 use Rattle.dbtg_outcomes.proofs.States.Transitions.{known_later}
 use Rattle.dbtg_outcomes.specs.Inside.Numbers.{IsNumberOf}

@@ -4,7 +4,7 @@ use Rattle.std.specs.Prelude.{ℕ, ◌≡◌, List, Some, slice_get}
 use Rattle.dbtg_unit.specs.declared.statement.Statement.{Statement}
 use Rattle.dbtg_unit.specs.Database.Laws.StaysLegal.{IsLegalState}
 use Rattle.dbtg_outcomes.specs.Results.{Meeting, result_text, state_of}
-use Rattle.dbtg_outcomes.specs.Numbers.{Numbers, NumbersState}
+use Rattle.dbtg_states.specs.Numbers.{Numbers, NumbersState}
 use Rattle.dbtg_outcomes.specs.Inside.Parts.{parts_of}
 
 -- n is the number of the state after an order

@@ -1,20 +1,13 @@
--- The parts of the state after an order; and how a record's items are read from its cell.
+-- The parts of the state after an order.
 -- m is a meeting, o an order, u a unit, c the name of a cell.
-use Rattle.std.specs.Prelude.{ℕ, ◌-◌, true, List, [], ◌∷◌, ◌++◌, Some, flat_map, option_to_list, slice_get, length, if◌then◌else◌}
-use Rattle.dbtg_cells.specs.Shown.{CellValue, SlotValue}
-use Rattle.dbtg_cells.specs.declared.key.Value.{Value}
+use Rattle.std.specs.Prelude.{ℕ, ◌-◌, true, List, [], ◌∷◌, ◌++◌, flat_map, option_to_list, slice_get, length, if◌then◌else◌}
 use Rattle.dbtg_cells.specs.declared.name.CellName.{CellName}
 use Rattle.dbtg_unit.specs.declared.statement.Statement.{Statement}
 use Rattle.dbtg_unit.specs.Database.State.Cells.{cell}
 use Rattle.dbtg_outcomes.specs.Orders.{made}
 use Rattle.dbtg_outcomes.specs.Results.{Meeting, state_of, unit_answers}
-use Rattle.dbtg_outcomes.specs.Parts.{Parts, shown_numbers}
-use Rattle.dbtg_outcomes.specs.Spelling.{unit_numbers}
-
--- the items of the record that a cell shows
-abbrev pub items_in : CellValue → List Value
-items_in (SlotValue (Some r)) = r.items
-items_in _ = []
+use Rattle.dbtg_states.specs.Parts.{Parts, shown_numbers}
+use Rattle.dbtg_states.specs.Spelling.{unit_numbers}
 
 -- what a cell says after an order
 abbrev pub cell_part : Meeting → List (ℕ × Statement) → CellName → List ℕ

@@ -8,7 +8,7 @@ use Rattle.dbtg_outcomes.specs.declared.search.Search as given
 use Rattle.dbtg_outcomes.specs.declared.walk.Walk.{Walk}
 use Rattle.dbtg_outcomes.specs.Inside.Gathered.{each_of, gathered}
 use Rattle.dbtg_outcomes.specs.Inside.Grouped.{Numbered}
-use Rattle.dbtg_outcomes.specs.Numbers.{AreNumbers, Grow, Numbers}
+use Rattle.dbtg_states.specs.Numbers.{AreNumbers, Grow, Numbers}
 use Rattle.dbtg_outcomes.specs.Inside.Numbers.{IsNumberOf, IsTextOf}
 use Rattle.dbtg_outcomes.specs.Orders.{extended}
 use Rattle.dbtg_outcomes.specs.Outcomes.{states_within}

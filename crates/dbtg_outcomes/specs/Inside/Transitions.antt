@@ -1,47 +1,29 @@
 -- Transitions: what a statement that was made once looked at, and what it left there.
 -- m is a meeting, o an order, u a unit, x a statement, p and q are the parts of states, l is a look, i a place in an array, n and k are
 -- numbers of states.
-use Rattle.std.specs.Prelude.{ℕ, ◌≡◌, ◌==◌, ◌+◌, ◌-◌, ◌<◌, Bool, false, true, List, [], ◌∷◌, ◌++◌, Option, Some, map, option_map, slice_get, unwrap_or, All, Contains, nat_lt, length, if◌then◌else◌}
-use Rattle.std.specs.List.{list_all, list_any}
-use Rattle.dbtg_cells.specs.CellNumbers.{cell_count, cell_number, cells_in_order, is_cell}
-use Rattle.dbtg_cells.specs.declared.name.CellName.{CellName}
+use Rattle.std.specs.Prelude.{ℕ, ◌≡◌, ◌+◌, ◌-◌, false, true, List, [], ◌∷◌, ◌++◌, Some, map, slice_get, All, Contains, length}
+use Rattle.std.specs.List.{list_all}
 use Rattle.dbtg_interned.specs.Arrays.{IsArray, elements}
+use Rattle.dbtg_cells.specs.CellNumbers.{cell_count, is_cell}
+use Rattle.dbtg_cells.specs.declared.name.CellName.{CellName}
 use Rattle.dbtg_unit.specs.declared.statement.Statement.{Statement}
 use Rattle.dbtg_unit.specs.declared.unit.Unit.{Unit}
 use Rattle.dbtg_unit.specs.Database.Laws.Replay.{unit_of}
 use Rattle.dbtg_unit.specs.Database.Laws.StaysLegal.{IsLegalState}
-use Rattle.dbtg_outcomes.specs.declared.transitions.Look.{Look}
-use Rattle.dbtg_outcomes.specs.declared.transitions.Passage.{Passage}
-use Rattle.dbtg_outcomes.specs.declared.transitions.Transition.{Transition}
-use Rattle.dbtg_outcomes.specs.Looked.{IsReadyWith}
-use Rattle.dbtg_outcomes.specs.Numbers.{AreNumbers, Grow, Numbers}
+use Rattle.dbtg_states.specs.Inside.Transitions.{Follow, IsLook, SayBefore, is_looked_at}
+use Rattle.dbtg_states.specs.declared.transitions.Look.{Look}
+use Rattle.dbtg_states.specs.declared.transitions.Passage.{Passage}
+use Rattle.dbtg_states.specs.declared.transitions.Transition.{Transition}
+use Rattle.dbtg_states.specs.Looked.{IsReadyWith}
+use Rattle.dbtg_states.specs.Numbers.{AreNumbers, Grow, Numbers}
 use Rattle.dbtg_outcomes.specs.Orders.{next_of}
 use Rattle.dbtg_outcomes.specs.Outcomes.{HasStatus}
-use Rattle.dbtg_outcomes.specs.Parts.{Parts}
 use Rattle.dbtg_outcomes.specs.Results.{Meeting, state_of}
-use Rattle.dbtg_outcomes.specs.Transitions.{HasAfter, HasBefore, cell_place}
+use Rattle.dbtg_states.specs.Transitions.{HasAfter, HasBefore, cell_place}
 use Rattle.dbtg_outcomes.specs.Inside.Numbers.{IsNumberOf}
 use Rattle.dbtg_outcomes.specs.Inside.Parts.{parts_of}
 
--- PLACES
-
--- what the part at a place says: the units come first, then the cells in their order
-abbrev pub part_at : Parts → ℕ → Option (List ℕ)
-part_at p i = if nat_lt i p.count then Some (p.unit (i + 1)) else option_map p.cell (slice_get (cells_in_order p.schema p.capacity) (i - p.count))
-
-abbrev pub is_looked_at : List Look → ℕ → Bool
-is_looked_at looks i = list_any (λ l. l.place == i) looks
-
 -- TRANSITIONS
-
--- each part says what it said when it was looked at
-abbrev pub SayBefore : List (List ℕ) → Parts → List Look → Type 0
-SayBefore contents p looks = All (λ l. slice_get contents l.before ≡ part_at p l.place) looks
-
--- the parts that were looked at say what they said after; the others say what they said
-pub record Follow (contents : List (List ℕ)) (p q : Parts) (looks : List Look) : Type 0 where
-  pub seen : All (λ l. slice_get contents l.after ≡ part_at q l.place) looks
-  pub unseen : (i : ℕ) → is_looked_at looks i ≡ false → part_at q i ≡ part_at p i
 
 -- the next statement of a unit has this status, and leads there
 pub record LeadsAs (m : Meeting) (contents : List (List ℕ)) (o : List (ℕ × Statement)) (u : ℕ) (x : Statement) (t : Transition) : Type 0 where
@@ -53,12 +35,6 @@ abbrev pub IsTransition : Meeting → List (List ℕ) → ℕ → Transition →
 IsTransition m contents u t =
     (o : List (ℕ × Statement)) (x : Statement) → IsLegalState m.schema m.capacity (state_of m o) → next_of m.scripts o u ≡ Some x
     → SayBefore contents (parts_of m o) t.looks → LeadsAs m contents o u x t
-
--- it is of one of this many parts, and its numbers are those of contents
-pub record IsLook (parts : ℕ) (contents : List (List ℕ)) (l : Look) : Type 0 where
-  pub place : l.place < parts
-  pub before : l.before < length contents
-  pub after : l.after < length contents
 
 -- a transition that tells from these contents what its unit's next statement leads to
 pub record IsKnown (m : Meeting) (contents : List (List ℕ)) (u : ℕ) (t : Transition) : Type 0 where

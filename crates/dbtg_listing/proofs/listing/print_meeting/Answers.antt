@@ -1,5 +1,5 @@
 use Rattle.std.proofs.lemmas.Result.{IfErr-weaker, IfOk-weaker}
-use Rattle.dbtg_outcomes.specs.Brief.{none_before}
+use Rattle.dbtg_states.specs.Brief.{none_before}
 use Rattle.dbtg_listing.specs.Listing.{AreTold, IsListing, IsOver}
 use Rattle.dbtg_listing.specs.Inside.Listing.{IsUntold}
 use Rattle.dbtg_listing.proofs.Listings.{all_short, untold}

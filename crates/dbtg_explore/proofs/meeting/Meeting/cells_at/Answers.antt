@@ -6,7 +6,7 @@ use Rattle.std.proofs.lemmas.Result.{IfOk-weaker}
 use Rattle.dbtg_cells.specs.CellNumbers.{is_cell}
 use Rattle.dbtg_unit.specs.Database.State.Belongs.{IsUnitOf, IsWithin}
 use Rattle.dbtg_step.specs.Core.Whole.{Making, state_now}
-use Rattle.dbtg_outcomes.specs.Looked.{IsReadyWith}
+use Rattle.dbtg_states.specs.Looked.{IsReadyWith}
 use Rattle.dbtg_explore.specs.Orders.{Meeting, due_of}
 use Rattle.dbtg_explore.proofs.Next.{if_some_weaker, looked_at_there, unit_there}
 use Rattle.dbtg_explore.proofs.Placed.{awaits}

@@ -3,8 +3,8 @@ use Rattle.std.specs.List.{list_all}
 use Rattle.dbtg_cells.specs.CellNumbers.{cells_in_order, is_cell}
 use Rattle.dbtg_cells.specs.declared.name.CellName.{CellName}
 use Rattle.dbtg_step.specs.Core.Whole.{Making}
-use Rattle.dbtg_outcomes.specs.Numbers.{IsNumberBut}
-use Rattle.dbtg_outcomes.proofs.States.Numbers.{all_are_cells, nothing_said}
+use Rattle.dbtg_states.specs.Numbers.{IsNumberBut}
+use Rattle.dbtg_states.proofs.States.Numbers.{all_are_cells, nothing_said}
 use Rattle.dbtg_explore.specs.Inside.Parts.{parts_of}
 use Rattle.dbtg_explore.proofs.meeting.Meeting.first_number.Goals as goal
 

@@ -4,7 +4,7 @@ use Rattle.std.proofs.lemmas.Result.{IfOk-weaker}
 use Rattle.dbtg_schema.specs.Sound.{IsSound}
 use Rattle.dbtg_cells.specs.CellNumbers.{is_cell}
 use Rattle.dbtg_step.specs.Core.Whole.{Making}
-use Rattle.dbtg_outcomes.proofs.States.Numbers.{grow_more}
+use Rattle.dbtg_states.proofs.States.Numbers.{grow_more}
 use Rattle.dbtg_explore.specs.Inside.Parts.{unit_part}
 use Rattle.dbtg_explore.proofs.Numbered.{spelled_but, spelled_state}
 use Rattle.dbtg_explore.proofs.meeting.Meeting.put_all.Goals as goal

@@ -6,7 +6,7 @@ use Rattle.dbtg_step.specs.Core.Whole.{Making, state_now}
 use Rattle.dbtg_going.specs.Goings.{comes_of}
 use Rattle.dbtg_going.specs.Texts.{programs_text}
 use Rattle.dbtg_going.proofs.Turning.{if_both}
-use Rattle.dbtg_outcomes.specs.Results.{by_unit}
+use Rattle.dbtg_states.specs.Users.{by_unit}
 use Rattle.dbtg_explore.specs.Orders.{Meeting}
 use Rattle.dbtg_explore.specs.Results.{reached_of}
 use Rattle.dbtg_explore.proofs.Placed.{text_is}

@@ -1,7 +1,7 @@
 use Rattle.std.proofs.Common.{◌∙◌, ◌++◌, ◌∷◌, [], List, ap, refl, get_or}
 use Rattle.dbtg_interned.specs.Arrays.{elements}
-use Rattle.dbtg_outcomes.specs.declared.transitions.Look.{Look}
-use Rattle.dbtg_outcomes.specs.Transitions.{written}
+use Rattle.dbtg_states.specs.declared.transitions.Look.{Look}
+use Rattle.dbtg_states.specs.Transitions.{written}
 use Rattle.dbtg_explore.proofs.Next.{if_ok_four, known_number, reaches}
 use Rattle.dbtg_explore.proofs.Numbered.{numbered_low, state_at}
 use Rattle.dbtg_explore.proofs.Placed.{turn_numbered}

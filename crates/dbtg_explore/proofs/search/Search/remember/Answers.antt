@@ -1,8 +1,8 @@
 use Rattle.std.proofs.Common.{ℕ, true, false, length, subst}
 use Rattle.std.specs.Prelude.{IfSome}
 use Rattle.std.proofs.lemmas.Result.{on_ok_weaker}
-use Rattle.dbtg_outcomes.specs.Transitions.{AreLooks}
-use Rattle.dbtg_outcomes.specs.declared.transitions.Transition.{Transition}
+use Rattle.dbtg_states.specs.Transitions.{AreLooks}
+use Rattle.dbtg_states.specs.declared.transitions.Transition.{Transition}
 use Rattle.dbtg_explore.specs.Orders.{Meeting}
 use Rattle.dbtg_explore.specs.Inside.Transitions.{IsPassage}
 use Rattle.dbtg_explore.proofs.Next.{known_more}

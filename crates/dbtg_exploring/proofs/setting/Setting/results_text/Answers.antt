@@ -1,5 +1,5 @@
 use Rattle.std.proofs.Common.{◌≡◌, ◌+◌, List, ℕ, ap, arith, subst}
-use Rattle.dbtg_outcomes.specs.Brief.{none_before}
+use Rattle.dbtg_states.specs.Brief.{none_before}
 use Rattle.dbtg_exploring.specs.Inside.Shown.{IsShown}
 use Rattle.dbtg_exploring.proofs.Results.{next_result}
 use Rattle.dbtg_exploring.proofs.setting.Setting.results_text.Goals as goal

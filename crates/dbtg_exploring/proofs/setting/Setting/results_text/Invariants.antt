@@ -1,5 +1,5 @@
 use Rattle.std.proofs.Common.{◌≡◌, take}
-use Rattle.dbtg_outcomes.specs.Brief.{none_before}
+use Rattle.dbtg_states.specs.Brief.{none_before}
 use Rattle.dbtg_exploring.specs.Texts.{AreResultTexts}
 use Rattle.dbtg_exploring.proofs.setting.Setting.results_text.Given as goal
 

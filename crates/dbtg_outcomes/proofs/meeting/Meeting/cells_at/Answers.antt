@@ -8,7 +8,7 @@ use Rattle.dbtg_unit.specs.declared.statement.Statement.{Statement}
 use Rattle.dbtg_unit.specs.Database.State.Belongs.{IsUnitOf, IsWithin}
 use Rattle.dbtg_unit.specs.Database.Statements.Fits.{fits}
 use Rattle.dbtg_step.specs.Core.Whole.{Making, state_now}
-use Rattle.dbtg_outcomes.specs.Looked.{IsReadyWith}
+use Rattle.dbtg_states.specs.Looked.{IsReadyWith}
 use Rattle.dbtg_outcomes.specs.Inside.Transitions.{AreLookedAt}
 use Rattle.dbtg_outcomes.specs.Results.{Meeting}
 use Rattle.dbtg_outcomes.specs.Inside.Walks.{IsMaking, order_of}

@@ -5,7 +5,7 @@ use Rattle.dbtg_cells.specs.declared.name.CellName.{CellName}
 use Rattle.dbtg_outcomes.specs.Inside.Numbers.{IsNumberOf}
 use Rattle.dbtg_outcomes.specs.Inside.Transitions.{AreLookedAt}
 use Rattle.dbtg_outcomes.specs.Inside.Walks.{HasNextStatus, order_of}
-use Rattle.dbtg_outcomes.specs.Numbers.{Grow, Numbers}
+use Rattle.dbtg_states.specs.Numbers.{Grow, Numbers}
 use Rattle.dbtg_outcomes.specs.Orders.{next_of}
 use Rattle.dbtg_outcomes.proofs.Orders.Turns.{order_then, some_is}
 use Rattle.dbtg_outcomes.proofs.States.Numbers.{number_later}

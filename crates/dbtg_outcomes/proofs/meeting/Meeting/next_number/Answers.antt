@@ -6,10 +6,10 @@ use Rattle.dbtg_unit.specs.declared.unit.Entry.{Entry}
 use Rattle.dbtg_unit.specs.Database.Laws.Replay.{IsHistoryOf}
 use Rattle.dbtg_unit.specs.Database.Laws.Replaying.{statements_of}
 use Rattle.dbtg_step.specs.Core.Whole.{Making}
-use Rattle.dbtg_outcomes.specs.Numbers.{HasPut, IsNumberBut, NumbersState}
+use Rattle.dbtg_states.specs.Numbers.{HasPut, IsNumberBut, NumbersState}
 use Rattle.dbtg_outcomes.specs.Inside.Parts.{cell_part, parts_of, unit_part}
 use Rattle.dbtg_outcomes.proofs.States.LeadOn.{leads_on, legal_now}
-use Rattle.dbtg_outcomes.proofs.States.Numbers.{next_but_cells}
+use Rattle.dbtg_states.proofs.States.Numbers.{next_but_cells}
 use Rattle.dbtg_outcomes.proofs.meeting.Meeting.next_number.Goals as goal
 
 pub put_cells-requires-clause-but : goal.put_cells-requires-clause-but

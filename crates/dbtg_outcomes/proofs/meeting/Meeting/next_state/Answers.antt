@@ -2,15 +2,15 @@ use Rattle.std.proofs.Common.{◌≡◌, ◌∙◌, ℕ, List, ap, refl, sym, su
 use Rattle.std.proofs.lemmas.Option.{same_Some}
 use Rattle.dbtg_interned.specs.Arrays.{elements}
 use Rattle.dbtg_unit.specs.declared.statement.Statement.{Statement}
-use Rattle.dbtg_outcomes.specs.declared.transitions.Look.{Look}
+use Rattle.dbtg_states.specs.declared.transitions.Look.{Look}
 use Rattle.dbtg_outcomes.specs.Orders.{next_of}
 use Rattle.dbtg_outcomes.specs.Outcomes.{HasStatus}
 use Rattle.dbtg_outcomes.specs.Inside.Numbers.{IsNumberOf}
 use Rattle.dbtg_outcomes.specs.Inside.Transitions.{IsKnown}
-use Rattle.dbtg_outcomes.specs.Transitions.{written}
+use Rattle.dbtg_states.specs.Transitions.{written}
 use Rattle.dbtg_outcomes.specs.Inside.Walks.{order_of}
 use Rattle.dbtg_outcomes.proofs.Orders.Turns.{order_then, some_is}
-use Rattle.dbtg_outcomes.proofs.States.Looks.{all_found}
+use Rattle.dbtg_states.proofs.States.Looks.{all_found}
 use Rattle.dbtg_outcomes.proofs.States.MadeAgain.{made_by_writing}
 use Rattle.dbtg_outcomes.proofs.States.Walks.{known_on, next_fits, stands_noted}
 use Rattle.dbtg_outcomes.proofs.meeting.Meeting.next_state.Goals as goal

@@ -1,9 +1,9 @@
 use Rattle.std.proofs.Common.{◌≡◌, ◌+◌, ◌-◌, suc, sym, subst, length, arith}
 use Rattle.dbtg_cells.specs.CellNumbers.{cells_in_order}
 use Rattle.dbtg_unit.specs.Database.Laws.Replaying.{statements_of}
-use Rattle.dbtg_outcomes.specs.Numbers.{HasPut, IsNumberBut}
+use Rattle.dbtg_states.specs.Numbers.{HasPut, IsNumberBut}
 use Rattle.dbtg_outcomes.specs.Inside.Parts.{parts_of, unit_part}
-use Rattle.dbtg_outcomes.proofs.States.Numbers.{grow_more, grow_none, nothing_said, unit_put}
+use Rattle.dbtg_states.proofs.States.Numbers.{grow_more, grow_none, nothing_said, unit_put}
 use Rattle.dbtg_outcomes.proofs.meeting.Meeting.put_units.Goals as goal
 
 pub loop-before-init : goal.loop-before-init

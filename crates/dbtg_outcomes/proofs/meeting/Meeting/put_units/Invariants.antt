@@ -1,6 +1,6 @@
 use Rattle.dbtg_cells.specs.CellNumbers.{cells_in_order}
 use Rattle.dbtg_unit.specs.Database.Laws.Replaying.{statements_of}
-use Rattle.dbtg_outcomes.specs.Numbers.{Grow, IsNumberBut}
+use Rattle.dbtg_states.specs.Numbers.{Grow, IsNumberBut}
 use Rattle.dbtg_outcomes.specs.Inside.Parts.{parts_of}
 use Rattle.dbtg_outcomes.proofs.meeting.Meeting.put_units.Given as goal
 

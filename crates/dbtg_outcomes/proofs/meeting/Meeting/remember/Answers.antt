@@ -1,10 +1,10 @@
 use Rattle.std.proofs.Common.{ℕ, refl, sym, subst, length, ⊎_elim}
 use Rattle.std.specs.Prelude.{IfSome}
-use Rattle.dbtg_outcomes.specs.declared.transitions.Transition.{Transition}
+use Rattle.dbtg_states.specs.declared.transitions.Transition.{Transition}
 use Rattle.dbtg_outcomes.specs.declared.walk.Walk.{Walk}
 use Rattle.dbtg_outcomes.specs.Results.{Meeting}
 use Rattle.dbtg_outcomes.specs.Inside.Transitions.{IsKnown, WasSeen}
-use Rattle.dbtg_outcomes.specs.Transitions.{AreLooks}
+use Rattle.dbtg_states.specs.Transitions.{AreLooks}
 use Rattle.dbtg_outcomes.proofs.States.Walks.{stands_noted}
 use Rattle.dbtg_outcomes.proofs.meeting.Meeting.remember.Goals as goal
 

@@ -3,7 +3,8 @@ use Rattle.std.specs.Prelude.{flat_map}
 use Rattle.std.specs.List.{range_with_len}
 use Rattle.dbtg_script.specs.Printing.Texts.{run_text}
 use Rattle.dbtg_unit.specs.Database.Laws.Replaying.{statements_of}
-use Rattle.dbtg_outcomes.specs.Results.{answers_told, by_unit}
+use Rattle.dbtg_states.specs.Users.{by_unit}
+use Rattle.dbtg_outcomes.specs.Results.{answers_told}
 use Rattle.dbtg_outcomes.proofs.States.Runs.{history_is, image_shown, units_after_order, units_shown}
 use Rattle.std.proofs.lemmas.Result.{IfOk-weaker}
 use Rattle.dbtg_outcomes.proofs.meeting.Meeting.result_key.Goals as goal

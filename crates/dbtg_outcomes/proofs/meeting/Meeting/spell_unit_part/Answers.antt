@@ -9,10 +9,10 @@ use Rattle.dbtg_unit.specs.Database.Laws.Replaying.{statements_of}
 use Rattle.dbtg_step.specs.Core.Whole.{Making}
 use Rattle.dbtg_outcomes.specs.Orders.{made}
 use Rattle.dbtg_outcomes.specs.Results.{state_of, unit_answers}
-use Rattle.dbtg_outcomes.specs.Spelling.{unit_numbers}
+use Rattle.dbtg_states.specs.Spelling.{unit_numbers}
 use Rattle.dbtg_outcomes.proofs.States.Histories.{made_is}
 use Rattle.dbtg_outcomes.proofs.States.Runs.{units_shown}
-use Rattle.dbtg_outcomes.proofs.States.ShownParts.{spelled_behind}
+use Rattle.dbtg_states.proofs.States.ShownParts.{spelled_behind}
 use Rattle.dbtg_outcomes.proofs.meeting.Meeting.spell_unit_part.Goals as goal
 
 pub returns : goal.returns

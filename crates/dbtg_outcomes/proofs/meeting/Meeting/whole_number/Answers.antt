@@ -5,12 +5,12 @@ use Rattle.dbtg_cells.specs.CellNumbers.{cells_in_order, is_cell}
 use Rattle.dbtg_cells.specs.declared.name.CellName.{CellName}
 use Rattle.dbtg_unit.specs.Database.Laws.Replaying.{statements_of}
 use Rattle.dbtg_step.specs.Core.Whole.{Making}
-use Rattle.dbtg_outcomes.specs.Numbers.{IsNumberBut}
+use Rattle.dbtg_states.specs.Numbers.{IsNumberBut}
 use Rattle.dbtg_outcomes.specs.Inside.Numbers.{IsNumberOf}
 use Rattle.dbtg_outcomes.specs.Inside.Parts.{parts_of}
 use Rattle.dbtg_outcomes.specs.Inside.Walks.{IsMaking}
 use Rattle.dbtg_outcomes.proofs.States.LeadOn.{legal_now}
-use Rattle.dbtg_outcomes.proofs.States.Numbers.{all_are_cells, grow_more}
+use Rattle.dbtg_states.proofs.States.Numbers.{all_are_cells, grow_more}
 use Rattle.dbtg_outcomes.proofs.meeting.Meeting.whole_number.Goals as goal
 
 pub put_cells-requires-clause-cells : goal.put_cells-requires-clause-cells

@@ -6,7 +6,7 @@ use Rattle.dbtg_outcomes.specs.declared.notes.Note.{Note}
 use Rattle.dbtg_outcomes.specs.Inside.Numbers.{IsNumberOf}
 use Rattle.dbtg_outcomes.specs.Inside.Search.{AreNotedOf}
 use Rattle.dbtg_outcomes.specs.Inside.Walks.{have_statements, order_of}
-use Rattle.dbtg_outcomes.specs.Numbers.{AreNumbers, Numbers}
+use Rattle.dbtg_states.specs.Numbers.{AreNumbers, Numbers}
 use Rattle.dbtg_outcomes.specs.Orders.{made_first}
 use Rattle.dbtg_outcomes.proofs.States.Searched.{at_first}
 use Rattle.dbtg_outcomes.proofs.search.Search.at_first.Goals as goal

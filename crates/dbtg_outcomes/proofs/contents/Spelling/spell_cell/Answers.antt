@@ -1,5 +1,0 @@
-use Rattle.dbtg_outcomes.proofs.States.Spelled.{legal_making}
-use Rattle.dbtg_outcomes.proofs.contents.Spelling.spell_cell.Goals as goal
-
-pub spell_shown-requires-clause-legal : goal.spell_shown-requires-clause-legal
-spell_shown-requires-clause-legal c = legal_making c.args.database.now c.requires.sound c.history-history.ensures.of

@@ -1,5 +1,0 @@
-use Rattle.dbtg_outcomes.proofs.States.Alike.{go_on_alike}
-use Rattle.dbtg_outcomes.proofs.laws.order_of_opening_is_no_state.Goals as goal
-
-pub returns : goal.returns
-returns c = go_on_alike

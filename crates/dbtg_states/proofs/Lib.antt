@@ -1,0 +1,4 @@
+mod Naming
+pub mod Ranges
+mod Rows
+pub mod States

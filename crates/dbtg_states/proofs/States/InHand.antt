@@ -1,0 +1,54 @@
+-- Copies of cells that are held, one more at a time; and the names of what is held.
+-- c is the name of a cell, db a database.
+use Rattle.std.proofs.Common.{◌≡◌, refl, ℕ, Bool, true, false, cond, List, [], ◌∷◌, ◌++◌, Option, Some, None, Bor, sym, ap, subst, inl, inr, ⊎_elim}
+use Rattle.std.specs.Prelude.{◌||◌, is_some}
+use Rattle.std.specs.Option.{option_copied}
+use Rattle.std.specs.List.{list_any}
+use Rattle.std.proofs.lemmas.Bool.{true≢false, cases_Bool, false≢true}
+use Rattle.dbtg_schema.specs.Lists.{Lists}
+use Rattle.dbtg_cells.specs.Cells.{shown}
+use Rattle.dbtg_cells.specs.Names.{name_eq}
+use Rattle.dbtg_cells.specs.declared.cell.Cell.{Cell}
+use Rattle.dbtg_cells.specs.declared.name.CellName.{CellName}
+use Rattle.dbtg_cells.proofs.Public.{name_eq_refl, same_name}
+use Rattle.dbtg_unit.specs.Database.State.Base.{Database}
+use Rattle.dbtg_unit.specs.Database.State.Cells.{cell}
+use Rattle.dbtg_unit.specs.Hands.Hands.{cell_of}
+use Rattle.dbtg_unit.specs.Hands.Local.{AllAgree, holds, names_of}
+use Rattle.dbtg_unit.proofs.Public.{In}
+
+-- a cell that is not found is not held
+pub not_held : (cells : List (CellName × Cell)) (c : CellName) → is_some (cell_of c cells) ≡ false → list_any (λ e. name_eq c e.0) cells ≡ false
+not_held [] c none = refl
+not_held (e ∷ es) c none = by (name_eq c e.0) none (not_held es c) where
+  by : (b : Bool) → is_some (cond b (Some e.1) (cell_of c es)) ≡ false → (is_some (cell_of c es) ≡ false → list_any (λ d. name_eq c d.0) es ≡ false) → (b || list_any (λ d. name_eq c d.0) es) ≡ false
+  by true h f = absurd (true≢false h)
+  by false h f = f h
+
+-- one more cell that the database has so
+pub agree_more : (schema : Lists) (capacity : ℕ) (db : Database) (cells : List (CellName × Cell)) (c : CellName) (x : Cell) → AllAgree schema capacity db cells → shown x ≡ cell schema capacity db c → AllAgree schema capacity db (cells ++ (c, x) ∷ [])
+agree_more schema capacity db [] c x h e = (e, tt)
+agree_more schema capacity db (d ∷ ds) c x h e = (h.0, agree_more schema capacity db ds c x h.1 e)
+
+-- what is read through a reference is there just where the reference is
+pub copied_some : (r : Option (Bor Cell)) → is_some (option_copied r) ≡ is_some r
+copied_some None = refl
+copied_some (Some r) = refl
+
+-- NAMES
+
+pub held_in : (cells : List (CellName × Cell)) (c : CellName) → holds cells c ≡ true → In c (names_of cells)
+held_in [] c h = absurd (false≢true h)
+held_in (e ∷ es) c h =
+    elim (cases_Bool (name_eq c e.0)) [
+      | inl same ↦ inl (sym (same_name c e.0 same))
+      | inr apart ↦ inr (held_in es c (subst (λ b. cond b true (holds es c) ≡ true) apart h))
+    ]
+
+pub in_held : (cells : List (CellName × Cell)) (c : CellName) → In c (names_of cells) → holds cells c ≡ true
+in_held [] c i = absurd i
+in_held (e ∷ es) c i =
+    ⊎_elim
+    (λ same. subst (λ (d : CellName). holds (e ∷ es) d ≡ true) same (ap (λ b. cond b true (holds es e.0)) (name_eq_refl e.0)))
+    (λ j. elim (name_eq c e.0) as (λ b. cond b true (holds es c) ≡ true) [ true ↦ refl | false ↦ in_held es c j ])
+    i

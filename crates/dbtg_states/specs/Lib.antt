@@ -1,0 +1,11 @@
+pub mod Alike
+pub mod Among
+pub mod Brief
+pub mod Looked
+pub mod Named
+pub mod Numbers
+pub mod Parts
+pub mod Spelling
+pub mod Transitions
+pub mod Users
+pub mod Inside
