@@ -24,10 +24,10 @@ loop-place-preserved c =
     let table = c.args.board.now.shared.table_id in
     let i = c.loop-place.invariant in let p = c.push_reserved.ensures in let cut = c.cut_off-seat.ensures in
     let inside : c.loop-place.place < about.units = (let t = c.loop-place-test.true in omega arith) in
-    let new = c.in-Ok.ensures ∙ ap (λ (t : TableId). opening_view t about (c.loop-place.place + 1)) (cut.cut.0 ∙ i.rest.0) in
+    let new = c.in_ok-unit.ensures ∙ ap (λ (t : TableId). opening_view t about (c.loop-place.place + 1)) (cut.cut.0 ∙ i.rest.0) in
     record {
       rest = (cut.left.0 ∙ i.rest.0, cut_left about c.loop-place.place inside c.loop-place.rest.me i.rest.1 c.cut_off-seat.new.seat.me cut.left.2);
-      made = views_more table about c.loop-place.place (c.loop-place.place + 1) c.loop-place.made.items c.push_reserved.new.self.items c.in-Ok.unit refl i.made new p.items;
+      made = views_more table about c.loop-place.place (c.loop-place.place + 1) c.loop-place.made.items c.push_reserved.new.self.items c.in_ok-unit.unit refl i.made new p.items;
       long = (let h = i.long in let q = p.len in omega arith);
       room = (let h = i.room in let q = p.capacity in omega arith);
       few = (i.few.0, (let t = c.loop-place-test.true in omega arith));
@@ -41,11 +41,11 @@ newcomer-requires-2-clause-seat c =
     let inside : c.loop-place.place < about.units = omega arith in
     one_left about c.loop-place.place inside c.loop-place.rest.me i.rest.1 about.units last refl
 
-pub returns-in-Ok-newcomer : goal.returns-in-Ok-newcomer
-returns-in-Ok-newcomer c =
+pub returns : goal.returns
+returns c =
     let about = c.args.about.now in
     let table = c.args.board.now.shared.table_id in
     let i = c.loop-place.invariant in
     let last : about.units ≡ c.loop-place.place + 1 = (let t = c.loop-place-test.false in let f = i.few in omega arith) in
-    let new = c.in-Ok-newcomer.ensures ∙ ap (λ (t : TableId). opening_view t about about.units) i.rest.0 in
-    views_more table about c.loop-place.place about.units c.loop-place.made.items c.push_reserved-in-Ok-newcomer.new.self.items c.in-Ok-newcomer.unit last i.made new c.push_reserved-in-Ok-newcomer.ensures.items
+    let new = c.in_ok-unit-2.ensures ∙ ap (λ (t : TableId). opening_view t about about.units) i.rest.0 in
+    views_more table about c.loop-place.place about.units c.loop-place.made.items c.push_reserved-2.new.self.items c.in_ok-unit-2.unit last i.made new c.push_reserved-2.ensures.items
