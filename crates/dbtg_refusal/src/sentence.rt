@@ -200,6 +200,8 @@ pub fn refusal_text(
 ) -> Result<Vec<u8>, AllocError>
     ensures { IfOk result (λ out. (capacity : ℕ) (db : Database) → Legal schema.now capacity db → image.now ≡ image_of schema.now capacity db → out.items ≡ refusal_text schema.now capacity db unit.now statement.now cause) }
 {
-    let found = obstacle_of(alloc, schema, image, unit, statement, cause)?;
-    sentence_of(alloc, schema, cause, found)
+    match obstacle_of(alloc, schema, image, unit, statement, cause) {
+        Ok(found) => sentence_of(alloc, schema, cause, found),
+        Err(error) => Err(error),
+    }
 }
