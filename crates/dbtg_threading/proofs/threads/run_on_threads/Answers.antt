@@ -17,16 +17,16 @@ said_of-requires-clause-made g c =
     let all = subst (λ s. IsHistoryOfAll s c.args.capacity c.args.lineup.programs.now c.in_ok-settled.settled) c.in_ok-own.ensures c.in_ok-settled.ensures in
     subst (HaveMade schema c.args.lineup.programs.now) (sym c.as_slice-history.ensures) all.made
 
-pub returns-in-Ok-Some : goal.returns-in-Ok-Some
-returns-in-Ok-Some g c =
+pub returns-in-Some-2 : goal.returns-in-Some-2
+returns-in-Some-2 g c =
     let schema = c.args.schema.now in
     let programs = c.args.lineup.programs.now in
     let settled = c.in_ok-settled.settled in
     let all = subst (λ s. IsHistoryOfAll s c.args.capacity programs settled) c.in_ok-own.ensures c.in_ok-settled.ensures in
     let given = c.given_of.ensures in
-    let said = c.in-Ok-Some.said in
-    let by_turns = MatchOption-at_some ⊤ (λ (said : Said). AreBetween c.args.lineup.around (length programs) (map (λ (e : Entry). e.unit) c.as_slice-history.result.now) said.turns.items) said c.in-Ok-Some.field-0-is c.in-Ok-Some.ensures.turns in
-    let by_programs = MatchOption-at_some ⊤ (λ (said : Said). said.programs ≡ each_reached schema 1 programs c.as_slice-history.result.now) said c.in-Ok-Some.field-0-is c.in-Ok-Some.ensures.programs in
+    let said = c.in-Some-2.said in
+    let by_turns = MatchOption-at_some ⊤ (λ (said : Said). AreBetween c.args.lineup.around (length programs) (map (λ (e : Entry). e.unit) c.as_slice-history.result.now) said.turns.items) said c.in-Some-2.is c.in_ok-said.ensures.turns in
+    let by_programs = MatchOption-at_some ⊤ (λ (said : Said). said.programs ≡ each_reached schema 1 programs c.as_slice-history.result.now) said c.in-Some-2.is c.in_ok-said.ensures.programs in
     let between = subst (λ es. AreBetween c.args.lineup.around (length programs) (map (λ (e : Entry). e.unit) es) said.turns.items) c.as_slice-history.ensures by_turns in
     run_on_threads schema c.args.capacity programs c.args.lineup.around c.given_of.result.turns.items settled c.given_of.result.given all
     (subst (λ t. AreBetween c.args.lineup.around (length programs) (map (λ (e : Entry). e.unit) settled.history) t) (sym (λ i. (given.turns i).items)) between)
