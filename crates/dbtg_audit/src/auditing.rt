@@ -113,16 +113,16 @@ fn audited_of(
         → HasMadeUpTo statuses old recorded.traced found database.entry → IsAudited statuses old.schema old.capacity recorded audited) }
 {
     let run = database.into_run()?;
-    Ok(match found {
-        None => Audited::Equal(run),
+    match found {
+        None => Ok(Audited::Equal(run)),
         Some((line, said)) => {
-            Audited::Differs(Difference {
+            Ok(Audited::Differs(Difference {
                 line,
                 said,
                 history: run.into_history(),
-            })
+            }))
         }
-    })
+    }
 }
 
 /// Whether the sequential database gives the answers of a trace; only statuses are compared if that is asked. The statements

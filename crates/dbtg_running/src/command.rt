@@ -174,9 +174,7 @@ fn run_read<S: Source>(
 {
     let turns = turns_wanted(alloc, source)?;
     let given = run_wanted(alloc, known, programs.list.as_slice(), &turns, options)?;
-    let printed = print_run(alloc, known, programs, options.form, &given);
-    drop(given);
-    Ok(printed?)
+    Ok(print_run(alloc, known, programs, options.form, &given)?)
 }
 
 // What is printed of the programs over a schema that was read.

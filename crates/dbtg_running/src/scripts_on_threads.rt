@@ -19,7 +19,7 @@ ghost use Rattle.dbtg_command.specs.declared.order.OrderKind.TheVariants.{Serial
 use dbtg_command::{AtHand, Fault, Order, Source, copy_each_script};
 use dbtg_replay::replay::{AnswerForm, Shown, push_given, schema_for_run};
 use dbtg_replay::{Scripts, first_turns, read_scripts_with_texts, units_in_turn};
-use dbtg_run::{Database, NoGate, RunUnit, Settled, Unsettled, run_script, run_units};
+use dbtg_run::{Database, NoGate, RunUnit, Settled, run_script, run_units};
 use dbtg_schema::{Row, Schema};
 use dbtg_script::turns_text;
 use dbtg_step::Run;
@@ -42,12 +42,11 @@ fn given_of(alloc: Global, settled: Settled) -> Run
     ensures units { result.units ≡ settled.units }
 {
     let Settled {
-        schema,
         image,
         history,
         units,
+        ..
     } = settled;
-    drop(schema);
     Run {
         results: Row::of(Vec::new(alloc)),
         image,
@@ -114,10 +113,7 @@ fn run_of<R: Threads + Wait + Sync>(
     match run_units(rt, alloc, db, units, scripts, &NoGate) {
         Ok(settled) => Ok(settled),
         // All units of the database came, so it was memory that was refused.
-        Err(unsettled) => {
-            drop(unsettled);
-            Err(AllocError)
-        }
+        Err(_) => Err(AllocError),
     }
 }
 
@@ -164,20 +160,10 @@ fn run_behind_first<R: Threads + Wait + Sync>(
 {
     let (db, units) = Database::make(alloc, schema, capacity, scripts.len() as u8)?;
     let mut units = units;
-    let ran = match make_first(rt, alloc, &db, &mut units, scripts) {
-        Ok(left) => run_units(rt, alloc, db, units, left.as_slice(), &NoGate),
-        Err(_) => Err(Unsettled {
-            fault: dbtg_run::Fault::NoMemory,
-            db,
-            units,
-        }),
-    };
-    match ran {
+    let left = make_first(rt, alloc, &db, &mut units, scripts)?;
+    match run_units(rt, alloc, db, units, left.as_slice(), &NoGate) {
         Ok(settled) => Ok(settled),
-        Err(unsettled) => {
-            drop(unsettled);
-            Err(AllocError)
-        }
+        Err(_) => Err(AllocError),
     }
 }
 
@@ -223,9 +209,7 @@ fn threads_text<R: Threads + Wait + Sync>(
     let turns = first_turns(alloc, first, scripts)?;
     'again: for _ in rt.forever() {
         let given = run_scripts(rt, alloc, schema, capacity, scripts, first)?;
-        let found = said_of(alloc, schema, shown, &given, turns.as_slice());
-        drop(given);
-        if let Some(said) = found? {
+        if let Some(said) = said_of(alloc, schema, shown, &given, turns.as_slice())? {
             return Ok(said);
         }
     }

@@ -68,9 +68,7 @@ fn run_known<R: Threads + Wait + Sync, S: Source>(
         around: options.around,
     };
     let on = run_on_threads(rt, alloc, known, options.capacity, lineup)?;
-    let printed = print_audited(alloc, known, &programs, options, &on);
-    drop(on);
-    Ok(printed?)
+    Ok(print_audited(alloc, known, &programs, options, &on)?)
 }
 
 /// What `run` prints of the schema and the programs that a source gives, run on threads, each to its end; or the first fault. The

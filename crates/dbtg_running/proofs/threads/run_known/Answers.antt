@@ -8,8 +8,8 @@ run_on_threads-requires-clause-count g c κs within =
     let few = few_programs _ c.args.known.now _ c.as_slice.result.now c.in_ok-programs.programs.texts.items c.requires.counted (read.0, c.as_slice.ensures.value ∙ read.1, read.2) in
     (few.0, few.1)
 
-pub print_audited-printed-requires-clause-few : goal.print_audited-printed-requires-clause-few
-print_audited-printed-requires-clause-few g c =
+pub print_audited-requires-clause-few : goal.print_audited-requires-clause-few
+print_audited-requires-clause-few g c =
     let read = c.in_ok-programs.ensures.read in
     let few = few_programs _ c.args.known.now _ c.as_slice.result.now c.in_ok-programs.programs.texts.items c.requires.counted (read.0, c.as_slice.ensures.value ∙ read.1, read.2) in
     omega (arith, few.2)
@@ -17,5 +17,5 @@ print_audited-printed-requires-clause-few g c =
 pub returns-clause-done : goal.returns-clause-done
 returns-clause-done g c =
     let read = c.in_ok-programs.ensures.read in
-    runs_on_threads _ c.args.known.now _ c.args.options c.as_slice.result.now c.in_ok-programs.programs.texts.items c.in_ok-on.on.turns.items c.in_ok-on.on.given c.in_ok-printed.field-0 c.requires.counted c.requires.schema
-    (read.0, c.as_slice.ensures.value ∙ read.1, read.2) c.in_ok-on.ensures c.in_ok-printed.ensures
+    runs_on_threads _ c.args.known.now _ c.args.options c.as_slice.result.now c.in_ok-programs.programs.texts.items c.in_ok-on.on.turns.items c.in_ok-on.on.given c.in_ok-print_audited.field-0 c.requires.counted c.requires.schema
+    (read.0, c.as_slice.ensures.value ∙ read.1, read.2) c.in_ok-on.ensures c.in_ok-print_audited.ensures
