@@ -266,29 +266,14 @@ fn outcomes_text(
     ensures refused { IfErr result (λ fault. IsUntold meeting.now all.now fault) }
 {
     let mut out = Vec::new(alloc);
-    if push_summary(&mut out, all).is_err() {
-        drop(core);
-        return Err(Fault::Memory);
-    }
+    push_summary(&mut out, all)?;
     let mut number = 0;
     for one in &all.results {
         number += 1;
         core = core.after(one.turns.as_slice())?;
-        match core.turned() {
-            Ok(turned) => {
-                let pushed = push_result(alloc, &mut out, meeting, showing, number, one, turned);
-                if let Err(fault) = pushed {
-                    drop(core);
-                    return Err(fault);
-                }
-            }
-            Err(_) => {
-                drop(core);
-                return Err(Fault::Memory);
-            }
-        }
+        let turned = core.turned()?;
+        push_result(alloc, &mut out, meeting, showing, number, one, turned)?;
     }
-    drop(core);
     Ok(out)
 }
 

@@ -1,5 +1,6 @@
 use Rattle.std.proofs.Common.{ℕ, ◌≡◌, ◌≤◌, ◌+◌, ◌∙◌, List, ap, arith, get_or, length, subst, sym}
 use Rattle.std.proofs.lemmas.List.{take_all}
+use Rattle.std.proofs.lemmas.Result.{err_from_is_err_and}
 use Rattle.dbtg_outcomes.specs.declared.outcomes.OneResult.{OneResult}
 use Rattle.dbtg_listing.specs.declared.listing.Showing.{Showing}
 use Rattle.dbtg_listing.specs.Listing.{AreResultTexts}
@@ -7,17 +8,18 @@ use Rattle.dbtg_listing.specs.Inside.Listing.{IsFront}
 use Rattle.dbtg_listing.proofs.Listings.{one_more_taken, runs_on, untold_of}
 use Rattle.dbtg_listing.proofs.listing.outcomes_text.Goals as goal
 
-pub returns-in-Err-pushed-clause-refused : goal.returns-in-Err-pushed-clause-refused
-returns-in-Err-pushed-clause-refused c =
+pub returns-in_err-push_result-clause-refused : goal.returns-in_err-push_result-clause-refused
+returns-in_err-push_result-clause-refused c =
     let at = subst (λ (xs : List OneResult). c.one-item.result ≡ get_or xs c.loop-one.one-index c.one-item.result) c.deref-one-items.ensures.value c.one-item.is in
-    untold_of c.args.meeting.now c.args.all.now c.loop-one.one-index c.one-item.result (omega (arith, c.loop-one-test.true)) at _ c.in-Err-pushed.ensures.refused
+    let told = err_from_is_err_and c.from_residual-in_err-push_result.result c.from_residual-in_err-push_result.ensures.1 in
+    rw (told.1, told.2) (untold_of c.args.meeting.now c.args.all.now c.loop-one.one-index c.one-item.result (omega (arith, c.loop-one-test.true)) at _ c.in_err-push_result.ensures.refused)
 
 pub loop-one-preserved : goal.loop-one-preserved
 loop-one-preserved c =
     let m = c.args.meeting.now in
     let at = subst (λ (xs : List OneResult). c.one-item.result ≡ get_or xs c.loop-one.one-index c.one-item.result) c.deref-one-items.ensures.value c.one-item.is in
     let told = c.loop-one.invariant.told in
-    let new = c.in_default.ensures.done in
+    let new = c.in_ok-push_result.ensures.done in
     let next : c.loop-one.number + 1 ≡ c.loop-one.one-index + 1 = ap (λ n. n + 1) c.loop-one.invariant.number in
     record {
       number = next;
