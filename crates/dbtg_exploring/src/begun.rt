@@ -77,8 +77,5 @@ pub fn begun_turns(alloc: Global, setting: &Setting) -> Result<Vec<u8>, AllocErr
         setting.programs,
         turns.as_slice(),
     )?;
-    let begun = units_of(alloc, database.history());
-    drop(database);
-    drop(goings);
-    begun
+    units_of(alloc, database.history())
 }

@@ -53,13 +53,8 @@ fn search_all<'a, W: Watch>(
         return Search::alone(alloc, watch, meeting, left[0].as_slice(), limit);
     }
     let mut search = Search::begin(alloc, meeting, limit)?;
-    match search.pass(alloc, watch, meeting, left) {
-        Ok(()) => Ok(search),
-        Err(stop) => {
-            drop(search);
-            Err(stop)
-        }
-    }
+    search.pass(alloc, watch, meeting, left)?;
+    Ok(search)
 }
 
 // Adds a group to the group of its result.
@@ -195,7 +190,5 @@ pub fn all_outcomes<W: Watch>(
     ensures at_once { limit ≡ 0 → MatchResult result (λ _. ⊥) (λ stop. stop ≡ States) }
 {
     let mut search = search_all(alloc, watch, meeting, limit)?;
-    let outcomes = outcomes_of(alloc, meeting, &mut search);
-    drop(search);
-    Ok(outcomes?)
+    Ok(outcomes_of(alloc, meeting, &mut search)?)
 }

@@ -209,8 +209,7 @@ impl<'a> Hunt<'a> {
     fn into_broken(self) -> Option<Row<u8>>
         ensures { result ≡ self.entry.broken }
     {
-        let Hunt { search, broken } = self;
-        drop(search);
+        let Self { search: _, broken } = self;
         broken
     }
 }

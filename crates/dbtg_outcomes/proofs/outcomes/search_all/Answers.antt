@@ -25,8 +25,8 @@ returns-in_err-search-clause-at_once g c = λ none.
     let told = err_from_is_err_and c.from_residual.result c.from_residual.ensures.1 in
     rw (told.1, told.2) (c.in_err-search.ensures.at_once none)
 
-pub returns-in-Ok-clause-at : goal.returns-in-Ok-clause-at
-returns-in-Ok-clause-at g c =
+pub returns-clause-at : goal.returns-clause-at
+returns-clause-at g c =
     let m = c.args.meeting.now in
     let all : 0 + count_statements c.others-left.result.now ≡ count_statements (others m.first m.scripts) = omega (arith, ap count_statements c.others-left.ensures) in
-    subst (λ (n : ℕ). IsAt m n c.pass.new.self) all (c.in-Ok.ensures.advances.goes 0 c.in_ok-search.ensures.at).at
+    subst (λ (n : ℕ). IsAt m n c.pass.new.self) all (c.in_ok-pass.ensures.advances.goes 0 c.in_ok-search.ensures.at).at
