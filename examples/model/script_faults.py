@@ -311,12 +311,14 @@ def script_faults(schema, text):
         return [Fault((-1, 0), 0, 14, 1)]
     count, judged = 0, {}
     for number, line in enumerate(lines_of(text), 1):
-        count += has_statement(line)
-        surplus = [Fault((number, WHOLE), 0, 14, number)] if has_statement(line) and count > MOST_STATEMENTS else []
-        if line not in judged or surplus:
-            judged[line] = surplus + line_faults(schema, number, line)
-        if judged[line]:
-            return judged[line]
+        if line not in judged:
+            judged[line] = has_statement(line), line_faults(schema, number, line)
+        is_made, faults = judged[line]
+        count += is_made
+        if is_made and count > MOST_STATEMENTS:
+            return [Fault((number, WHOLE), 0, 14, number), *line_faults(schema, number, line)]
+        if faults:
+            return faults
     return []
 
 

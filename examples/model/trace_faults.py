@@ -65,18 +65,25 @@ def entry_fault(schema, units, line):
     return 0 if is_answer(schema, parts[1]) else 33
 
 
+def line_fault(schema, units, line):
+    """The fault of any line; nothing where it has none."""
+    if has_statement(line):
+        return entry_fault(schema, units, line)
+    return 1 if len(line) > LONGEST_LINE or re.search(r"[^ -~]", line) else 0
+
+
 def trace_refusal(schema, units, text):
     """The number and the line of a trace's first fault; nothing where it has none. Its bytes are given as characters of the same numbers."""
     if len(text) > LONGEST_TRACE:
         return 14, 1
-    count = 0
+    count, judged = 0, {}
     for number, line in enumerate(lines_of(text), 1):
-        if not has_statement(line):
-            if len(line) > LONGEST_LINE or re.search(r"[^ -~]", line):
-                return 1, number
-            continue
-        count += 1
-        fault = 14 if count > MOST_LINES else entry_fault(schema, units, line)
+        if line not in judged:
+            judged[line] = has_statement(line), line_fault(schema, units, line)
+        is_made, fault = judged[line]
+        count += is_made
+        if is_made and count > MOST_LINES:
+            return 14, number
         if fault:
             return fault, number
     return None

@@ -52,13 +52,14 @@ def statement_count(text):
 
 def order_refusal(text, shape):
     """The number and the word of the first fault of moves or turns, whose words have this shape; nothing where there is none."""
-    total = 0
+    total, steps = 0, {}
     for number, word in enumerate(re.findall(rb"[^ \t\r\n]+", text), 1):
-        found = shape.fullmatch(word)
-        steps = int(found[4] or 1) if found else 0
-        if not found or steps > MOST_MOVES:
+        if word not in steps:
+            found = shape.fullmatch(word)
+            steps[word] = int(found[4] or 1) if found else MOST_MOVES + 1
+        if steps[word] > MOST_MOVES:
             return 1, number
-        total += steps
+        total += steps[word]
         if total > MOST_MOVES:
             return 2, number
     return None
