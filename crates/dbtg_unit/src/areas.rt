@@ -94,7 +94,12 @@ fn ask_of_rekeyed(
 fn ask_of_clauses(schema: &Schema, unit: &Unit, question: &Question, clauses: &[Member]) -> bool
     ensures { result ≡ list_any (λ m. asks unit.now.modes question.now (area_of schema.now m.rtype)) clauses.now }
 {
-    clauses.iter().any(|clause| asks(unit, question, schema.area_of(clause.rtype)))
+    for clause in clauses {
+        if asks(unit, question, schema.area_of(clause.rtype)) {
+            return true;
+        }
+    }
+    false
 }
 
 // About the areas of the set's member types.
@@ -129,7 +134,6 @@ pub(crate) fn ask_of_find(schema: &Schema, unit: &Unit, question: &Question, for
     ensures { result ≡ list_any (asks unit.now.modes question.now) (find_areas schema.now unit.now form.now) }
 {
     match form {
-        Form::Key(key) => asks(unit, question, schema.area_of(key.rtype)),
         Form::CurrentOfUnit => ask_of_key(schema, unit, question, unit.currency.run_unit),
         Form::CurrentOfSet(set) => { ask_of_key(schema, unit, question, unit.key_in(schema, *set)) }
         Form::CurrentOfArea(area) => {
@@ -142,27 +146,28 @@ pub(crate) fn ask_of_find(schema: &Schema, unit: &Unit, question: &Question, for
         }
         Form::InArea { area, .. } => asks(unit, question, *area),
         Form::OwnerOf(set) => asks(unit, question, schema.home(*set)),
-        Form::CurrentOfType(rtype) | Form::NextDuplicate(rtype) | Form::Calc { rtype, .. } => {
-            asks(unit, question, schema.area_of(*rtype))
-        }
+        Form::Key(DbKey { rtype, .. })
+        | Form::CurrentOfType(rtype)
+        | Form::NextDuplicate(rtype)
+        | Form::Calc { rtype, .. } => asks(unit, question, schema.area_of(*rtype)),
         Form::Sorted { set, .. } => {
             asks(unit, question, schema.home(*set)) || ask_of_members(schema, unit, question, *set)
         }
     }
 }
 
-// About an area, if it is in the set.
-fn ask_if_in(unit: &Unit, question: &Question, areas: &AreaSet, area: AreaNo) -> bool
-    ensures { result ≡ (marked areas.now area && asks unit.now.modes question.now area) }
-{
-    areas.contains(area) && asks(unit, question, area)
-}
-
 // About the areas in the set.
+#[tactic(auto, using(crate::proofs::Lists::FromZeroUp::numbers_next, crate::proofs::Lists::FromZeroUp::numbers_end))]
 fn ask_of_marked(schema: &Schema, unit: &Unit, question: &Question, areas: &AreaSet) -> bool
     ensures { result ≡ list_any (λ a. marked areas.now a && asks unit.now.modes question.now a) (range_with_len 0 (length schema.now.areas)) }
 {
-    (0..area_count(schema)).any(|a| ask_if_in(unit, question, areas, AreaNo::new(a)))
+    for a in 0..area_count(schema) {
+        let area = AreaNo::new(a);
+        if areas.contains(area) && asks(unit, question, area) {
+            return true;
+        }
+    }
+    false
 }
 
 // About the areas of a DELETE of a record of this type.
@@ -183,8 +188,9 @@ pub(crate) fn ask_of_areas(
     ensures { result ≡ list_any (asks unit.now.modes question.now) (areas_of schema.now unit.now statement.now) }
 {
     match statement {
-        Statement::OpenArea { area, .. } => asks(unit, question, *area),
-        Statement::CloseArea(area) => asks(unit, question, *area),
+        Statement::OpenArea { area, .. } | Statement::CloseArea(area) => {
+            asks(unit, question, *area)
+        }
         Statement::Find(_, form) => ask_of_find(schema, unit, question, form),
         Statement::Store { rtype, .. } => {
             asks(unit, question, schema.area_of(*rtype))

@@ -83,12 +83,6 @@ fn is_among(areas: &[u8], area: u8) -> bool
     false
 }
 
-fn cell_at(cells: &[Cell], at: usize) -> Option<&Cell>
-    ensures { option_copied result ≡ slice_get cells.now at }
-{
-    cells.get(at)
-}
-
 // The cell with this name.
 fn cell_named<'a>(
     names: &[CellName],
@@ -103,7 +97,7 @@ fn cell_named<'a>(
     ensures { option_copied result ≡ cell_of name.now (zip names.now cells.now) }
 {
     match find_place(names, first, index, name) {
-        Some(at) => cell_at(cells, at),
+        Some(at) => cells.get(at),
         None => None,
     }
 }
@@ -303,10 +297,10 @@ impl Held {
             self.cells.as_slice(),
             &CellName::Slot(key.rtype, key.number),
         );
-        match stored_of(cell, key.generation) {
-            Some(stored) => self.guesses = stored.owners.all(),
-            None => self.guesses = Owners::none(0),
-        }
+        self.guesses = match stored_of(cell, key.generation) {
+            Some(stored) => stored.owners.all(),
+            None => Owners::none(0),
+        };
     }
 
     /// Guesses another owner in a set.
