@@ -30,7 +30,7 @@ pub enum Question {
 fn asks(unit: &Unit, question: &Question, area: AreaNo) -> bool
     ensures { result ≡ asks unit.now.modes question.now area }
 {
-    match question {
+    match *question {
         Question::NotOpen => entry_at(unit.modes.as_slice(), area.index() as usize).is_none(),
         Question::NotUpdate => {
             match entry_at(unit.modes.as_slice(), area.index() as usize) {
@@ -133,25 +133,25 @@ fn ask_of_named(
 pub(crate) fn ask_of_find(schema: &Schema, unit: &Unit, question: &Question, form: &Form) -> bool
     ensures { result ≡ list_any (asks unit.now.modes question.now) (find_areas schema.now unit.now form.now) }
 {
-    match form {
+    match *form {
         Form::CurrentOfUnit => ask_of_key(schema, unit, question, unit.currency.run_unit),
-        Form::CurrentOfSet(set) => { ask_of_key(schema, unit, question, unit.key_in(schema, *set)) }
+        Form::CurrentOfSet(set) => ask_of_key(schema, unit, question, unit.key_in(schema, set)),
         Form::CurrentOfArea(area) => {
             let current = entry_at(unit.currency.areas.as_slice(), area.index() as usize);
             ask_of_key(schema, unit, question, current)
         }
         Form::InSet { rtype, set, .. } => {
-            asks(unit, question, schema.home(*set))
-                || ask_of_named(schema, unit, question, *set, *rtype)
+            asks(unit, question, schema.home(set))
+                || ask_of_named(schema, unit, question, set, rtype)
         }
-        Form::InArea { area, .. } => asks(unit, question, *area),
-        Form::OwnerOf(set) => asks(unit, question, schema.home(*set)),
+        Form::InArea { area, .. } => asks(unit, question, area),
+        Form::OwnerOf(set) => asks(unit, question, schema.home(set)),
         Form::Key(DbKey { rtype, .. })
         | Form::CurrentOfType(rtype)
         | Form::NextDuplicate(rtype)
-        | Form::Calc { rtype, .. } => asks(unit, question, schema.area_of(*rtype)),
+        | Form::Calc { rtype, .. } => asks(unit, question, schema.area_of(rtype)),
         Form::Sorted { set, .. } => {
-            asks(unit, question, schema.home(*set)) || ask_of_members(schema, unit, question, *set)
+            asks(unit, question, schema.home(set)) || ask_of_members(schema, unit, question, set)
         }
     }
 }
@@ -187,22 +187,20 @@ pub(crate) fn ask_of_areas(
 ) -> bool
     ensures { result ≡ list_any (asks unit.now.modes question.now) (areas_of schema.now unit.now statement.now) }
 {
-    match statement {
-        Statement::OpenArea { area, .. } | Statement::CloseArea(area) => {
-            asks(unit, question, *area)
-        }
-        Statement::Find(_, form) => ask_of_find(schema, unit, question, form),
+    match *statement {
+        Statement::OpenArea { area, .. } | Statement::CloseArea(area) => asks(unit, question, area),
+        Statement::Find(_, ref form) => ask_of_find(schema, unit, question, form),
         Statement::Store { rtype, .. } => {
-            asks(unit, question, schema.area_of(*rtype))
-                || ask_of_automatic(schema, unit, question, *rtype)
+            asks(unit, question, schema.area_of(rtype))
+                || ask_of_automatic(schema, unit, question, rtype)
         }
         Statement::Insert(set) | Statement::Remove(set) => {
-            asks(unit, question, schema.home(*set))
+            asks(unit, question, schema.home(set))
                 || ask_of_key(schema, unit, question, unit.currency.run_unit)
         }
-        Statement::Modify { rtype, changes } => {
-            asks(unit, question, schema.area_of(*rtype))
-                || ask_of_rekeyed(schema, unit, question, *rtype, changes.get().as_slice())
+        Statement::Modify { rtype, ref changes } => {
+            asks(unit, question, schema.area_of(rtype))
+                || ask_of_rekeyed(schema, unit, question, rtype, changes.get().as_slice())
         }
         Statement::Delete(_) => {
             match unit.currency.run_unit {

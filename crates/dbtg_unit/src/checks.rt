@@ -34,11 +34,12 @@ fn needs_current(statement: &Statement) -> bool
 fn accepts_type(schema: &Schema, statement: &Statement, rtype: RecordNo) -> bool
     ensures { result ≡ accepts_type schema.now statement.now rtype }
 {
-    match statement {
-        Statement::Get(Some(named)) => rtype.index() == named.index(),
-        Statement::Modify { rtype: named, .. } => rtype.index() == named.index(),
+    match *statement {
+        Statement::Get(Some(named)) | Statement::Modify { rtype: named, .. } => {
+            rtype.index() == named.index()
+        }
         Statement::Insert(set) | Statement::Remove(set) => {
-            schema.member_clause(*set, rtype).is_some()
+            schema.member_clause(set, rtype).is_some()
         }
         _ => true,
     }
@@ -115,20 +116,20 @@ fn needs_position(which: Which) -> bool
 fn find_lacks_current(schema: &Schema, unit: &Unit, form: &Form) -> bool
     ensures { result ≡ find_lacks_current schema.now unit.now form.now }
 {
-    match form {
+    match *form {
         Form::CurrentOfType(rtype) | Form::NextDuplicate(rtype) => {
             entry_at(unit.currency.types.as_slice(), rtype.index() as usize).is_none()
         }
-        Form::CurrentOfSet(set) => unit.key_in(schema, *set).is_none(),
+        Form::CurrentOfSet(set) => unit.key_in(schema, set).is_none(),
         Form::CurrentOfArea(area) => {
             entry_at(unit.currency.areas.as_slice(), area.index() as usize).is_none()
         }
         Form::InArea { which, area, .. } => {
-            needs_position(*which)
+            needs_position(which)
                 & entry_at(unit.currency.areas.as_slice(), area.index() as usize).is_none()
         }
         Form::InSet { set, .. } | Form::OwnerOf(set) | Form::Sorted { set, .. } => {
-            has_null(schema, unit, *set)
+            has_null(schema, unit, set)
         }
         Form::Key(_) | Form::CurrentOfUnit | Form::Calc { .. } => false,
     }
@@ -155,10 +156,10 @@ fn store_wants_null(schema: &Schema, unit: &Unit, rtype: RecordNo) -> bool
 fn lacks_current(schema: &Schema, unit: &Unit, statement: &Statement) -> bool
     ensures { result ≡ lacks_current schema.now unit.now statement.now }
 {
-    match statement {
-        Statement::Find(_, form) => find_lacks_current(schema, unit, form),
-        Statement::Store { rtype, .. } => store_wants_null(schema, unit, *rtype),
-        Statement::Insert(set) => has_null(schema, unit, *set),
+    match *statement {
+        Statement::Find(_, ref form) => find_lacks_current(schema, unit, form),
+        Statement::Store { rtype, .. } => store_wants_null(schema, unit, rtype),
+        Statement::Insert(set) => has_null(schema, unit, set),
         _ => false,
     }
 }

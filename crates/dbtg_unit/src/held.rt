@@ -83,6 +83,12 @@ fn is_among(areas: &[u8], area: u8) -> bool
     false
 }
 
+fn cell_at(cells: &[Cell], at: usize) -> Option<&Cell>
+    ensures { option_copied result ≡ slice_get cells.now at }
+{
+    cells.get(at)
+}
+
 // The cell with this name.
 fn cell_named<'a>(
     names: &[CellName],
@@ -97,7 +103,7 @@ fn cell_named<'a>(
     ensures { option_copied result ≡ cell_of name.now (zip names.now cells.now) }
 {
     match find_place(names, first, index, name) {
-        Some(at) => cells.get(at),
+        Some(at) => cell_at(cells, at),
         None => None,
     }
 }

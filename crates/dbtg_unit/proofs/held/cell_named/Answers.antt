@@ -1,7 +1,5 @@
-use Rattle.std.proofs.Common.{◌≡◌, ◌∙◌, sym, Some, None, slice_get, arith}
-use Rattle.std.proofs.lemmas.Grind.{common_steps}
+use Rattle.std.proofs.Common.{◌≡◌, ◌∙◌, sym, Some, None}
 use Rattle.std.specs.List.{position_from}
-use Rattle.std.specs.Option.{option_copied}
 use Rattle.dbtg_cells.specs.Names.{name_eq}
 use Rattle.dbtg_unit.proofs.Hands.Holding.NamesAndCells.{found_cell, no_cell}
 use Rattle.dbtg_unit.proofs.held.cell_named.Goals as goal
@@ -10,8 +8,7 @@ pub returns-in-Some : goal.returns-in-Some
 returns-in-Some c =
     let names = c.args.names.now in
     let found : position_from (name_eq c.args.name.now) 0 names ≡ Some c.in-Some.at = sym c.find_place.ensures ∙ c.in-Some.is in
-    let got : option_copied c.get.result ≡ slice_get c.args.cells.now c.in-Some.at = grind (arith, common_steps) in
-    got ∙ sym (found_cell c.args.name.now names c.args.cells.now c.in-Some.at found)
+    c.cell_at.ensures ∙ sym (found_cell c.args.name.now names c.args.cells.now c.in-Some.at found)
 
 pub returns-in-None : goal.returns-in-None
 returns-in-None c =
