@@ -114,7 +114,12 @@ impl Usage {
     pub fn conflicts_with(&self, mode: Mode) -> bool
         ensures { result ≡ list_any (λ e. modes_conflict e.1 mode) self.now.users }
     {
-        self.users.iter().any(|e| e.1.conflicts_with(mode))
+        for e in self.users.iter() {
+            if e.1.conflicts_with(mode) {
+                return true;
+            }
+        }
+        false
     }
 
     /// The mode in which a run-unit has the area open.

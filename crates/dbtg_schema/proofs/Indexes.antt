@@ -7,6 +7,7 @@ pub mod EachAt
 pub mod Erasings
 pub mod LeastClosed
 pub mod NameIndexes
+pub mod Numbers
 pub mod Places
 pub mod Positions
 pub mod SetsOfTypes

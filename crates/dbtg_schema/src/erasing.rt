@@ -48,36 +48,34 @@ pub fn marked(marks: &[bool], number: u8) -> bool
     }
 }
 
-/// Does this set lead from this owner type to this member type?
-fn leads_by(schema: &Schema, set: SetNo, owner: RecordNo, member: RecordNo) -> bool
-    ensures { result ≡ (owns schema.now set owner && is_some (member_clause schema.now set member)) }
-{
-    schema.owns(set, owner) && schema.member_clause(set, member).is_some()
-}
-
 /// Does one of the schema's sets, of which there are `sets`, lead from this owner type to this member type?
-#[tactic(auto, unfolding(crate::specs::Inside::Erasing::leads_to))]
+#[tactic(auto, using(crate::proofs::Indexes::Numbers::numbers_next, crate::proofs::Indexes::Numbers::numbers_end), unfolding(crate::specs::Inside::Erasing::leads_to))]
 fn leads_to(schema: &Schema, sets: u8, owner: RecordNo, member: RecordNo) -> bool
     requires { sets ≡ length schema.now.sets }
     ensures { result ≡ leads_to schema.now owner member }
 {
-    (0..sets).any(|s| leads_by(schema, SetNo::new(s), owner, member))
-}
-
-/// Is this the home area of this set, and is the type a member of it?
-fn is_home_by(schema: &Schema, set: SetNo, rtype: RecordNo, area: AreaNo) -> bool
-    ensures { result ≡ (is_some (member_clause schema.now set rtype) && home schema.now set == area) }
-{
-    schema.member_clause(set, rtype).is_some() && schema.home(set).index() == area.index()
+    for s in 0..sets {
+        let set = SetNo::new(s);
+        if schema.owns(set, owner) && schema.member_clause(set, member).is_some() {
+            return true;
+        }
+    }
+    false
 }
 
 /// Is this the home area of a set of which the type is a member?
-#[tactic(auto, unfolding(crate::specs::Inside::Erasing::is_home_of))]
+#[tactic(auto, using(crate::proofs::Indexes::Numbers::numbers_next, crate::proofs::Indexes::Numbers::numbers_end), unfolding(crate::specs::Inside::Erasing::is_home_of))]
 fn is_home_of(schema: &Schema, sets: u8, rtype: RecordNo, area: AreaNo) -> bool
     requires { sets ≡ length schema.now.sets }
     ensures { result ≡ is_home_of schema.now rtype area }
 {
-    (0..sets).any(|s| is_home_by(schema, SetNo::new(s), rtype, area))
+    for s in 0..sets {
+        let set = SetNo::new(s);
+        if schema.member_clause(set, rtype).is_some() && schema.home(set).index() == area.index() {
+            return true;
+        }
+    }
+    false
 }
 
 fn touches(schema: &Schema, sets: u8, rtype: RecordNo, area: AreaNo) -> bool
@@ -147,19 +145,17 @@ fn marked_in(table: &[[bool; MOST_RECORD_TYPES]], row: u8, number: u8) -> bool
     }
 }
 
-/// Is this row marked, and does it have this mark?
-fn is_given_by(table: &[[bool; MOST_RECORD_TYPES]], marks: &[bool], row: u8, number: u8) -> bool
-    ensures { result ≡ (marked marks.now row && marked_in table.now row number) }
-{
-    marked(marks, row) && marked_in(table, row, number)
-}
-
 /// Does a marked row, among the first `rows` of the table, have this mark?
-#[tactic(auto, unfolding(crate::specs::Inside::Erasing::is_given))]
+#[tactic(auto, using(crate::proofs::Indexes::Numbers::numbers_next, crate::proofs::Indexes::Numbers::numbers_end), unfolding(crate::specs::Inside::Erasing::is_given))]
 fn is_given(table: &[[bool; MOST_RECORD_TYPES]], rows: u8, marks: &[bool], number: u8) -> bool
     ensures { result ≡ is_given table.now rows marks.now number }
 {
-    (0..rows).any(|row| is_given_by(table, marks, row, number))
+    for row in 0..rows {
+        if marked(marks, row) && marked_in(table, row, number) {
+            return true;
+        }
+    }
+    false
 }
 
 /// The first type, and all types to which a marked type leads.

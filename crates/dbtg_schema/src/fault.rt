@@ -8,7 +8,7 @@ use std::alloc::{AllocError, AllocFailed};
 use thiserror::Error;
 
 /// What is wrong with a schema text. Each cause has a number, 1 to 18, by which it is printed.
-#[derive(Clone, Copy, Debug, PartialEq, Eq)]
+#[derive(Clone, Copy, Debug)]
 pub enum Cause {
     /// 1: a byte that is not allowed
     ByteNotAllowed,
@@ -77,7 +77,7 @@ impl Cause {
 }
 
 /// A fault of a text: what is wrong, and on which line, from 1.
-#[derive(Clone, Copy, Debug, PartialEq, Eq)]
+#[derive(Clone, Copy)]
 pub struct Fault {
     pub line: u64,
     pub cause: Cause,

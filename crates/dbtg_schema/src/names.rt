@@ -116,7 +116,12 @@ fn ends_in_hyphen(word: &[u8]) -> bool
 fn has_name_bytes(word: &[u8]) -> bool
     ensures { result ≡ list_all is_name_byte word.now }
 {
-    word.iter().all(|b| is_name_byte(*b))
+    for b in word {
+        if !is_name_byte(*b) {
+            return false;
+        }
+    }
+    true
 }
 
 pub fn is_name(word: &[u8]) -> bool

@@ -97,7 +97,7 @@ impl SetNo {
 }
 
 /// An item of a record type, by its place in the schema, which is what contracts see.
-#[derive(Clone, Copy, Debug, PartialEq, Eq)]
+#[derive(Clone, Copy, PartialEq, Eq)]
 pub struct ItemNo {
     index: u8,
 }

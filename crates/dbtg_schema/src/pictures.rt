@@ -34,7 +34,12 @@ fn of_size(letter: u8, size: usize) -> Option<Picture>
 fn is_run(word: &[u8], letter: u8) -> bool
     ensures { result ≡ list_all (λ b. b == letter) word.now }
 {
-    word.iter().all(|b| *b == letter)
+    for b in word {
+        if *b != letter {
+            return false;
+        }
+    }
+    true
 }
 
 pub fn spelled_picture(word: &[u8]) -> Option<Picture>

@@ -1,13 +1,12 @@
 //! A schema, and what it says of its record types, sets and areas by their numbers. Look-ups take no memory.
 
-ghost use Rattle.std.specs.Prelude.{◌≡◌, ◌==◌, ◌<◌, ◌≤◌, length, All, None, [], IfNone, IfOk, IfSome, MatchResult, filter, map, IfErr, OnOk, option_map, slice_get};
+ghost use Rattle.std.specs.Prelude.{◌≡◌, ◌==◌, ◌<◌, ◌≤◌, length, None, [], IfNone, IfOk, IfSome, MatchResult, filter, map, IfErr, OnOk, option_map, slice_get};
 ghost use Rattle.dbtg_schema.specs.declared.fault.Cause.TheVariants.{TextTooLong};
 ghost use Rattle.dbtg_schema.specs.declared.fault.SchemaFault.TheVariants.{Memory, Refused};
 ghost use Rattle.dbtg_schema.specs.Inside.Connecting.{AreConnecting};
 ghost use Rattle.dbtg_schema.specs.Inside.Erasing.{AreErased};
 ghost use Rattle.dbtg_schema.specs.Lookups.{some_and};
-ghost use Rattle.dbtg_schema.specs.Inside.NameIndexes.{IsSchemaIndex};
-ghost use Rattle.dbtg_schema.specs.Inside.SetsOfTypes.{AreSetsOf, AreSetsOfEach};
+ghost use Rattle.dbtg_schema.specs.Inside.SetsOfTypes.{AreSetsOf};
 ghost use Rattle.dbtg_schema.specs.Texts.Words.{text_words};
 ghost use Rattle.dbtg_schema.specs.Texts.Forms.{labels, Derives};
 ghost use Rattle.dbtg_schema.specs.Texts.SchemaGrammar.{fits, schema};
@@ -96,25 +95,6 @@ fn worked_out(alloc: Global, schema: Schema) -> Result<Schema, AllocError>
     Ok(schema)
 }
 
-/// The look-up tables of a schema's lists: the numbers of its names, and the sets of each record type.
-fn look_ups(
-    alloc: Global,
-    areas: &[Area],
-    types: &[RecordType],
-    sets: &[SetType],
-) -> Result<(SchemaIndex, Row<SetsOfType>), AllocError>
-    requires areas_fit { length areas.now ≤ MOST_AREAS }
-    requires types_fit { length types.now ≤ MOST_RECORD_TYPES }
-    requires sets_fit { length sets.now ≤ MOST_SETS }
-    requires items_fit { All (λ r. length r.items ≤ MOST_ITEMS) types.now }
-    ensures index { IfOk result (λ found. IsSchemaIndex found.0 areas.now types.now sets.now) }
-    ensures each { IfOk result (λ found. AreSetsOfEach found.1 (length types.now) sets.now) }
-{
-    let sets_of_types = sets_of_each(alloc, sets, types.len() as u8)?;
-    let index = SchemaIndex::of(alloc, areas, types, sets)?;
-    Ok((index, sets_of_types))
-}
-
 fn copy_areas(areas: &Row<Area>) -> Result<Row<Area>, AllocError>
     ensures { IfOk result (λ copy. copy ≡ areas.now) }
 {
@@ -144,12 +124,8 @@ fn of_lists(
     requires { IsSchema (record { name = name; areas = areas; types = types; sets = sets }) }
     ensures { IfOk result (λ s. s ≡ record { name = name; areas = areas; types = types; sets = sets }) }
 {
-    let (index, sets_of_types) = look_ups(
-        alloc,
-        areas.as_slice(),
-        types.as_slice(),
-        sets.as_slice(),
-    )?;
+    let sets_of_types = sets_of_each(alloc, sets.as_slice(), types.len() as u8)?;
+    let index = SchemaIndex::of(alloc, areas.as_slice(), types.as_slice(), sets.as_slice())?;
     let schema = Schema {
         name,
         areas,

@@ -4,6 +4,7 @@
 pub mod Agreeing
 pub mod Ascending
 pub mod BitsBelow16
+pub mod FirstCauses
 pub mod FromZeroUp
 pub mod LentElement
 pub mod Listing

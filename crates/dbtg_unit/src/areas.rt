@@ -30,7 +30,7 @@ pub enum Question {
 fn asks(unit: &Unit, question: &Question, area: AreaNo) -> bool
     ensures { result ≡ asks unit.now.modes question.now area }
 {
-    match question {
+    match *question {
         Question::NotOpen => entry_at(unit.modes.as_slice(), area.index() as usize).is_none(),
         Question::NotUpdate => {
             match entry_at(unit.modes.as_slice(), area.index() as usize) {
@@ -94,7 +94,12 @@ fn ask_of_rekeyed(
 fn ask_of_clauses(schema: &Schema, unit: &Unit, question: &Question, clauses: &[Member]) -> bool
     ensures { result ≡ list_any (λ m. asks unit.now.modes question.now (area_of schema.now m.rtype)) clauses.now }
 {
-    clauses.iter().any(|clause| asks(unit, question, schema.area_of(clause.rtype)))
+    for clause in clauses {
+        if asks(unit, question, schema.area_of(clause.rtype)) {
+            return true;
+        }
+    }
+    false
 }
 
 // About the areas of the set's member types.
@@ -128,41 +133,41 @@ fn ask_of_named(
 pub(crate) fn ask_of_find(schema: &Schema, unit: &Unit, question: &Question, form: &Form) -> bool
     ensures { result ≡ list_any (asks unit.now.modes question.now) (find_areas schema.now unit.now form.now) }
 {
-    match form {
-        Form::Key(key) => asks(unit, question, schema.area_of(key.rtype)),
+    match *form {
         Form::CurrentOfUnit => ask_of_key(schema, unit, question, unit.currency.run_unit),
-        Form::CurrentOfSet(set) => { ask_of_key(schema, unit, question, unit.key_in(schema, *set)) }
+        Form::CurrentOfSet(set) => ask_of_key(schema, unit, question, unit.key_in(schema, set)),
         Form::CurrentOfArea(area) => {
             let current = entry_at(unit.currency.areas.as_slice(), area.index() as usize);
             ask_of_key(schema, unit, question, current)
         }
         Form::InSet { rtype, set, .. } => {
-            asks(unit, question, schema.home(*set))
-                || ask_of_named(schema, unit, question, *set, *rtype)
+            asks(unit, question, schema.home(set))
+                || ask_of_named(schema, unit, question, set, rtype)
         }
-        Form::InArea { area, .. } => asks(unit, question, *area),
-        Form::OwnerOf(set) => asks(unit, question, schema.home(*set)),
-        Form::CurrentOfType(rtype) | Form::NextDuplicate(rtype) | Form::Calc { rtype, .. } => {
-            asks(unit, question, schema.area_of(*rtype))
-        }
+        Form::InArea { area, .. } => asks(unit, question, area),
+        Form::OwnerOf(set) => asks(unit, question, schema.home(set)),
+        Form::Key(DbKey { rtype, .. })
+        | Form::CurrentOfType(rtype)
+        | Form::NextDuplicate(rtype)
+        | Form::Calc { rtype, .. } => asks(unit, question, schema.area_of(rtype)),
         Form::Sorted { set, .. } => {
-            asks(unit, question, schema.home(*set)) || ask_of_members(schema, unit, question, *set)
+            asks(unit, question, schema.home(set)) || ask_of_members(schema, unit, question, set)
         }
     }
 }
 
-// About an area, if it is in the set.
-fn ask_if_in(unit: &Unit, question: &Question, areas: &AreaSet, area: AreaNo) -> bool
-    ensures { result ≡ (marked areas.now area && asks unit.now.modes question.now area) }
-{
-    areas.contains(area) && asks(unit, question, area)
-}
-
 // About the areas in the set.
+#[tactic(auto, using(crate::proofs::Lists::FromZeroUp::numbers_next, crate::proofs::Lists::FromZeroUp::numbers_end))]
 fn ask_of_marked(schema: &Schema, unit: &Unit, question: &Question, areas: &AreaSet) -> bool
     ensures { result ≡ list_any (λ a. marked areas.now a && asks unit.now.modes question.now a) (range_with_len 0 (length schema.now.areas)) }
 {
-    (0..area_count(schema)).any(|a| ask_if_in(unit, question, areas, AreaNo::new(a)))
+    for a in 0..area_count(schema) {
+        let area = AreaNo::new(a);
+        if areas.contains(area) && asks(unit, question, area) {
+            return true;
+        }
+    }
+    false
 }
 
 // About the areas of a DELETE of a record of this type.
@@ -182,21 +187,20 @@ pub(crate) fn ask_of_areas(
 ) -> bool
     ensures { result ≡ list_any (asks unit.now.modes question.now) (areas_of schema.now unit.now statement.now) }
 {
-    match statement {
-        Statement::OpenArea { area, .. } => asks(unit, question, *area),
-        Statement::CloseArea(area) => asks(unit, question, *area),
-        Statement::Find(_, form) => ask_of_find(schema, unit, question, form),
+    match *statement {
+        Statement::OpenArea { area, .. } | Statement::CloseArea(area) => asks(unit, question, area),
+        Statement::Find(_, ref form) => ask_of_find(schema, unit, question, form),
         Statement::Store { rtype, .. } => {
-            asks(unit, question, schema.area_of(*rtype))
-                || ask_of_automatic(schema, unit, question, *rtype)
+            asks(unit, question, schema.area_of(rtype))
+                || ask_of_automatic(schema, unit, question, rtype)
         }
         Statement::Insert(set) | Statement::Remove(set) => {
-            asks(unit, question, schema.home(*set))
+            asks(unit, question, schema.home(set))
                 || ask_of_key(schema, unit, question, unit.currency.run_unit)
         }
-        Statement::Modify { rtype, changes } => {
-            asks(unit, question, schema.area_of(*rtype))
-                || ask_of_rekeyed(schema, unit, question, *rtype, changes.get().as_slice())
+        Statement::Modify { rtype, ref changes } => {
+            asks(unit, question, schema.area_of(rtype))
+                || ask_of_rekeyed(schema, unit, question, rtype, changes.get().as_slice())
         }
         Statement::Delete(_) => {
             match unit.currency.run_unit {

@@ -1,9 +1,9 @@
 //! The checks of a statement that need only the schema and the unit, and no cell. Nothing here takes memory.
-ghost use Rattle.std.specs.Prelude.{◌≡◌, ◌&&◌, not, is_none, option_map};
+ghost use Rattle.std.specs.Prelude.{◌≡◌, ℕ, ◌&&◌, not, is_none, option_map, take, drop};
 ghost use Rattle.std.specs.List.{list_any};
-ghost use Rattle.dbtg_schema.specs.Lookups.{some_and};
+ghost use Rattle.dbtg_schema.specs.Lookups.{first_cause, some_and};
 ghost use Rattle.dbtg_schema.specs.Structure.{automatic_sets};
-ghost use Rattle.dbtg_unit.specs.Database.Statements.Checks.{accepts_type, changes_records, class_in, current_type, find_lacks_current, frees_what_is_not_kept, is_beyond, is_inserting_mandatory_automatic, is_open_statement, is_opening_again, is_removing_mandatory, lacks_current, needs_current, refused_at_once};
+ghost use Rattle.dbtg_unit.specs.Database.Statements.Checks.{accepts_type, changes_records, checks_at_once, class_in, current_type, find_lacks_current, frees_what_is_not_kept, is_beyond, is_inserting_mandatory_automatic, is_open_statement, is_opening_again, is_removing_mandatory, lacks_current, needs_current, refused_at_once};
 ghost use Rattle.dbtg_unit.specs.Database.Statements.Found.{needs_position};
 ghost use Rattle.dbtg_unit.specs.Database.State.Units.{place_in};
 ghost use Rattle.dbtg_unit.specs.declared.statement.Statement.TheVariants.{Find};
@@ -34,11 +34,13 @@ fn needs_current(statement: &Statement) -> bool
 fn accepts_type(schema: &Schema, statement: &Statement, rtype: RecordNo) -> bool
     ensures { result ≡ accepts_type schema.now statement.now rtype }
 {
-    match statement {
-        Statement::Get(Some(named)) => rtype.index() == named.index(),
-        Statement::Modify { rtype: named, .. } => rtype.index() == named.index(),
-        Statement::Insert(set) => schema.member_clause(*set, rtype).is_some(),
-        Statement::Remove(set) => schema.member_clause(*set, rtype).is_some(),
+    match *statement {
+        Statement::Get(Some(named)) | Statement::Modify { rtype: named, .. } => {
+            rtype.index() == named.index()
+        }
+        Statement::Insert(set) | Statement::Remove(set) => {
+            schema.member_clause(set, rtype).is_some()
+        }
         _ => true,
     }
 }
@@ -114,20 +116,20 @@ fn needs_position(which: Which) -> bool
 fn find_lacks_current(schema: &Schema, unit: &Unit, form: &Form) -> bool
     ensures { result ≡ find_lacks_current schema.now unit.now form.now }
 {
-    match form {
+    match *form {
         Form::CurrentOfType(rtype) | Form::NextDuplicate(rtype) => {
             entry_at(unit.currency.types.as_slice(), rtype.index() as usize).is_none()
         }
-        Form::CurrentOfSet(set) => unit.key_in(schema, *set).is_none(),
+        Form::CurrentOfSet(set) => unit.key_in(schema, set).is_none(),
         Form::CurrentOfArea(area) => {
             entry_at(unit.currency.areas.as_slice(), area.index() as usize).is_none()
         }
         Form::InArea { which, area, .. } => {
-            needs_position(*which)
+            needs_position(which)
                 & entry_at(unit.currency.areas.as_slice(), area.index() as usize).is_none()
         }
         Form::InSet { set, .. } | Form::OwnerOf(set) | Form::Sorted { set, .. } => {
-            has_null(schema, unit, *set)
+            has_null(schema, unit, set)
         }
         Form::Key(_) | Form::CurrentOfUnit | Form::Calc { .. } => false,
     }
@@ -154,10 +156,10 @@ fn store_wants_null(schema: &Schema, unit: &Unit, rtype: RecordNo) -> bool
 fn lacks_current(schema: &Schema, unit: &Unit, statement: &Statement) -> bool
     ensures { result ≡ lacks_current schema.now unit.now statement.now }
 {
-    match statement {
-        Statement::Find(_, form) => find_lacks_current(schema, unit, form),
-        Statement::Store { rtype, .. } => store_wants_null(schema, unit, *rtype),
-        Statement::Insert(set) => has_null(schema, unit, *set),
+    match *statement {
+        Statement::Find(_, ref form) => find_lacks_current(schema, unit, form),
+        Statement::Store { rtype, .. } => store_wants_null(schema, unit, rtype),
+        Statement::Insert(set) => has_null(schema, unit, set),
         _ => false,
     }
 }
@@ -243,18 +245,10 @@ fn find_refused_at_once(schema: &Schema, capacity: u16, unit: &Unit, form: &Form
     None
 }
 
-/// The cause for which a statement is refused without looking at cells: the first that applies; none if cells decide.
-pub fn refused_at_once(
-    schema: &Schema,
-    capacity: u16,
-    unit: &Unit,
-    statement: &Statement,
-) -> Option<Cause>
-    ensures { result ≡ refused_at_once schema.now capacity unit.now statement.now }
+// The first cause that has to do with the current of run-unit or with modes alone.
+fn refused_by_current(schema: &Schema, unit: &Unit, statement: &Statement) -> Option<Cause>
+    ensures { (capacity : ℕ) → result ≡ first_cause (take 5 (checks_at_once schema.now capacity unit.now statement.now)) }
 {
-    if let Statement::Find(_suppress, form) = statement {
-        return find_refused_at_once(schema, capacity, unit, form);
-    }
     if needs_current(statement) & unit.currency.run_unit.is_none() {
         return Some(Cause::NoCurrentOfRunUnit);
     }
@@ -270,6 +264,18 @@ pub fn refused_at_once(
     if is_opening_again(unit, statement) {
         return Some(Cause::AreaAlreadyOpen);
     }
+    None
+}
+
+// The first cause that has to do with currents of sets, areas, or what the unit keeps.
+fn refused_by_areas(
+    schema: &Schema,
+    capacity: u16,
+    unit: &Unit,
+    statement: &Statement,
+) -> Option<Cause>
+    ensures { result ≡ first_cause (drop 5 (checks_at_once schema.now capacity unit.now statement.now)) }
+{
     if lacks_current(schema, unit, statement) {
         return Some(Cause::NoSuchCurrent);
     }
@@ -286,4 +292,22 @@ pub fn refused_at_once(
         return Some(Cause::NotKept);
     }
     None
+}
+
+/// The cause for which a statement is refused without looking at cells: the first that applies; none if cells decide.
+pub fn refused_at_once(
+    schema: &Schema,
+    capacity: u16,
+    unit: &Unit,
+    statement: &Statement,
+) -> Option<Cause>
+    ensures { result ≡ refused_at_once schema.now capacity unit.now statement.now }
+{
+    if let Statement::Find(_suppress, form) = statement {
+        return find_refused_at_once(schema, capacity, unit, form);
+    }
+    match refused_by_current(schema, unit, statement) {
+        Some(cause) => Some(cause),
+        None => refused_by_areas(schema, capacity, unit, statement),
+    }
 }

@@ -10,38 +10,23 @@ impl Form {
     pub fn copy(&self) -> Result<Self, AllocError>
         ensures { IfOk result (λ form. form ≡ self.now) }
     {
-        match self {
-            Form::Key(key) => Ok(Form::Key(*key)),
+        match *self {
+            Form::Key(key) => Ok(Form::Key(key)),
             Form::CurrentOfUnit => Ok(Form::CurrentOfUnit),
-            Form::CurrentOfType(rtype) => Ok(Form::CurrentOfType(*rtype)),
-            Form::CurrentOfSet(set) => Ok(Form::CurrentOfSet(*set)),
-            Form::CurrentOfArea(area) => Ok(Form::CurrentOfArea(*area)),
-            Form::InSet { which, rtype, set } => {
-                Ok(Form::InSet {
-                    which: *which,
-                    rtype: *rtype,
-                    set: *set,
-                })
-            }
-            Form::InArea { which, rtype, area } => {
-                Ok(Form::InArea {
-                    which: *which,
-                    rtype: *rtype,
-                    area: *area,
-                })
-            }
-            Form::OwnerOf(set) => Ok(Form::OwnerOf(*set)),
-            Form::Calc { rtype, values } => {
+            Form::CurrentOfType(rtype) => Ok(Form::CurrentOfType(rtype)),
+            Form::CurrentOfSet(set) => Ok(Form::CurrentOfSet(set)),
+            Form::CurrentOfArea(area) => Ok(Form::CurrentOfArea(area)),
+            Form::InSet { which, rtype, set } => Ok(Form::InSet { which, rtype, set }),
+            Form::InArea { which, rtype, area } => Ok(Form::InArea { which, rtype, area }),
+            Form::OwnerOf(set) => Ok(Form::OwnerOf(set)),
+            Form::Calc { rtype, ref values } => {
                 let values = values.share()?;
-                Ok(Form::Calc {
-                    rtype: *rtype,
-                    values,
-                })
+                Ok(Form::Calc { rtype, values })
             }
-            Form::NextDuplicate(rtype) => Ok(Form::NextDuplicate(*rtype)),
-            Form::Sorted { set, value } => {
+            Form::NextDuplicate(rtype) => Ok(Form::NextDuplicate(rtype)),
+            Form::Sorted { set, ref value } => {
                 let value = value.share()?;
-                Ok(Form::Sorted { set: *set, value })
+                Ok(Form::Sorted { set, value })
             }
         }
     }
@@ -51,40 +36,32 @@ impl Statement {
     pub fn copy(&self) -> Result<Self, AllocError>
         ensures { IfOk result (λ statement. statement ≡ self.now) }
     {
-        match self {
-            Statement::OpenArea { area, mode } => {
-                Ok(Statement::OpenArea {
-                    area: *area,
-                    mode: *mode,
-                })
-            }
-            Statement::CloseArea(area) => Ok(Statement::CloseArea(*area)),
-            Statement::Find(suppress, form) => Ok(Statement::Find(*suppress, form.copy()?)),
-            Statement::Get(rtype) => Ok(Statement::Get(*rtype)),
+        match *self {
+            Statement::OpenArea { area, mode } => Ok(Statement::OpenArea { area, mode }),
+            Statement::CloseArea(area) => Ok(Statement::CloseArea(area)),
+            Statement::Find(suppress, ref form) => Ok(Statement::Find(suppress, form.copy()?)),
+            Statement::Get(rtype) => Ok(Statement::Get(rtype)),
             Statement::Store {
                 rtype,
-                items,
+                ref items,
                 suppress,
             } => {
                 let items = items.share()?;
                 Ok(Statement::Store {
-                    rtype: *rtype,
+                    rtype,
                     items,
-                    suppress: *suppress,
+                    suppress,
                 })
             }
-            Statement::Insert(set) => Ok(Statement::Insert(*set)),
-            Statement::Remove(set) => Ok(Statement::Remove(*set)),
-            Statement::Modify { rtype, changes } => {
+            Statement::Insert(set) => Ok(Statement::Insert(set)),
+            Statement::Remove(set) => Ok(Statement::Remove(set)),
+            Statement::Modify { rtype, ref changes } => {
                 let changes = changes.share()?;
-                Ok(Statement::Modify {
-                    rtype: *rtype,
-                    changes,
-                })
+                Ok(Statement::Modify { rtype, changes })
             }
-            Statement::Delete(option) => Ok(Statement::Delete(*option)),
+            Statement::Delete(option) => Ok(Statement::Delete(option)),
             Statement::Keep => Ok(Statement::Keep),
-            Statement::Free { all } => Ok(Statement::Free { all: *all }),
+            Statement::Free { all } => Ok(Statement::Free { all }),
         }
     }
 }

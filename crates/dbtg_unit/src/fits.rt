@@ -239,28 +239,26 @@ impl Form {
     pub fn fits(&self, schema: &Schema) -> bool
         ensures { result ≡ form_fits schema.now self.now }
     {
-        match self {
-            Form::Key(key) => is_key_of(schema, key),
+        match *self {
+            Form::Key(ref key) => is_key_of(schema, key),
             Form::CurrentOfUnit => true,
-            Form::CurrentOfType(rtype) => is_type(schema, *rtype),
-            Form::CurrentOfSet(set) => is_set(schema, *set),
-            Form::CurrentOfArea(area) => is_area(schema, *area),
+            Form::CurrentOfType(rtype) => is_type(schema, rtype),
+            Form::CurrentOfSet(set) => is_set(schema, set),
+            Form::CurrentOfArea(area) => is_area(schema, area),
             Form::InSet { which, rtype, set } => {
-                is_set(schema, *set) & which_fits(*which) & is_member_or_none(schema, *set, *rtype)
+                is_set(schema, set) & which_fits(which) & is_member_or_none(schema, set, rtype)
             }
             Form::InArea { which, rtype, area } => {
-                is_area(schema, *area)
-                    & which_fits(*which)
-                    & is_in_area_or_none(schema, *area, *rtype)
+                is_area(schema, area) & which_fits(which) & is_in_area_or_none(schema, area, rtype)
             }
-            Form::OwnerOf(set) => is_set(schema, *set) & !schema.is_system(*set),
-            Form::Calc { rtype, values } => are_calc_values(
+            Form::OwnerOf(set) => is_set(schema, set) & !schema.is_system(set),
+            Form::Calc { rtype, ref values } => are_calc_values(
                 schema,
-                *rtype,
+                rtype,
                 values.get().as_slice(),
             ),
-            Form::NextDuplicate(rtype) => schema.calc_of(*rtype).is_some(),
-            Form::Sorted { set, value } => key_fits(schema, *set, value.get()),
+            Form::NextDuplicate(rtype) => schema.calc_of(rtype).is_some(),
+            Form::Sorted { set, ref value } => key_fits(schema, set, value.get()),
         }
     }
 }
@@ -270,32 +268,31 @@ impl Statement {
     pub fn fits(&self, schema: &Schema) -> bool
         ensures { result ≡ fits schema.now self.now }
     {
-        match self {
-            Statement::OpenArea { area, .. } => is_area(schema, *area),
-            Statement::CloseArea(area) => is_area(schema, *area),
-            Statement::Find(suppress, form) => form.fits(schema) & suppress_fits(schema, suppress),
-            Statement::Get(rtype) => {
-                match rtype {
-                    Some(rtype) => is_type(schema, *rtype),
-                    None => true,
-                }
+        match *self {
+            Statement::OpenArea { area, .. } | Statement::CloseArea(area) => is_area(schema, area),
+            Statement::Find(ref suppress, ref form) => {
+                form.fits(schema) & suppress_fits(schema, suppress)
             }
+            Statement::Get(Some(rtype)) => is_type(schema, rtype),
             Statement::Store {
                 rtype,
-                items,
-                suppress,
+                ref items,
+                ref suppress,
             } => {
-                is_type(schema, *rtype)
-                    & are_of_items(items.get().as_slice(), schema.items(*rtype))
+                is_type(schema, rtype)
+                    & are_of_items(items.get().as_slice(), schema.items(rtype))
                     & suppress_fits(schema, suppress)
             }
-            Statement::Insert(set) | Statement::Remove(set) => is_set(schema, *set),
-            Statement::Modify { rtype, changes } => {
-                is_type(schema, *rtype)
+            Statement::Insert(set) | Statement::Remove(set) => is_set(schema, set),
+            Statement::Modify { rtype, ref changes } => {
+                is_type(schema, rtype)
                     & distinct_items(changes.get().as_slice())
-                    & are_changes_of(schema, *rtype, changes.get().as_slice())
+                    & are_changes_of(schema, rtype, changes.get().as_slice())
             }
-            Statement::Delete(_) | Statement::Keep | Statement::Free { .. } => true,
+            Statement::Get(None)
+            | Statement::Delete(_)
+            | Statement::Keep
+            | Statement::Free { .. } => true,
         }
     }
 }

@@ -303,10 +303,10 @@ impl Held {
             self.cells.as_slice(),
             &CellName::Slot(key.rtype, key.number),
         );
-        match stored_of(cell, key.generation) {
-            Some(stored) => self.guesses = stored.owners.all(),
-            None => self.guesses = Owners::none(0),
-        }
+        self.guesses = match stored_of(cell, key.generation) {
+            Some(stored) => stored.owners.all(),
+            None => Owners::none(0),
+        };
     }
 
     /// Guesses another owner in a set.

@@ -27,14 +27,8 @@ pub(crate) fn stored_of<'a>(cell: Option<&'a Cell>, generation: u8) -> Option<&'
 {
     match cell {
         Some(Cell::Slot(slot)) => match slot.record() {
-            Some(stored) => {
-                if stored.generation == generation {
-                    Some(stored)
-                } else {
-                    None
-                }
-            }
-            None => None,
+            Some(stored) if stored.generation == generation => Some(stored),
+            _ => None,
         },
         _ => None,
     }
@@ -89,14 +83,8 @@ pub fn occurrence<'a>(held: &'a Held, set: SetNo, owner: &Owner) -> Option<&'a R
 {
     match held.cell(&ring_name(set, owner)) {
         Some(Cell::Ring(ring)) => match ring.owner() {
-            Some(own) => {
-                if owner_eq(own, *owner) {
-                    Some(ring)
-                } else {
-                    None
-                }
-            }
-            None => None,
+            Some(own) if owner_eq(own, *owner) => Some(ring),
+            _ => None,
         },
         _ => None,
     }

@@ -1,14 +1,14 @@
 //! The moves of a run, and the result of each.
 
 /// One move of a run: a step of the unit with this number, or its quit. Units are numbered from 1.
-#[derive(Clone, Copy, Debug, PartialEq, Eq)]
+#[derive(Clone, Copy)]
 pub enum Move {
     Step(u8),
     Quit(u8),
 }
 
 /// The result of a step or a quit.
-#[derive(Clone, Copy, Debug, PartialEq, Eq)]
+#[derive(Clone, Copy, PartialEq, Eq)]
 pub enum Stepped {
     /// An event was made.
     Moved,

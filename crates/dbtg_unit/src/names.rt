@@ -60,12 +60,12 @@ pub(crate) struct NameKey {
 fn name_key(name: &CellName) -> NameKey
     ensures { result ≡ name_key name.now }
 {
-    let (kind, of, owner, number) = match name {
+    let (kind, of, owner, number) = match *name {
         CellName::Usage(area) => (0, area.index(), 0, 0),
         CellName::Extent(rtype) => (1, rtype.index(), 0, 0),
         CellName::Ring(set, None) => (2, set.index(), 0, 0),
-        CellName::Ring(set, Some((rtype, number))) => (3, set.index(), rtype.index(), *number),
-        CellName::Slot(rtype, number) => (4, rtype.index(), 0, *number),
+        CellName::Ring(set, Some((rtype, number))) => (3, set.index(), rtype.index(), number),
+        CellName::Slot(rtype, number) => (4, rtype.index(), 0, number),
     };
     NameKey {
         kind,

@@ -7,7 +7,7 @@ ghost use Rattle.dbtg_unit.specs.Hands.Prepared.{edited_values, guesses_edited, 
 
 use crate::apply::edit_cell;
 use crate::edit::{CellEdit, UnitEdit};
-use crate::edited_names::{add_names, erased_names};
+use crate::edited_names::{add_erased, add_names};
 use crate::erased::{Erased, erase};
 use crate::held::Held;
 use crate::unit::{Answer, Cause, Status, Unit};
@@ -85,7 +85,10 @@ impl Prepared {
     pub fn names(&self, alloc: Global) -> Result<Row<CellName>, AllocError>
         ensures { IfOk result (λ names. names ≡ map (λ e. e.name) self.now.cells) }
     {
-        let mut names = erased_names(alloc, &self.erased)?;
+        let mut names = Vec::new(alloc);
+        if let Some(erased) = &self.erased {
+            add_erased(&mut names, erased)?;
+        }
         add_names(&mut names, self.cells.as_slice())?;
         Ok(Row::of(names))
     }

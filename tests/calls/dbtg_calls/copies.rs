@@ -140,7 +140,7 @@ fn currents(rt: HostRuntime) -> Result<(), Fail> {
         owner: Owner::System,
         at: Some(item(2)),
     });
-    assert_eq!(rt; place, wanted);
+    assert!(rt; place == wanted);
     Ok(())
 }
 

@@ -132,9 +132,11 @@ fn moves_and_their_faults(rt: HostRuntime) {
 #[test]
 fn moves_are_those_of_the_words(rt: HostRuntime) {
     let moves = read_moves(rt.alloc(), b"2*2 Q1 99").expect(&rt, "moves");
-    assert_eq!(rt;
-        moves.as_slice(),
-        [Move::Step(2), Move::Step(2), Move::Quit(1), Move::Step(99)].as_slice()
+    assert!(rt;
+        matches!(
+            moves.as_slice(),
+            [Move::Step(2), Move::Step(2), Move::Quit(1), Move::Step(99)]
+        )
     );
 }
 

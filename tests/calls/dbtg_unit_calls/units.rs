@@ -40,7 +40,7 @@ fn unit_moves_in_a_set(rt: HostRuntime) -> Result<(), Fail> {
     let mut unit = opening(rt.alloc())?;
     unit.move_to(SetNo::new(1), place(Owner::Rec(key(7, 2)), None));
     let wanted = [None, Some(place(Owner::Rec(key(7, 2)), None))];
-    assert_eq!(rt; unit.currency.sets.as_slice(), wanted.as_slice());
+    assert!(rt; unit.currency.sets.as_slice() == wanted.as_slice());
     Ok(())
 }
 

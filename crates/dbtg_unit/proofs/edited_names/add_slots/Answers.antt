@@ -1,6 +1,6 @@
 use Rattle.std.proofs.Common.{arith}
 use Rattle.std.proofs.lemmas.Grind.{common_steps}
-use Rattle.dbtg_unit.proofs.edited_names.extents_of.Goals as goal
+use Rattle.dbtg_unit.proofs.edited_names.add_slots.Goals as goal
 
 pub loop-key-preserved : goal.loop-key-preserved
 loop-key-preserved c = grind (arith, common_steps)
@@ -10,6 +10,3 @@ returns c = grind (arith, common_steps)
 
 pub returns-in_err-add : goal.returns-in_err-add
 returns-in_err-add c = grind (arith, common_steps)
-
-pub returns-in_err-names : goal.returns-in_err-names
-returns-in_err-names c = grind (arith, common_steps)

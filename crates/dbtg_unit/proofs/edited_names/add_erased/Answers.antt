@@ -9,7 +9,7 @@ use Rattle.dbtg_unit.specs.declared.edit.Edit.TheVariants.{Vacate}
 use Rattle.dbtg_unit.specs.declared.erased.Erased.{Erased}
 use Rattle.dbtg_unit.specs.Database.State.CellNames.{slot_name}
 use Rattle.dbtg_unit.specs.Hands.EditsOf.{close_ring, edits_of_erased, leave_number, slot_edit}
-use Rattle.dbtg_unit.proofs.edited_names.names_of.Goals as goal
+use Rattle.dbtg_unit.proofs.edited_names.add_erased.Goals as goal
 
 abbrev names_in : List CellEdit → List CellName
 names_in = map (λ e. e.name)
@@ -32,15 +32,15 @@ names_of_parts e =
     ∙ ap (λ l. l ++ names_in vacated) (map_twice (λ (x : CellEdit). x.name) close_ring e.rings ∙ map-id e.rings)
     ∙ ap (λ l. e.rings ++ l) (map_twice (λ (x : CellEdit). x.name) (λ d. slot_edit d Vacate) e.gone)))
 
-in_turn : (vs ws xs ys : List CellName) → ((vs ++ ws) ++ xs) ++ ys ≡ vs ++ (ws ++ (xs ++ ys))
-in_turn vs ws xs ys = append_assoc (vs ++ ws) xs ys ∙ append_assoc vs ws (xs ++ ys)
+in_turn : (us vs ws xs ys : List CellName) → (((us ++ vs) ++ ws) ++ xs) ++ ys ≡ us ++ (vs ++ (ws ++ (xs ++ ys)))
+in_turn us vs ws xs ys = append_assoc ((us ++ vs) ++ ws) xs ys ∙ append_assoc (us ++ vs) ws (xs ++ ys) ∙ append_assoc us vs (ws ++ (xs ++ ys))
 
 pub returns : goal.returns
 returns c =
     let e = c.args.erased.now in
-    let gone = c.in_ok-names.ensures ∙ ap extents c.as_slice.ensures in
-    let slots = c.in_ok-slots.ensures ∙ ap (map slot_name) c.as_slice-2.ensures in
-    let placed = c.in_ok-add_names.ensures ∙ ap (λ l. l ++ names_in c.as_slice-3.result.now) gone ∙ ap (λ l. extents e.gone ++ names_in l) c.as_slice-3.ensures in
-    let closed = c.in_ok-add_all.ensures ∙ ap (λ l. l ++ c.as_slice-4.result.now) placed ∙ ap (λ l. (extents e.gone ++ names_in e.places) ++ l) c.as_slice-4.ensures in
-    let vacated = c.in_ok-add_all-2.ensures ∙ ap (λ l. l ++ c.as_slice-5.result.now) closed ∙ ap (λ l. ((extents e.gone ++ names_in e.places) ++ e.rings) ++ l) (c.as_slice-5.ensures.value ∙ slots) in
-    vacated ∙ in_turn (extents e.gone) (names_in e.places) e.rings (map slot_name e.gone) ∙ sym (names_of_parts e)
+    let old = c.args.names.now.items in
+    let left = c.in_ok-add_extents.ensures ∙ ap (λ l. old ++ extents l) c.as_slice.ensures in
+    let placed = c.in_ok-add_names.ensures ∙ ap (λ l. l ++ names_in c.as_slice-2.result.now) left ∙ ap (λ l. (old ++ extents e.gone) ++ names_in l) c.as_slice-2.ensures in
+    let closed = c.in_ok-extend_from_slice.ensures.items ∙ ap (λ l. l ++ c.as_slice-3.result.now) placed ∙ ap (λ l. ((old ++ extents e.gone) ++ names_in e.places) ++ l) c.as_slice-3.ensures in
+    let vacated = c.in_ok-add_slots.ensures ∙ ap (λ l. l ++ map slot_name c.as_slice-4.result.now) closed ∙ ap (λ l. (((old ++ extents e.gone) ++ names_in e.places) ++ e.rings) ++ map slot_name l) c.as_slice-4.ensures in
+    vacated ∙ in_turn old (extents e.gone) (names_in e.places) e.rings (map slot_name e.gone) ∙ ap (λ l. old ++ l) (sym (names_of_parts e))

@@ -1,0 +1,9 @@
+use Rattle.std.proofs.Common.{arith}
+use Rattle.dbtg_unit.proofs.Lists.FromZeroUp.{numbers_next, numbers_end}
+use Rattle.dbtg_unit.proofs.areas.ask_of_marked.Goals as goal
+
+pub loop-a-preserved : goal.loop-a-preserved
+loop-a-preserved c = grind (arith, numbers_next, numbers_end)
+
+pub returns : goal.returns
+returns c = grind (arith, numbers_next, numbers_end)
