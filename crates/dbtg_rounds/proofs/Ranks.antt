@@ -1,11 +1,12 @@
 -- Ranks that do not rise along any edge rule out that ways round begin.
 -- es are the edges of a graph, us are units of turns, i, j and k are states, u is a unit, left are marks of ranks.
-use Rattle.std.proofs.Common.{◌≡◌, refl, sym, ◌∙◌, ap, subst, ℕ, zero, suc, ◌+◌, ◌<◌, ◌≤◌, ◌⊎◌, inl, inr, Bool, List, [], ◌∷◌, Contains, length, get_or, take, arith}
-use Rattle.std.proofs.lemmas.List.{take_all, take_more}
+use Rattle.std.proofs.Common.{◌≡◌, refl, sym, ◌∙◌, ap, subst, ℕ, zero, suc, ◌+◌, ◌<◌, ◌≤◌, ◌⊎◌, inl, inr, Bool, List, [], ◌∷◌, Contains, false, length, get_or, take, replicate, arith}
+use Rattle.std.proofs.lemmas.Bool.{both_ways, cases_lt}
+use Rattle.std.proofs.lemmas.List.{get_or-replicate, get_or_past, length-replicate, take_all, take_more}
 use Rattle.std.proofs.lemmas.List.Elements.{Contains-get_or, Contains-push_cases}
 use Rattle.dbtg_rounds.specs.declared.edge.Edge.{Edge}
 use Rattle.dbtg_rounds.specs.Rounds.{AreWithin, HasEdge, IsRound, Leads}
-use Rattle.dbtg_rounds.specs.Inside.Reaching.{IsIn}
+use Rattle.dbtg_rounds.specs.Inside.Reaching.{IsIn, is_in}
 use Rattle.dbtg_rounds.specs.Inside.Ruling.{AreFalling, AreLeft, AreRuled, LeavesRank, rank_of}
 
 -- EDGES BY THEIR PLACES
@@ -101,10 +102,11 @@ ruled_more ranks es u left old new falling are more ruled start units marked rou
       | inr leaves ↦ none_leaving ranks es u left start units falling are leaves round
     ]
 
--- states are ruled out in which no edge begins
-pub ruled_idle : (es : List Edge) (idle : List Bool) → ((e : Edge) → Contains es e → IsIn idle e.from → ⊥) → AreRuled es idle
-unfolding Leads
-ruled_idle es idle none start units marked round = by units round.goes round.comes_back where
-  by : (us : List ℕ) → 0 < length us → Leads es start us start → ⊥
-  by [] goes leads = omega arith
-  by (u ∷ us) goes (k, has, rest) = none (record { from = start; unit = u; to = k }) has marked
+-- no state is marked at first
+pub none_ruled : (es : List Edge) (n : ℕ) (marks : List Bool) → marks ≡ replicate n false → AreRuled es marks
+none_ruled es n marks none start units marked = absurd (both_ways _ (unmarked n start) (subst (λ (l : List Bool). IsIn l start) none marked)) where
+  unmarked : (n i : ℕ) → is_in (replicate n false) i ≡ false
+  unmarked n i = elim (cases_lt i n) [
+    | inl below ↦ get_or-replicate n i false false below
+    | inr above ↦ get_or_past (replicate n false) i false (omega (arith, length-replicate n false))
+  ]

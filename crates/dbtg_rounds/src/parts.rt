@@ -5,67 +5,65 @@ ghost use Rattle.std.specs.Prelude.{◌≡◌, length, IfOk};
 use crate::graph::Graph;
 use std::alloc::{AllocError, Global};
 
-// Marks a state, and opens it, if it is not marked.
-fn open_state(
-    open: &mut Vec<(usize, usize)>,
-    marked: &mut [bool],
-    state: usize,
-) -> Result<(), AllocError> {
-    match marked.get_mut(state) {
-        Some(mark) if !*mark => {
-            *mark = true;
-            open.push((state, 0))?;
-            Ok(())
-        }
-        _ => Ok(()),
-    }
+// A search by depth.
+#[derive(Drop)]
+struct Search {
+    // States, each with how many of its edges were followed.
+    open: Vec<(usize, usize)>,
+    // States, each after those to which it leads, unless they lead back to it.
+    behind: Vec<usize>,
 }
 
-// The state and those to which it leads, if they are not marked, each after those to which it leads itself. Marks them, and takes at most
-// this many steps.
-fn led_to(
-    alloc: Global,
-    graph: &Graph,
-    start: usize,
-    marked: &mut [bool],
-    steps: usize,
-) -> Result<Vec<usize>, AllocError> {
-    let mut behind = Vec::new(alloc);
-    let mut open = Vec::new(alloc);
-    open_state(&mut open, marked, start)?;
-    for _step in 0..steps {
-        match open.pop() {
-            None => return Ok(behind),
-            Some((state, next)) => match graph.at(state).get(next) {
-                None => behind.push(state)?,
-                Some(edge) => {
-                    open.push((state, next.saturating_add(1)))?;
-                    open_state(&mut open, marked, edge.to as usize)?;
-                }
-            },
+impl Search {
+    fn new(alloc: Global) -> Self {
+        Self {
+            open: Vec::new(alloc),
+            behind: Vec::new(alloc),
         }
     }
-    Ok(behind)
+
+    // Gives a state this mark, and opens it, if it has none.
+    fn meet(&mut self, state: usize, marks: &mut [usize], mark: usize) -> Result<(), AllocError> {
+        if marks.get(state) == Some(&0) {
+            marks[state] = mark;
+            self.open.push((state, 0))?;
+        }
+        Ok(())
+    }
+
+    // Goes to the state and to those to which it leads, if they have no mark, and gives them this one.
+    fn go_to(
+        &mut self,
+        graph: &Graph,
+        start: usize,
+        marks: &mut [usize],
+        mark: usize,
+    ) -> Result<(), AllocError> {
+        self.meet(start, marks, mark)?;
+        for _step in 0..graph.edges().len().saturating_add(graph.states()) {
+            let Some((state, next)) = self.open.pop() else {
+                return Ok(());
+            };
+            match graph.at(state).get(next) {
+                None => self.behind.push(state)?,
+                Some(edge) => {
+                    self.open.push((state, next.saturating_add(1)))?;
+                    self.meet(edge.to as usize, marks, mark)?;
+                }
+            }
+        }
+        Ok(())
+    }
 }
 
 // All states, each after those to which it leads, unless they lead back to it.
-fn all_led_to(alloc: Global, graph: &Graph, steps: usize) -> Result<Vec<usize>, AllocError> {
-    let mut marks = Vec::from_elem(alloc, false, graph.states())?;
-    let mut behind = Vec::new(alloc);
+fn all_behind(alloc: Global, graph: &Graph) -> Result<Vec<usize>, AllocError> {
+    let mut marks = Vec::from_elem(alloc, 0usize, graph.states())?;
+    let mut search = Search::new(alloc);
     for start in 0..graph.states() {
-        let further = led_to(alloc, graph, start, marks.as_mut_slice(), steps)?;
-        behind.extend_from_slice(further.as_slice())?;
+        search.go_to(graph, start, marks.as_mut_slice(), 1)?;
     }
-    Ok(behind)
-}
-
-// These states have this rank.
-fn rank_each(ranks: &mut [usize], states: &[usize], rank: usize) {
-    for state in states {
-        if let Some(own) = ranks.get_mut(*state) {
-            *own = rank;
-        }
-    }
+    Ok(search.behind)
 }
 
 /// For each state the rank of its part: those of a part have the same rank, and the parts to which it leads have lower ones. `back` has the
@@ -77,19 +75,16 @@ pub(crate) fn guess_ranks(
 ) -> Result<Vec<usize>, AllocError>
     ensures { IfOk result (λ ranks. length ranks.items ≡ graph.now.states) }
 {
-    let states = graph.states();
-    let edges = graph.edges().len();
-    let steps = edges.saturating_add(states).saturating_add(states);
-    let order = all_led_to(alloc, graph, steps)?;
-    let mut ranks = Vec::from_elem(alloc, 0usize, states)?;
-    let mut marks = Vec::from_elem(alloc, false, states)?;
-    for (behind, last) in order.iter().rev().enumerate() {
-        let part = led_to(alloc, back, *last, marks.as_mut_slice(), steps)?;
-        rank_each(
+    let mut order = all_behind(alloc, graph)?;
+    let mut ranks = Vec::from_elem(alloc, 0usize, graph.states())?;
+    let mut search = Search::new(alloc);
+    while let Some(last) = order.pop() {
+        search.go_to(
+            back,
+            last,
             ranks.as_mut_slice(),
-            part.as_slice(),
-            states.saturating_sub(behind),
-        );
+            order.len().saturating_add(1),
+        )?;
     }
     Ok(ranks)
 }

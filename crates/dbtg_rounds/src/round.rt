@@ -131,13 +131,13 @@ pub(crate) fn round_from(
     ensures round { IfOk result (λ found. IfSome found (λ r. (r.start ≡ start) × IsRound graph.now.edges start r.units.items)) }
     ensures none { IfOk result (λ found. found ≡ None → (units : List ℕ) → IsRound graph.now.edges start units → ⊥) }
 {
+    if graph.at(start).is_empty() {
+        return Ok(None);
+    }
     let within = leading_to(alloc, back, start)?;
     let Some(mut taken) = take_each(alloc, graph, start, within.as_slice())? else {
         return Ok(None);
     };
-    if taken.units.is_empty() {
-        return Ok(None);
-    }
     if !go_on_to_state(alloc, graph, within.as_slice(), &mut taken, start)? {
         return Ok(None);
     }

@@ -1,8 +1,7 @@
 //! States in which no way round begins, by ranks that rise along no edge.
 
-ghost use Rattle.std.specs.Prelude.{◌≡◌, ◌≢◌, ◌==◌, ◌⊎◌, ◌<◌, ℕ, List, true, Contains, length, IfOk};
-ghost use Rattle.dbtg_rounds.specs.Rounds.{AreWithin, IsRound};
-ghost use Rattle.dbtg_rounds.specs.declared.edge.Edge.{Edge as EdgeOf};
+ghost use Rattle.std.specs.Prelude.{◌≡◌, ◌≢◌, ◌==◌, ◌⊎◌, ◌<◌, ℕ, true, length, IfOk};
+ghost use Rattle.dbtg_rounds.specs.Rounds.{AreWithin};
 ghost use Rattle.dbtg_rounds.specs.Inside.Reaching.{IsIn};
 ghost use Rattle.dbtg_rounds.specs.Inside.Ruling.{AreFalling, AreLeft, AreRuled, LeavesRank, rank_of};
 
@@ -43,18 +42,6 @@ fn unmark(marks: &mut [bool], place: usize)
     }
 }
 
-// Marks the states in which no unit can have a turn.
-fn idle_states(alloc: Global, states: usize, edges: &[Edge]) -> Result<Vec<bool>, AllocError>
-    ensures each { IfOk result (λ idle. length idle.items ≡ states) }
-    ensures right { IfOk result (λ idle. (e : EdgeOf) → Contains edges.now e → IsIn idle.items e.from → ⊥) }
-{
-    let mut idle = Vec::from_elem(alloc, true, states)?;
-    for edge in edges {
-        unmark(idle.as_mut_slice(), edge.from as usize);
-    }
-    Ok(idle)
-}
-
 // Marks ranks on which no turn of the unit stays.
 fn ranks_left_by(
     alloc: Global,
@@ -89,40 +76,37 @@ fn rule_out(edges: &[Edge], ranks: &[usize], left: &[bool], unit: u8, ruled: &mu
 
 // The greatest unit that has a turn.
 fn last_unit(edges: &[Edge]) -> u8 {
-    edges.iter().map(|edge| edge.unit).max().unwrap_or(0)
+    let mut last = 0;
+    for edge in edges {
+        if last < edge.unit {
+            last = edge.unit;
+        }
+    }
+    last
 }
 
-// Rules out, for each unit, the states in which it can have a turn, but none that stays on their rank.
-fn rule_out_each(
-    alloc: Global,
-    edges: &[Edge],
-    ranks: &[usize],
-    ruled: &mut [bool],
-) -> Result<(), AllocError>
+// Rules out, for each unit, the states in which it can have a turn, but none that stays on their rank; no state if ranks rise.
+fn ruled_by(alloc: Global, edges: &[Edge], ranks: &[usize]) -> Result<Vec<bool>, AllocError>
     requires within { AreWithin (length ranks.now) edges.now }
-    requires falling { AreFalling ranks.now edges.now }
-    requires ruled { length ruled.old ≡ length ranks.now }
-    ensures { IfOk result (λ _. AreRuled edges.now ruled.old → AreRuled edges.now ruled.new) }
+    ensures { IfOk result (λ ruled. AreRuled edges.now ruled.items) }
 {
+    let mut ruled = Vec::from_elem(alloc, false, ranks.len())?;
+    if !are_falling(ranks, edges) {
+        return Ok(ruled);
+    }
     for unit in 0..=last_unit(edges) {
         let left = ranks_left_by(alloc, ranks, edges, unit)?;
-        rule_out(edges, ranks, left.as_slice(), unit, ruled);
+        rule_out(edges, ranks, left.as_slice(), unit, ruled.as_mut_slice());
     }
-    Ok(())
+    Ok(ruled)
 }
 
 /// For each state whether it is ruled out that a way round begins in it. Those that are not need not have one. `back` has the edges of the
 /// graph, reversed.
 pub(crate) fn ruled_out(alloc: Global, graph: &Graph, back: &Graph) -> Result<Vec<bool>, AllocError>
-    ensures each { IfOk result (λ ruled. length ruled.items ≡ graph.now.states) }
-    ensures right { IfOk result (λ ruled. (start : ℕ) (units : List ℕ) → IsIn ruled.items start → IsRound graph.now.edges start units → ⊥) }
+    ensures { IfOk result (λ ruled. AreRuled graph.now.edges ruled.items) }
 {
     graph.is_within();
     let ranks = guess_ranks(alloc, graph, back)?;
-    let edges = graph.edges();
-    let mut ruled = idle_states(alloc, graph.states(), edges)?;
-    if are_falling(ranks.as_slice(), edges) {
-        rule_out_each(alloc, edges, ranks.as_slice(), ruled.as_mut_slice())?;
-    }
-    Ok(ruled)
+    ruled_by(alloc, graph.edges(), ranks.as_slice())
 }

@@ -24,7 +24,7 @@ loop-state-preserved c =
       | then-not-is_in+in_ok-round+in_default w ↦ w.in_ok-round.ensures.none w.in_default.is
       | else-not-is_in w ↦
           let marked : IsIn c.as_slice.result.now state = sym c.is_in.ensures ∙ w.if-not-is_in.false in
-          λ units. c.in_ok-ruled.ensures.right state units (subst (λ (l : List Bool). IsIn l state) c.as_slice.ensures.value marked)
+          λ units. c.in_ok-ruled.ensures state units (subst (λ (l : List Bool). IsIn l state) c.as_slice.ensures.value marked)
     ] in
     none_next es state c.loop-state.invariant (λ units round. none units (round_same es fs (same_back fs es c.in_ok-graph.ensures.edges) state units round))
 

@@ -1,7 +1,8 @@
 -- The marked states are those that lead to the start, so where a walk is missing no way round begins there.
-use Rattle.std.proofs.Common.{◌≡◌, refl, sym, subst, ◌∙◌, ℕ, ◌<◌, List, Bool, length, arith}
+use Rattle.std.proofs.Common.{◌≡◌, refl, sym, subst, ◌∙◌, ℕ, ◌<◌, List, Bool, get_or, length, arith}
 use Rattle.std.specs.Prelude.{Contains}
 use Rattle.std.proofs.lemmas.Grind.{common_steps}
+use Rattle.std.proofs.lemmas.List.Elements.{Contains-get_or}
 use Rattle.dbtg_rounds.specs.declared.edge.Edge.{Edge}
 use Rattle.dbtg_rounds.specs.Rounds.{HasEdge, Leads}
 use Rattle.dbtg_rounds.specs.Inside.Graphs.{AreReversed}
@@ -32,10 +33,11 @@ returns-in_default-clause-none c = λ _ units.
 
 pub returns-then-is_empty-clause-none : goal.returns-then-is_empty-clause-none
 returns-then-is_empty-clause-none c = λ _ units.
-    let each : (u j : ℕ) → HasEdge c.args.graph.now.edges c.args.start u j → Contains c.in-Some.taken.units.items u = rw c.in-Some.is at c.in_ok-taken.ensures.each in
-    let none : length c.in-Some.taken.units.items ≡ 0 = grind (arith, common_steps) in
-    let no_unit : (u : ℕ) → Contains c.in-Some.taken.units.items u → ⊥ = λ u there. let low = there.1 in omega arith in
-    no_first_turn c.args.graph.now.edges c.args.start units (λ u j has. no_unit u (each u j has))
+    no_first_turn c.args.graph.now.edges c.args.start units (λ u j has.
+    let there = c.at.ensures.all (record { from = c.args.start; unit = u; to = j }) has refl in
+    let low = there.1 in
+    let none : length c.at.result.now ≡ 0 = grind (arith, common_steps) in
+    omega arith)
 
 pub returns-then-not-branch-clause-none : goal.returns-then-not-branch-clause-none
 returns-then-not-branch-clause-none c = λ _ units _.
@@ -52,5 +54,10 @@ returns-clause-round c =
     let each : (u j : ℕ) → HasEdge es c.args.start u j → Contains c.in-Some.taken.units.items u = rw c.in-Some.is at c.in_ok-taken.ensures.each in
     let leads : LeadsIn es c.as_slice-2.result.now c.args.start c.in-Some.taken.units.items c.in-Some.taken.end
     = subst (λ (ms : List Bool). LeadsIn es ms c.args.start c.in-Some.taken.units.items c.in-Some.taken.end) (c.as_slice.ensures.value ∙ sym c.as_slice-2.ensures.value) (rw c.in-Some.is at c.in_ok-taken.ensures.leads) in
-    let some : 0 < length c.in-Some.taken.units.items = grind (arith, common_steps) in
+    let edge : Edge = get_or c.at.result.now 0 (record { from = 0; unit = 0; to = 0 }) in
+    let some_edge : 0 < length c.at.result.now = grind (arith, common_steps) in
+    let first = c.at.ensures.only edge (Contains-get_or c.at.result.now 0 (record { from = 0; unit = 0; to = 0 }) some_edge) in
+    let there = each edge.unit edge.to (subst (λ (n : ℕ). HasEdge es n edge.unit edge.to) first.1 first.0) in
+    let low = there.1 in
+    let some : 0 < length c.in-Some.taken.units.items = omega arith in
     (refl, is_round es c.as_slice-2.result.now c.args.start c.in-Some.taken c.go_on_to_state.new.taken leads each some (c.in_ok-go_on_to_state.ensures.leads c.if-not-branch.false) (c.in_ok-go_on_to_state.ensures.met c.if-not-branch.false))
