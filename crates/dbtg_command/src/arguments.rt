@@ -1,75 +1,227 @@
 //! The arguments of commands: options, files and other words, as `clap` is given them.
 ghost use Rattle.std.specs.Prelude.{IfOk};
-ghost use Rattle.dbtg_command.specs.Commands.{all, answers, capacity, echo, explain, file_option, file_word, first, flag, last, limit, moves, no_explain, number_option, on_threads, programs, save_turns, topic, turns_file, turns_option, units, words, status, trace, trace_alone, trace_option, always, brief, never, wish_option, turns_alone};
+ghost use Rattle.dbtg_command.specs.Commands.{file_option, file_word, flag, number_option, words, wish_option};
 ghost use Rattle.dbtg_command.specs.Inside.Commands.{IsArg, rule_for};
 
 use clap::{Arg, ArgAction};
 use std::alloc::{AllocError, Global};
 
-/// A word that a command can be given: an option, or a placeholder for files. Those with a text have what help says of them.
+/// A word that a command can be given: an option, or a placeholder for files. Its first text is its name, its last what help says of it;
+/// `Without` names, before that, an option that it excludes.
 #[derive(Clone, Copy)]
 pub enum Word<'a> {
-    All(&'a str),
-    Always,
-    Answers,
-    Brief,
-    Capacity,
-    Echo,
-    Explain,
-    ExplainMore(&'a str),
-    First(&'a str),
-    Last,
-    Limit,
-    Moves,
-    Never,
-    NoExplain,
-    OnThreads,
-    Programs,
-    ProgramFiles(&'a str),
-    SaveTurns,
-    Schema(&'a str),
-    Scripts(&'a str),
-    Status,
-    Svg(&'a str),
-    Topic,
-    Trace,
-    TraceAlone,
-    TraceOption,
-    TurnsAlone,
-    TurnsBefore,
-    TurnsOption,
-    TurnsFile,
-    Units,
+    Flag(&'a str, &'a str),
+    FlagWithout(&'a str, &'a str, &'a str),
+    FileOption(&'a str, &'a str),
+    FileOptionWithout(&'a str, &'a str, &'a str),
+    /// The second text is the number that stands for none.
+    NumberOption(&'a str, &'a str, &'a str),
+    WishOption(&'a str, &'a str),
+    WishOptionWithout(&'a str, &'a str, &'a str),
+    /// A file that must be named; the usage shows the second text for it.
+    File(&'a str, &'a str, &'a str),
+    /// Any number of words; the usage shows the second text for each.
+    Words(&'a str, &'a str, &'a str),
 }
+
+pub const ALL_FAULTS: Word = Word::Flag(
+    "all",
+    "Reports the first fault of each file [default: only the first of all]",
+);
+
+pub const ALL_LINES: Word = Word::Flag(
+    "all",
+    "Reports every line that differs [default: the first]",
+);
+
+pub const ALWAYS: Word = Word::WishOptionWithout(
+    "always",
+    "never",
+    "Says whether statement I of unit U always has this status; not with --never",
+);
+
+pub const ANSWERS: Word = Word::Flag(
+    "answers",
+    "Tells results apart by the units' answers too [default: by the rest alone]",
+);
+
+pub const BRIEF: Word = Word::Flag(
+    "brief",
+    "Shows what differs from the first of each further result, or which one it is like but for numbers [default: all of it]",
+);
+
+pub const CAPACITY: Word = Word::NumberOption(
+    "capacity",
+    "100",
+    "How many numbers each record type has, 1 to 1000",
+);
+
+/// Any number of scripts, of which none is run.
+pub const CHECKED_SCRIPTS: Word = Word::Words(
+    "scripts",
+    "SCRIPT",
+    "Files of scripts of this schema, any number of them; - for standard input, once",
+);
+
+pub const ECHO: Word = Word::Flag(
+    "echo",
+    "Prints each answer after its statement [default: the answers alone]",
+);
+
+pub const EXPLAIN: Word = Word::Flag(
+    "explain",
+    "Also says where a fault is and what is wrong [default: on a terminal]",
+);
+
+/// Where an echo can be explained too.
+pub const EXPLAIN_ECHO: Word = Word::Flag(
+    "explain",
+    "Also says where a fault is and what is wrong [default: on a terminal]; with --echo also what is in the way of a refused statement",
+);
+
+/// The same for a picture.
+pub const EXPLAIN_PICTURE: Word = Word::Flag(
+    "explain",
+    "Tells also where a fault is and what is wrong [default: on a terminal], and what is in the way of a refusal",
+);
+
+pub const FIRST: Word = Word::FileOption(
+    "first",
+    "A script made whole before the others, by the last unit [default: none]",
+);
+
+pub const FIRST_PROGRAM: Word = Word::FileOption(
+    "first",
+    "A program that runs to its end before the others, by the unit after theirs [default: none]",
+);
+
+pub const LAST: Word = Word::FileOption(
+    "then",
+    "A program that runs to its end after all others have ended, by the last unit [default: none]",
+);
+
+pub const LIMIT: Word = Word::NumberOption(
+    "limit",
+    "5000000",
+    "States to allow, 1 to 1000000000; as many as the default take about 1 GB",
+);
+
+pub const MOVES: Word = Word::FileOption(
+    "moves",
+    "The file of the moves; - for standard input [default: script after script]",
+);
+
+pub const NEVER: Word = Word::WishOption(
+    "never",
+    "Says whether statement I of unit U never has this status; status 4 if it has, in some order",
+);
+
+pub const NO_EXPLAIN: Word = Word::Flag(
+    "no-explain",
+    "Reports a fault by its number alone, on a terminal too",
+);
+
+pub const ON_THREADS: Word = Word::FlagWithout(
+    "threads",
+    "turns",
+    "Runs each program on a thread of its own [default: one after another]; not with --turns",
+);
+
+pub const PROGRAMS: Word = Word::Flag(
+    "programs",
+    "Reads programs instead of scripts [default: scripts]",
+);
+
+pub const PROGRAM_FILES: Word = Word::Words(
+    "scripts",
+    "PROGRAM",
+    "Files of the programs of units 1, 2, ..: 1 to 8 in all; - for standard input, once",
+);
+
+pub const SAVE_TURNS: Word = Word::FileOption(
+    "save-turns",
+    "Writes the turns, as --turns reads them, to a file [default: does not]",
+);
+
+pub const SCHEMA: Word = Word::File(
+    "schema",
+    "SCHEMA",
+    "The file of the schema; - for standard input",
+);
+
+/// A schema for a command that reads something else from standard input.
+pub const SCHEMA_ALONE: Word = Word::File("schema", "SCHEMA", "The file of the schema");
+
+pub const SCRIPTS: Word = Word::Words(
+    "scripts",
+    "SCRIPT",
+    "Files of the scripts of units 1, 2, ..: 1 to 8 of them; - for standard input, once",
+);
+
+pub const SCRIPTS_ON_THREADS: Word = Word::Words(
+    "scripts",
+    "SCRIPT",
+    "Files of the scripts of units 1, 2, ..: 1 to 8, a thread each; - for standard input, once",
+);
+
+pub const STATUS: Word = Word::Flag(
+    "status",
+    "Compares only statuses [default: keys and items too, if the trace has them]",
+);
+
+pub const SVG: Word = Word::Flag("svg", "Draws as SVG [default: plain text]");
+
+pub const TOPIC: Word = Word::Words(
+    "topic",
+    "TOPIC",
+    "A status of four digits, or a fault by its number, as script 7 [default: a list of all]",
+);
+
+/// A trace for a command that has no echo.
+pub const TRACE: Word = Word::Flag(
+    "trace",
+    "Prints a trace in place of the answers, as 'audit' reads it",
+);
+
+pub const TRACE_FILE: Word = Word::File(
+    "traced",
+    "TRACE",
+    "The file of the trace; - for standard input",
+);
+
+pub const TRACE_OR_ECHO: Word = Word::FlagWithout(
+    "trace",
+    "echo",
+    "Prints a trace instead of the answers, as 'audit' reads it; not with --echo",
+);
+
+/// Turns for a command that takes no moves.
+pub const TURNS: Word = Word::FileOption(
+    "turns",
+    "The turns: whose statement is next; - for standard input [default: program after program]",
+);
+
+pub const TURNS_BEFORE: Word = Word::FileOption(
+    "turns",
+    "The file of the turns to go on from; - for standard input [default: none]",
+);
+
+pub const TURNS_FILE: Word = Word::File(
+    "turns",
+    "FILE",
+    "The file of the turns; - for standard input",
+);
+
+pub const TURNS_OR_MOVES: Word = Word::FileOptionWithout(
+    "turns",
+    "moves",
+    "The turns: whose statement is next; - for standard input; not with --moves",
+);
+
+pub const UNITS: Word = Word::NumberOption("units", "2", "How many units there are, 1 to 8");
 
 // The placeholders for the two words of a wish.
 const WISH_WORDS: [&str; 2] = ["U.I", "STATUS"];
-
-/// Help for the wish for more, where an echo can be explained too.
-pub const EXPLAIN_ECHO: &str =
-    "Also says where a fault is and what is wrong [default: on a terminal]; with --echo also what is in the way of a refused statement";
-
-/// The same for a picture.
-pub const EXPLAIN_PICTURE: &str =
-    "Tells also where a fault is and what is wrong [default: on a terminal], and what is in the way of a refusal";
-
-/// Help for a schema.
-pub const SCHEMA: &str = "The file of the schema; - for standard input";
-
-/// Help for a script that is made first.
-pub const FIRST: &str = "A script made whole before the others, by the last unit [default: none]";
-
-/// Help for a program that is made first.
-pub const FIRST_PROGRAM: &str =
-    "A program that runs to its end before the others, by the unit after theirs [default: none]";
-
-/// Help for the programs of units.
-pub const PROGRAMS: &str =
-    "Files of the programs of units 1, 2, ..: 1 to 8 in all; - for standard input, once";
-
-/// Help for the scripts of units.
-pub const SCRIPTS: &str =
-    "Files of the scripts of units 1, 2, ..: 1 to 8 of them; - for standard input, once";
 
 // An option without a value.
 fn flag<'a>(alloc: Global, name: &'a str, help: &'a str) -> Arg<'a>
@@ -136,254 +288,23 @@ fn words<'a>(alloc: Global, name: &'a str, shown: &'a str, help: &'a str) -> Arg
         .help(help)
 }
 
-fn always_option<'a>(alloc: Global) -> Result<Arg<'a>, AllocError>
-    ensures { IfOk result (IsArg always) }
-{
-    wish_option(
-        alloc,
-        "always",
-        "Says whether statement I of unit U always has this status; not with --never",
-    )
-    .conflicts_with("never")
-}
-
-fn answers_option<'a>(alloc: Global) -> Arg<'a>
-    ensures { IsArg answers result }
-{
-    flag(
-        alloc,
-        "answers",
-        "Tells results apart by the units' answers too [default: by the rest alone]",
-    )
-}
-
-fn brief_option<'a>(alloc: Global) -> Arg<'a>
-    ensures { IsArg brief result }
-{
-    flag(
-        alloc,
-        "brief",
-        "Shows what differs from the first of each further result, or which one it is like but for numbers [default: all of it]",
-    )
-}
-
-fn capacity_option<'a>(alloc: Global) -> Arg<'a>
-    ensures { IsArg capacity result }
-{
-    let help = "How many numbers each record type has, 1 to 1000";
-    number_option(alloc, "capacity", "100", help)
-}
-
-fn echo_option<'a>(alloc: Global) -> Arg<'a>
-    ensures { IsArg echo result }
-{
-    let help = "Prints each answer after its statement [default: the answers alone]";
-    flag(alloc, "echo", help)
-}
-
-fn explain_option<'a>(alloc: Global) -> Arg<'a>
-    ensures { IsArg explain result }
-{
-    flag(
-        alloc,
-        "explain",
-        "Also says where a fault is and what is wrong [default: on a terminal]",
-    )
-}
-
-fn last_option<'a>(alloc: Global) -> Arg<'a>
-    ensures { IsArg last result }
-{
-    file_option(
-        alloc,
-        "then",
-        "A program that runs to its end after all others have ended, by the last unit [default: none]",
-    )
-}
-
-fn limit_option<'a>(alloc: Global) -> Arg<'a>
-    ensures { IsArg limit result }
-{
-    let help = "States to allow, 1 to 1000000000; as many as the default take about 1 GB";
-    number_option(alloc, "limit", "5000000", help)
-}
-
-fn moves_option<'a>(alloc: Global) -> Arg<'a>
-    ensures { IsArg moves result }
-{
-    file_option(
-        alloc,
-        "moves",
-        "The file of the moves; - for standard input [default: script after script]",
-    )
-}
-
-fn never_option<'a>(alloc: Global) -> Arg<'a>
-    ensures { IsArg never result }
-{
-    wish_option(
-        alloc,
-        "never",
-        "Says whether statement I of unit U never has this status; status 4 if it has, in some order",
-    )
-}
-
-fn no_explain_option<'a>(alloc: Global) -> Arg<'a>
-    ensures { IsArg no_explain result }
-{
-    let help = "Reports a fault by its number alone, on a terminal too";
-    flag(alloc, "no-explain", help)
-}
-
-fn on_threads_option<'a>(alloc: Global) -> Result<Arg<'a>, AllocError>
-    ensures { IfOk result (IsArg on_threads) }
-{
-    flag(
-        alloc,
-        "threads",
-        "Runs each program on a thread of its own [default: one after another]; not with --turns",
-    )
-    .conflicts_with("turns")
-}
-
-fn programs_option<'a>(alloc: Global) -> Arg<'a>
-    ensures { IsArg programs result }
-{
-    let help = "Reads programs instead of scripts [default: scripts]";
-    flag(alloc, "programs", help)
-}
-
-fn save_turns_option<'a>(alloc: Global) -> Arg<'a>
-    ensures { IsArg save_turns result }
-{
-    file_option(
-        alloc,
-        "save-turns",
-        "Writes the turns, as --turns reads them, to a file [default: does not]",
-    )
-}
-
-fn status_option<'a>(alloc: Global) -> Arg<'a>
-    ensures { IsArg status result }
-{
-    let help = "Compares only statuses [default: keys and items too, if the trace has them]";
-    flag(alloc, "status", help)
-}
-
-fn topic_words<'a>(alloc: Global) -> Arg<'a>
-    ensures { IsArg topic result }
-{
-    words(
-        alloc,
-        "topic",
-        "TOPIC",
-        "A status of four digits, or a fault by its number, as script 7 [default: a list of all]",
-    )
-}
-
-fn trace_word<'a>(alloc: Global) -> Arg<'a>
-    ensures { IsArg trace result }
-{
-    let help = "The file of the trace; - for standard input";
-    file_word(alloc, "traced", "TRACE", help)
-}
-
-// A trace for a command that has no echo.
-fn trace_alone<'a>(alloc: Global) -> Arg<'a>
-    ensures { IsArg trace_alone result }
-{
-    let help = "Prints a trace in place of the answers, as 'audit' reads it";
-    flag(alloc, "trace", help)
-}
-
-fn trace_option<'a>(alloc: Global) -> Result<Arg<'a>, AllocError>
-    ensures { IfOk result (IsArg trace_option) }
-{
-    flag(
-        alloc,
-        "trace",
-        "Prints a trace instead of the answers, as 'audit' reads it; not with --echo",
-    )
-    .conflicts_with("echo")
-}
-
-// Turns for a command that takes no moves.
-fn turns_alone<'a>(alloc: Global) -> Arg<'a>
-    ensures { IsArg turns_alone result }
-{
-    file_option(
-        alloc,
-        "turns",
-        "The turns: whose statement is next; - for standard input [default: program after program]",
-    )
-}
-
-fn turns_before_option<'a>(alloc: Global) -> Arg<'a>
-    ensures { IsArg turns_alone result }
-{
-    let help = "The file of the turns to go on from; - for standard input [default: none]";
-    file_option(alloc, "turns", help)
-}
-
-fn turns_option<'a>(alloc: Global) -> Result<Arg<'a>, AllocError>
-    ensures { IfOk result (IsArg turns_option) }
-{
-    file_option(
-        alloc,
-        "turns",
-        "The turns: whose statement is next; - for standard input; not with --moves",
-    )
-    .conflicts_with("moves")
-}
-
-fn turns_word<'a>(alloc: Global) -> Arg<'a>
-    ensures { IsArg turns_file result }
-{
-    let help = "The file of the turns; - for standard input";
-    file_word(alloc, "turns", "FILE", help)
-}
-
-fn units_option<'a>(alloc: Global) -> Arg<'a>
-    ensures { IsArg units result }
-{
-    number_option(alloc, "units", "2", "How many units there are, 1 to 8")
-}
-
 /// A word as `clap` is given it.
 pub fn arg_of<'a>(alloc: Global, word: Word<'a>) -> Result<Arg<'a>, AllocError>
     ensures { IfOk result (IsArg (rule_for word.entry)) }
 {
     match word {
-        Word::All(help) => Ok(flag(alloc, "all", help)),
-        Word::Always => always_option(alloc),
-        Word::Answers => Ok(answers_option(alloc)),
-        Word::Brief => Ok(brief_option(alloc)),
-        Word::Capacity => Ok(capacity_option(alloc)),
-        Word::Echo => Ok(echo_option(alloc)),
-        Word::Explain => Ok(explain_option(alloc)),
-        Word::ExplainMore(help) => Ok(flag(alloc, "explain", help)),
-        Word::First(help) => Ok(file_option(alloc, "first", help)),
-        Word::Last => Ok(last_option(alloc)),
-        Word::Limit => Ok(limit_option(alloc)),
-        Word::Moves => Ok(moves_option(alloc)),
-        Word::Never => Ok(never_option(alloc)),
-        Word::NoExplain => Ok(no_explain_option(alloc)),
-        Word::OnThreads => on_threads_option(alloc),
-        Word::Programs => Ok(programs_option(alloc)),
-        Word::ProgramFiles(help) => Ok(words(alloc, "scripts", "PROGRAM", help)),
-        Word::SaveTurns => Ok(save_turns_option(alloc)),
-        Word::Schema(help) => Ok(file_word(alloc, "schema", "SCHEMA", help)),
-        Word::Scripts(help) => Ok(words(alloc, "scripts", "SCRIPT", help)),
-        Word::Status => Ok(status_option(alloc)),
-        Word::Svg(help) => Ok(flag(alloc, "svg", help)),
-        Word::Topic => Ok(topic_words(alloc)),
-        Word::Trace => Ok(trace_word(alloc)),
-        Word::TraceAlone => Ok(trace_alone(alloc)),
-        Word::TraceOption => trace_option(alloc),
-        Word::TurnsAlone => Ok(turns_alone(alloc)),
-        Word::TurnsBefore => Ok(turns_before_option(alloc)),
-        Word::TurnsOption => turns_option(alloc),
-        Word::TurnsFile => Ok(turns_word(alloc)),
-        Word::Units => Ok(units_option(alloc)),
+        Word::Flag(name, help) => Ok(flag(alloc, name, help)),
+        Word::FlagWithout(name, other, help) => flag(alloc, name, help).conflicts_with(other),
+        Word::FileOption(name, help) => Ok(file_option(alloc, name, help)),
+        Word::FileOptionWithout(name, other, help) => {
+            file_option(alloc, name, help).conflicts_with(other)
+        }
+        Word::NumberOption(name, usual, help) => Ok(number_option(alloc, name, usual, help)),
+        Word::WishOption(name, help) => Ok(wish_option(alloc, name, help)),
+        Word::WishOptionWithout(name, other, help) => {
+            wish_option(alloc, name, help).conflicts_with(other)
+        }
+        Word::File(name, shown, help) => Ok(file_word(alloc, name, shown, help)),
+        Word::Words(name, shown, help) => Ok(words(alloc, name, shown, help)),
     }
 }

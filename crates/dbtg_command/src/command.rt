@@ -6,7 +6,11 @@ ghost use Rattle.dbtg_command.specs.Commands.{name_of, program, rules_for};
 ghost use Rattle.dbtg_command.specs.Inside.Commands.{IsApp, alone, rule_for, with_command};
 
 use crate::arguments::{
-    EXPLAIN_ECHO, EXPLAIN_PICTURE, FIRST, FIRST_PROGRAM, PROGRAMS, SCHEMA, SCRIPTS, Word, arg_of,
+    ALL_FAULTS, ALL_LINES, ALWAYS, ANSWERS, BRIEF, CAPACITY, CHECKED_SCRIPTS, ECHO, EXPLAIN,
+    EXPLAIN_ECHO, EXPLAIN_PICTURE, FIRST, FIRST_PROGRAM, LAST, LIMIT, MOVES, NEVER, NO_EXPLAIN,
+    ON_THREADS, PROGRAM_FILES, PROGRAMS, SAVE_TURNS, SCHEMA, SCHEMA_ALONE, SCRIPTS,
+    SCRIPTS_ON_THREADS, STATUS, SVG, TOPIC, TRACE, TRACE_FILE, TRACE_OR_ECHO, TURNS, TURNS_BEFORE,
+    TURNS_FILE, TURNS_OR_MOVES, UNITS, Word, arg_of,
 };
 use clap::error::ErrorKind;
 use clap::{Command, Error};
@@ -51,20 +55,19 @@ fn described<'a>(
 fn check_command<'a>(alloc: Global, name: &'a str) -> Result<Command<'a>, AllocError>
     ensures { IfOk result (IsApp (alone name.entry.now (rules_for Named.Check))) }
 {
-    let scripts = "Files of scripts of this schema, any number of them; - for standard input, once";
     described(
         alloc,
         name,
         "Reads a schema and scripts, and says how large they are",
         "Example: dbtg check shop.schema unit1.script unit2.script",
         &[
-            Word::All("Reports the first fault of each file [default: only the first of all]"),
-            Word::First(FIRST),
-            Word::Programs,
-            Word::Explain,
-            Word::NoExplain,
-            Word::Schema(SCHEMA),
-            Word::Scripts(scripts),
+            ALL_FAULTS,
+            FIRST,
+            PROGRAMS,
+            EXPLAIN,
+            NO_EXPLAIN,
+            SCHEMA,
+            CHECKED_SCRIPTS,
         ],
     )
 }
@@ -78,7 +81,7 @@ fn draw_command<'a>(alloc: Global, name: &'a str) -> Result<Command<'a>, AllocEr
         name,
         "Prints the diagram of a schema, as Graphviz reads it: record types, and the sets from owner to member",
         "Example: dbtg draw shop.schema | dot -Tsvg > shop.svg",
-        &[Word::Explain, Word::NoExplain, Word::Schema(SCHEMA)],
+        &[EXPLAIN, NO_EXPLAIN, SCHEMA],
     )
 }
 
@@ -91,7 +94,7 @@ fn explain_command<'a>(alloc: Global, name: &'a str) -> Result<Command<'a>, Allo
         name,
         "Says what a status or a fault means, when it comes and what to do next",
         "Examples: dbtg explain 0505, dbtg explain schema 7\nFaults have numbers: schema 1 to 18, script 1 to 14, program 1 to 14 and 21 to 27, moves 1 to 2, turns 1 to 2, trace 1 to 14 and 31 to 33",
-        &[Word::Topic],
+        &[TOPIC],
     )?
     .override_usage(
         "dbtg explain [CODE | schema N | script N | program N | moves N | turns N | trace N]",
@@ -108,16 +111,16 @@ fn replay_command<'a>(alloc: Global, name: &'a str) -> Result<Command<'a>, Alloc
         "Runs scripts, and prints the answers, the database and the units",
         "Example: dbtg replay --capacity 10 --moves shop.moves shop.schema unit1.script unit2.script",
         &[
-            Word::Capacity,
-            Word::First(FIRST),
-            Word::Moves,
-            Word::TurnsOption,
-            Word::Echo,
-            Word::TraceOption,
-            Word::ExplainMore(EXPLAIN_ECHO),
-            Word::NoExplain,
-            Word::Schema(SCHEMA),
-            Word::Scripts(SCRIPTS),
+            CAPACITY,
+            FIRST,
+            MOVES,
+            TURNS_OR_MOVES,
+            ECHO,
+            TRACE_OR_ECHO,
+            EXPLAIN_ECHO,
+            NO_EXPLAIN,
+            SCHEMA,
+            SCRIPTS,
         ],
     )
 }
@@ -131,14 +134,7 @@ fn turns_command<'a>(alloc: Global, name: &'a str) -> Result<Command<'a>, AllocE
         name,
         "Prints the moves that turns stand for, as a file of moves",
         "Example: dbtg turns a.turns shop.schema unit1.script unit2.script",
-        &[
-            Word::Capacity,
-            Word::Explain,
-            Word::NoExplain,
-            Word::TurnsFile,
-            Word::Schema(SCHEMA),
-            Word::Scripts(SCRIPTS),
-        ],
+        &[CAPACITY, EXPLAIN, NO_EXPLAIN, TURNS_FILE, SCHEMA, SCRIPTS],
     )
 }
 
@@ -152,15 +148,15 @@ fn timeline_command<'a>(alloc: Global, name: &'a str) -> Result<Command<'a>, All
         "Prints a picture of an interleaving: a lane for each unit, event by event",
         "Example: dbtg timeline --moves shop.moves shop.schema unit1.script unit2.script",
         &[
-            Word::Capacity,
-            Word::First(FIRST),
-            Word::Moves,
-            Word::TurnsOption,
-            Word::Svg("Draws as SVG [default: plain text]"),
-            Word::ExplainMore(EXPLAIN_PICTURE),
-            Word::NoExplain,
-            Word::Schema(SCHEMA),
-            Word::Scripts(SCRIPTS),
+            CAPACITY,
+            FIRST,
+            MOVES,
+            TURNS_OR_MOVES,
+            SVG,
+            EXPLAIN_PICTURE,
+            NO_EXPLAIN,
+            SCHEMA,
+            SCRIPTS,
         ],
     )
 }
@@ -175,14 +171,14 @@ fn page_command<'a>(alloc: Global, name: &'a str) -> Result<Command<'a>, AllocEr
         "Prints a page for a browser to step through a run: statements, records, sets and what is current",
         "Example: dbtg page --moves shop.moves shop.schema unit1.script unit2.script > run.html",
         &[
-            Word::Capacity,
-            Word::First(FIRST),
-            Word::Moves,
-            Word::TurnsOption,
-            Word::Explain,
-            Word::NoExplain,
-            Word::Schema(SCHEMA),
-            Word::Scripts(SCRIPTS),
+            CAPACITY,
+            FIRST,
+            MOVES,
+            TURNS_OR_MOVES,
+            EXPLAIN,
+            NO_EXPLAIN,
+            SCHEMA,
+            SCRIPTS,
         ],
     )
 }
@@ -197,17 +193,8 @@ fn outcomes_command<'a>(alloc: Global, name: &'a str) -> Result<Command<'a>, All
         "Prints all that can come out when scripts meet, each with an order that shows it",
         "Example: dbtg outcomes shop.schema unit1.script unit2.script\nWith a small --capacity it is several times as fast, and takes less memory",
         &[
-            Word::Capacity,
-            Word::First(FIRST),
-            Word::Limit,
-            Word::Answers,
-            Word::Brief,
-            Word::Never,
-            Word::Always,
-            Word::Explain,
-            Word::NoExplain,
-            Word::Schema(SCHEMA),
-            Word::Scripts(SCRIPTS),
+            CAPACITY, FIRST, LIMIT, ANSWERS, BRIEF, NEVER, ALWAYS, EXPLAIN, NO_EXPLAIN, SCHEMA,
+            SCRIPTS,
         ],
     )
 }
@@ -216,22 +203,20 @@ fn outcomes_command<'a>(alloc: Global, name: &'a str) -> Result<Command<'a>, All
 fn threads_command<'a>(alloc: Global, name: &'a str) -> Result<Command<'a>, AllocError>
     ensures { IfOk result (IsApp (alone name.entry.now (rules_for Named.Threads))) }
 {
-    let scripts =
-        "Files of the scripts of units 1, 2, ..: 1 to 8, a thread each; - for standard input, once";
     described(
         alloc,
         name,
         "Runs scripts on threads, and prints the answers, the database, the units and the audit",
         "Example: dbtg threads --capacity 10 shop.schema unit1.script unit2.script",
         &[
-            Word::Capacity,
-            Word::First(FIRST),
-            Word::SaveTurns,
-            Word::TraceAlone,
-            Word::Explain,
-            Word::NoExplain,
-            Word::Schema(SCHEMA),
-            Word::Scripts(scripts),
+            CAPACITY,
+            FIRST,
+            SAVE_TURNS,
+            TRACE,
+            EXPLAIN,
+            NO_EXPLAIN,
+            SCHEMA,
+            SCRIPTS_ON_THREADS,
         ],
     )
 }
@@ -246,15 +231,7 @@ fn audit_command<'a>(alloc: Global, name: &'a str) -> Result<Command<'a>, AllocE
         "Says whether the answers of a trace are those of this database, and what it leads to",
         "Example: dbtg audit --units 2 shop.schema shop.trace",
         &[
-            Word::Capacity,
-            Word::First(FIRST),
-            Word::Units,
-            Word::Status,
-            Word::All("Reports every line that differs [default: the first]"),
-            Word::Explain,
-            Word::NoExplain,
-            Word::Schema(SCHEMA),
-            Word::Trace,
+            CAPACITY, FIRST, UNITS, STATUS, ALL_LINES, EXPLAIN, NO_EXPLAIN, SCHEMA, TRACE_FILE,
         ],
     )
 }
@@ -269,18 +246,18 @@ fn run_command<'a>(alloc: Global, name: &'a str) -> Result<Command<'a>, AllocErr
         "Runs programs, and prints the answers, the database, the units and how each program ended",
         "Example: dbtg run --turns shop.turns shop.schema clerk1.program clerk2.program",
         &[
-            Word::Capacity,
-            Word::First(FIRST_PROGRAM),
-            Word::TurnsAlone,
-            Word::OnThreads,
-            Word::SaveTurns,
-            Word::Last,
-            Word::Echo,
-            Word::TraceOption,
-            Word::Explain,
-            Word::NoExplain,
-            Word::Schema(SCHEMA),
-            Word::ProgramFiles(PROGRAMS),
+            CAPACITY,
+            FIRST_PROGRAM,
+            TURNS,
+            ON_THREADS,
+            SAVE_TURNS,
+            LAST,
+            ECHO,
+            TRACE_OR_ECHO,
+            EXPLAIN,
+            NO_EXPLAIN,
+            SCHEMA,
+            PROGRAM_FILES,
         ],
     )
 }
@@ -295,16 +272,16 @@ fn explore_command<'a>(alloc: Global, name: &'a str) -> Result<Command<'a>, Allo
         "Lists all that can come out when programs meet, how they fail, and whether they can go on for ever",
         "Example: dbtg explore --first load.program shop.schema clerk1.program clerk2.program\nThe turns of a result are those for 'dbtg run' with the same --first and --then; status 4 if a program can fail",
         &[
-            Word::Capacity,
-            Word::First(FIRST_PROGRAM),
-            Word::TurnsBefore,
-            Word::Last,
-            Word::Limit,
-            Word::Brief,
-            Word::Explain,
-            Word::NoExplain,
-            Word::Schema(SCHEMA),
-            Word::ProgramFiles(PROGRAMS),
+            CAPACITY,
+            FIRST_PROGRAM,
+            TURNS_BEFORE,
+            LAST,
+            LIMIT,
+            BRIEF,
+            EXPLAIN,
+            NO_EXPLAIN,
+            SCHEMA,
+            PROGRAM_FILES,
         ],
     )
 }
@@ -313,13 +290,12 @@ fn explore_command<'a>(alloc: Global, name: &'a str) -> Result<Command<'a>, Allo
 fn shell_command<'a>(alloc: Global, name: &'a str) -> Result<Command<'a>, AllocError>
     ensures { IfOk result (IsApp (alone name.entry.now (rules_for Named.Shell))) }
 {
-    let schema = "The file of the schema";
     described(
         alloc,
         name,
         "Reads statements from standard input, and answers each at once",
         "Example: dbtg shell shop.schema; .help shows what can be typed there",
-        &[Word::Capacity, Word::Units, Word::Schema(schema)],
+        &[CAPACITY, UNITS, SCHEMA_ALONE],
     )
 }
 
@@ -460,5 +436,8 @@ pub fn refused(
     kind: ErrorKind,
     told: &str,
 ) -> Result<Error, AllocError> {
-    command_of(alloc, named, shown_name(named))?.error(kind, told)
+    match command_of(alloc, named, shown_name(named)) {
+        Ok(mut command) => command.error(kind, told),
+        Err(refused) => Err(refused),
+    }
 }

@@ -8,45 +8,27 @@ use Rattle.clap.specs.declared.builder.command.Command.{Command}
 use Rattle.clap.specs.declared.builder.command.Command.TheViews.{out-Command as fields_of}
 use Rattle.clap.specs.declared.parser.matches.ArgMatches.{ArgMatches}
 use Rattle.dbtg_command.specs.Calling.{IsCall}
-use Rattle.dbtg_command.specs.Commands.{all, answers, capacity, echo, explain, first, last, limit, moves, name_of, no_explain, on_threads, programs, rules_for, save_turns, schema, scripts, shape_with, svg, topic, turns_option, turns_file, units, status, trace, trace_alone, trace_option, always, brief, never, turns_alone}
+use Rattle.dbtg_command.specs.Commands.{file_option, file_word, flag, name_of, number_option, rules_for, shape_with, wish_option, words}
 use Rattle.dbtg_command.specs.declared.arguments.Word.{Word}
 use Rattle.dbtg_command.specs.declared.arguments.Word.TheVariants as word
 use Rattle.dbtg_command.specs.declared.command.Named.{Named}
 use Rattle.dbtg_command.specs.declared.call.Call.{Call}
 
+-- a word that excludes an option is not free
+abbrev pub excluding : Rule → Rule
+excluding rule = record rule { is_free = false }
+
 -- the rule of a word
 abbrev pub rule_for : Word → Rule
-rule_for (word.All help) = all
-rule_for word.Always = always
-rule_for word.Answers = answers
-rule_for word.Brief = brief
-rule_for word.Capacity = capacity
-rule_for word.Echo = echo
-rule_for word.Explain = explain
-rule_for (word.ExplainMore help) = explain
-rule_for (word.First help) = first
-rule_for word.Last = last
-rule_for word.Limit = limit
-rule_for word.Moves = moves
-rule_for word.Never = never
-rule_for word.NoExplain = no_explain
-rule_for word.OnThreads = on_threads
-rule_for word.Programs = programs
-rule_for (word.ProgramFiles help) = scripts
-rule_for word.SaveTurns = save_turns
-rule_for (word.Schema help) = schema
-rule_for (word.Scripts help) = scripts
-rule_for word.Status = status
-rule_for (word.Svg help) = svg
-rule_for word.Topic = topic
-rule_for word.Trace = trace
-rule_for word.TraceAlone = trace_alone
-rule_for word.TraceOption = trace_option
-rule_for word.TurnsAlone = turns_alone
-rule_for word.TurnsBefore = turns_alone
-rule_for word.TurnsOption = turns_option
-rule_for word.TurnsFile = turns_file
-rule_for word.Units = units
+rule_for (word.Flag name help) = flag name.now
+rule_for (word.FlagWithout name other help) = excluding (flag name.now)
+rule_for (word.FileOption name help) = file_option name.now
+rule_for (word.FileOptionWithout name other help) = excluding (file_option name.now)
+rule_for (word.NumberOption name usual help) = number_option name.now usual.now
+rule_for (word.WishOption name help) = wish_option name.now
+rule_for (word.WishOptionWithout name other help) = excluding (wish_option name.now)
+rule_for (word.File name shown help) = file_word name.now
+rule_for (word.Words name shown help) = words name.now
 
 -- the argument has this rule, in its own command alone
 pub record IsArg (rule : Rule) (arg : Arg) : Type 0 where
