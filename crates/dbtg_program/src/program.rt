@@ -15,7 +15,7 @@ pub enum Operand {
 }
 
 /// How two values compare.
-#[derive(Clone, Copy, PartialEq, Eq)]
+#[derive(Clone, Copy)]
 pub enum Relation {
     Less,
     Equal,
