@@ -2,6 +2,7 @@
 use Rattle.std.proofs.Common.{◌≡◌, ℕ, Bool, true, false, cond, not, ◌&&◌, ◌||◌, ◌==◌, List, [], ◌∷◌, ◌++◌, map, Some, None, refl, sym, ap, ◌∙◌}
 use Rattle.std.specs.Prelude.{Option, is_none, option_map}
 use Rattle.std.specs.List.{list_all}
+use Rattle.std.proofs.lemmas.Bool.{eqb-true}
 use Rattle.dbtg_schema.specs.Lists.{Lists}
 use Rattle.dbtg_schema.proofs.Public.{both_nil}
 use Rattle.dbtg_schema.specs.Structure.{area_of, calc_of, is_system, member_clause, order_of}
@@ -30,9 +31,7 @@ shape (literal t) = literal []
 
 -- a word in this role is a value
 abbrev pub is_valued : Role → Bool
-is_valued role.Value = true
-is_valued role.SortedValue = true
-is_valued _ = false
+is_valued r = number r == number role.Value || number r == number role.SortedValue
 
 -- a word, without its text if it is a value
 abbrev pub bare : Labelled → Labelled
@@ -49,11 +48,15 @@ has_bare r (w ∷ ws) = λ i. (number (role_bare w i) == number r) || has_bare r
 
 last_bare : (r p : Role) (x : Token) (t : List ℕ) → is_valued r ≡ false
     → cond (is r (bare (labelled p x))) (text_of (bare (labelled p x)).word) t ≡ cond (is r (labelled p x)) (text_of x) t
-last_bare role.Value p x t h = absurd cc
-last_bare role.SortedValue p x t h = absurd cc
-last_bare _ role.Value x t h = refl
-last_bare _ role.SortedValue x t h = refl
-last_bare _ _ x t h = refl
+last_bare r p x t h = by_role (number p == number r) refl
+  where
+    by_role : (b : Bool) → (number p == number r) ≡ b → cond (is r (bare (labelled p x))) (text_of (bare (labelled p x)).word) t ≡ cond (is r (labelled p x)) (text_of x) t
+    by_role true e =
+        let other : is_valued p ≡ false = ap (λ (n : ℕ). n == number role.Value || n == number role.SortedValue) (eqb-true (number p) (number r) e) ∙ h in
+        ap (λ (w : Labelled). cond (is r w) (text_of w.word) t) (ap (λ b. cond b (labelled p (shape x)) (labelled p x)) other)
+    by_role false e =
+        let other : is r (bare (labelled p x)) ≡ false = ap (λ (q : Role). number q == number r) (role_bare (labelled p x)) ∙ e in
+        ap (λ b. cond b (text_of (bare (labelled p x)).word) t) other ∙ sym (ap (λ b. cond b (text_of x) t) e)
 
 named_from : (r : Role) (t : List ℕ) (ws : List Labelled) → is_valued r ≡ false → last_text r t (map bare ws) ≡ last_text r t ws
 named_from r t [] h = refl

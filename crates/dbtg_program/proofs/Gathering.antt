@@ -1,9 +1,9 @@
 -- Names are entered one after another, and lead to the place where they first stand.
-use Rattle.std.proofs.Common.{◌≡◌, ℕ, ◌+◌, ◌<◌, cond, List, [], ◌∷◌, ◌++◌, length, get_or, take, map, Some, None, sym, ap, ◌∙◌, arith}
+use Rattle.std.proofs.Common.{◌≡◌, ℕ, ◌+◌, ◌<◌, ◌≤◌, cond, List, [], ◌∷◌, ◌++◌, length, get_or, take, drop, refl, map, Some, None, sym, ap, ◌∙◌, arith}
 use Rattle.std.specs.Prelude.{Option}
 use Rattle.std.specs.Option.{option_or}
 use Rattle.std.specs.Str.{bytes_eq}
-use Rattle.std.proofs.lemmas.List.{get_or_default, length-map, length-take-le, map_more}
+use Rattle.std.proofs.lemmas.List.{get_or_default, length-append, length-map, length-take-le, map_more}
 use Rattle.dbtg_schema.specs.Lookups.{some_and}
 use Rattle.dbtg_schema.specs.Structure.{place_of}
 use Rattle.dbtg_schema.specs.declared.shape.Item.{Item}
@@ -41,3 +41,11 @@ field_entered old new xs i x lt is before enters q =
     ∙ sym (position_more (bytes_eq q) 0 names x.name)
     ∙ ap (λ (z : Item). place_of q (names ++ z.name ∷ [])) is
     ∙ ap (place_of q) (sym (map_more (λ (f : Item). f.name) xs i x lt))
+
+-- what was appended is behind what was there
+pub behind_front : {X : Type 0} (xs ys : List X) (n : ℕ) → n ≡ length xs → drop n (xs ++ ys) ≡ ys
+behind_front [] ys n e = rw e refl
+behind_front (x ∷ xs) ys n e = rw e (behind_front xs ys (length xs) refl)
+
+pub front_within : {X : Type 0} (xs ys : List X) (n : ℕ) → n ≡ length xs → n ≤ length (xs ++ ys)
+front_within xs ys n e = omega (arith, e, length-append xs ys)

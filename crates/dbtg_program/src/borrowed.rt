@@ -5,7 +5,7 @@ ghost use Rattle.dbtg_program.specs.Conditions.{is_less, stand_so};
 ghost use Rattle.dbtg_cells.specs.Keys.{bytes_below};
 ghost use Rattle.dbtg_script.specs.Values.{filled};
 ghost use Rattle.dbtg_program.specs.Inside.Views.{view};
-ghost use Rattle.std.specs.Prelude.{◌≡◌, IfOk, length, replicate};
+ghost use Rattle.std.specs.Prelude.{◌≡◌, IfOk, length, nat_lt, replicate};
 
 use crate::program::Relation;
 use dbtg_cells::Value;
@@ -39,23 +39,14 @@ pub fn owned(alloc: Global, value: Borrowed) -> Result<Value, AllocError>
     }
 }
 
-/// Is this text greater than as many spaces?
-fn spaces_below(text: &[u8]) -> bool
-    ensures { result ≡ bytes_below (replicate (length text.now) 32) text.now }
+/// The first byte that is not a space; a space if there is none.
+fn first_other(text: &[u8]) -> u8
+    ensures above { nat_lt 32 result ≡ bytes_below (replicate (length text.now) 32) text.now }
+    ensures below { nat_lt result 32 ≡ bytes_below text.now (replicate (length text.now) 32) }
 {
     match text.split_first() {
-        None => false,
-        Some((b, rest)) => b' ' < *b || (b' ' == *b && spaces_below(rest)),
-    }
-}
-
-/// Is this text less than as many spaces?
-fn below_spaces(text: &[u8]) -> bool
-    ensures { result ≡ bytes_below text.now (replicate (length text.now) 32) }
-{
-    match text.split_first() {
-        None => false,
-        Some((b, rest)) => *b < b' ' || (*b == b' ' && below_spaces(rest)),
+        None => b' ',
+        Some((b, rest)) => if *b == b' ' { first_other(rest) } else { *b },
     }
 }
 
@@ -64,10 +55,10 @@ fn text_below(a: &[u8], b: &[u8]) -> bool
     ensures { result ≡ bytes_below (filled (length b.now) a.now) (filled (length a.now) b.now) }
 {
     match a.split_first() {
-        None => spaces_below(b),
+        None => b' ' < first_other(b),
         Some((x, xs)) => {
             match b.split_first() {
-                None => below_spaces(a),
+                None => first_other(a) < b' ',
                 Some((y, ys)) => *x < *y || (*x == *y && text_below(xs, ys)),
             }
         }

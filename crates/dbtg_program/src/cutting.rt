@@ -5,7 +5,7 @@ ghost use Rattle.dbtg_script.specs.Tokens.{plain, tokens, view};
 ghost use Rattle.dbtg_program.specs.Sentences.{apart, is_sign, paragraph_in, parts, sentences_of, with_signs};
 ghost use Rattle.dbtg_program.specs.Inside.Views.{view_holding};
 ghost use Rattle.std.specs.List.{flat_map};
-ghost use Rattle.std.specs.Prelude.{◌≡◌, ◌==◌, ◌&&◌, ◌<◌, ◌≤◌, ◌∷◌, ◌++◌, ℕ, [], IfOk, MatchOption, OnOk, OnSome, drop, false, true, length, map, option_map, slice_index, take};
+ghost use Rattle.std.specs.Prelude.{◌≡◌, ◌==◌, ◌&&◌, ◌<◌, ◌≤◌, ◌∷◌, ◌++◌, ℕ, [], IfOk, OnOk, drop, false, true, length, map, option_map, slice_index, take};
 
 use crate::grammar::Keyword;
 use crate::word::{begins, is_own_name};
@@ -17,12 +17,6 @@ use std::alloc::{AllocError, Global};
 pub struct Holding<'a> {
     pub number: u64,
     pub line: &'a [u8],
-}
-
-/// What is left of a word that is cut at its signs.
-#[derive(Clone, Copy)]
-struct Parts<'a> {
-    rest: &'a [u8],
 }
 
 fn is_sign(b: u8) -> bool
@@ -55,28 +49,15 @@ fn part_len(bytes: &[u8]) -> usize
     if run == 0 { 1 } else { run }
 }
 
-impl<'a> Parts<'a> {
-    /// The next part.
-    fn next(&mut self) -> Option<&'a [u8]>
-        ensures found { MatchOption result (parts self.old.rest.now ≡ []) (λ p. parts self.old.rest.now ≡ p.now ∷ parts self.new.rest.now) }
-        ensures shorter { OnSome result (length self.new.rest.now < length self.old.rest.now) }
-    {
-        let rest = self.rest;
-        if rest.is_empty() {
-            return None;
-        }
-        let (part, behind) = rest.split_at(part_len(rest));
-        *self = Parts { rest: behind };
-        Some(part)
-    }
-}
-
+/// Adds the parts of a word.
 fn push_parts<'a>(words: &mut Vec<Token<'a>>, word: &'a [u8]) -> Result<(), AllocError>
     ensures { OnOk result (map view words.new.items ≡ map view words.old.items ++ map plain (parts word.now)) }
 {
-    let mut left = Parts { rest: word };
-    while let Some(part) = left.next() {
+    let mut rest = word;
+    while !rest.is_empty() {
+        let (part, behind) = rest.split_at(part_len(rest));
         words.push(Token::Plain(part))?;
+        rest = behind;
     }
     Ok(())
 }
@@ -87,8 +68,7 @@ fn push_apart<'a>(words: &mut Vec<Token<'a>>, token: Token<'a>) -> Result<(), Al
 {
     match token {
         Token::Plain(word) => push_parts(words, word),
-        Token::Equals => Ok(words.push(Token::Equals)?),
-        Token::Literal(text) => Ok(words.push(Token::Literal(text))?),
+        Token::Equals | Token::Literal(_) => Ok(words.push(token)?),
     }
 }
 

@@ -2,13 +2,12 @@
 
 ghost use Rattle.dbtg_schema.specs.Lookups.{first, some_and};
 ghost use Rattle.dbtg_schema.specs.Texts.Spelling.{among};
-ghost use Rattle.dbtg_script.specs.Tokens.{Token as SeenToken, view};
-ghost use Rattle.dbtg_program.specs.Faults.{are_two_kinds, faults_from, is_no_counter_name, is_text, is_text_picture, is_too_great, is_too_great_for, literal_value, names_no_field, said, when};
+ghost use Rattle.dbtg_script.specs.Tokens.{view};
+ghost use Rattle.dbtg_program.specs.Faults.{are_two_kinds, faults_from, is_no_counter_name, is_text, is_too_great, is_too_great_for, literal_value, names_no_field, said, when};
 ghost use Rattle.dbtg_program.specs.Sentences.{counters_of, fields_in, picture_in};
 ghost use Rattle.dbtg_program.specs.Inside.Views.{view as seen};
-ghost use Rattle.dbtg_program.specs.declared.grammar.Role.TheVariants as role;
 ghost use Rattle.dbtg_program.specs.Values.{can_hold};
-ghost use Rattle.std.specs.Prelude.{◌≡◌, List, ℕ, length, map, option_map, take};
+ghost use Rattle.std.specs.Prelude.{◌≡◌, ◌++◌, length, map, nat_le, option_map, take};
 
 use crate::borrowed::Borrowed;
 use crate::fault::ProgramCause;
@@ -25,8 +24,6 @@ use dbtg_script::{Cause, Token, number};
 const COUNTERS: usize = 64;
 
 const UNEXPECTED: ProgramCause = ProgramCause::AsInScript(Cause::UnexpectedWord);
-
-const TOO_GREAT: ProgramCause = ProgramCause::AsInScript(Cause::TooGreat);
 
 /// The value of a literal, if a field could have it.
 pub fn literal_value(token: Token<'_>) -> Option<Borrowed<'_>>
@@ -53,12 +50,6 @@ pub fn literal_value(token: Token<'_>) -> Option<Borrowed<'_>>
     }
 }
 
-fn is_text_picture(picture: Option<Picture>) -> bool
-    ensures { result ≡ some_and is_text_picture picture }
-{
-    matches!(picture, Some(Picture::Text(_)))
-}
-
 /// Is the word's value a text, and not a number?
 fn is_text(text: &Text, token: Token) -> bool
     ensures { result ≡ is_text text.now (view token.entry) }
@@ -66,7 +57,7 @@ fn is_text(text: &Text, token: Token) -> bool
     if is_literal(token) {
         matches!(token, Token::Literal(_))
     } else {
-        is_text_picture(text.picture(token))
+        matches!(text.picture(token), Some(Picture::Text(_)))
     }
 }
 
@@ -141,7 +132,7 @@ fn is_no_counter_name(text: &Text, at: usize, name: &[u8]) -> bool
 }
 
 fn counter_fault(text: &Text, at: usize) -> Option<ProgramCause>
-    ensures { (words : List SeenToken) (w : SeenToken) → result ≡ first (said text.now at words w role.Counter) }
+    ensures { result ≡ first (when (nat_le (length (counters_of text.now.sentences)) at) ProgramCause.CounterBehind ++ when (nat_le 64 at) ProgramCause.TooManyCounters) }
 {
     if text.counters().len() <= at {
         Some(ProgramCause::CounterBehind)
@@ -152,68 +143,16 @@ fn counter_fault(text: &Text, at: usize) -> Option<ProgramCause>
     }
 }
 
-fn value_fault(text: &Text, token: Token) -> Option<ProgramCause>
-    ensures { (at : ℕ) (words : List SeenToken) → result ≡ first (said text.now at words (view token.entry) role.FirstValue) }
+/// The first fault of a value, with the results of the tests that depend on its role.
+fn value_fault(text: &Text, token: Token, two_kinds: bool, too_great: bool) -> Option<ProgramCause>
+    ensures { result ≡ first (when (names_no_field text.now (view token.entry)) ProgramCause.UnknownField ++ when two_kinds ProgramCause.TwoKinds ++ when too_great (ProgramCause.AsInScript Cause.TooGreat)) }
 {
     if names_no_field(text, token) {
         Some(ProgramCause::UnknownField)
-    } else if is_too_great(token) {
-        Some(TOO_GREAT)
-    } else {
-        None
-    }
-}
-
-fn number_fault(text: &Text, token: Token) -> Option<ProgramCause>
-    ensures { (at : ℕ) (words : List SeenToken) → result ≡ first (said text.now at words (view token.entry) role.FirstNumber) }
-{
-    if names_no_field(text, token) {
-        Some(ProgramCause::UnknownField)
-    } else if is_text(text, token) {
+    } else if two_kinds {
         Some(ProgramCause::TwoKinds)
-    } else if is_too_great(token) {
-        Some(TOO_GREAT)
-    } else {
-        None
-    }
-}
-
-fn second_fault(text: &Text, words: &[Token], token: Token) -> Option<ProgramCause>
-    ensures { (at : ℕ) → result ≡ first (said text.now at (map view words.now) (view token.entry) role.SecondValue) }
-{
-    if names_no_field(text, token) {
-        Some(ProgramCause::UnknownField)
-    } else if are_two_kinds(text, word_at(words, 1), token) {
-        Some(ProgramCause::TwoKinds)
-    } else if is_too_great(token) {
-        Some(TOO_GREAT)
-    } else {
-        None
-    }
-}
-
-fn moved_fault(text: &Text, words: &[Token], token: Token) -> Option<ProgramCause>
-    ensures { (at : ℕ) → result ≡ first (said text.now at (map view words.now) (view token.entry) role.MovedTo) }
-{
-    let value = word_at(words, 1);
-    if names_no_field(text, token) {
-        Some(ProgramCause::UnknownField)
-    } else if are_two_kinds(text, value, token) {
-        Some(ProgramCause::TwoKinds)
-    } else if is_too_great_for(text.picture(token), value) {
-        Some(TOO_GREAT)
-    } else {
-        None
-    }
-}
-
-fn counted_fault(text: &Text, token: Token) -> Option<ProgramCause>
-    ensures { (at : ℕ) (words : List SeenToken) → result ≡ first (said text.now at words (view token.entry) role.CountedTo) }
-{
-    if names_no_field(text, token) {
-        Some(ProgramCause::UnknownField)
-    } else if is_text(text, token) {
-        Some(ProgramCause::TwoKinds)
+    } else if too_great {
+        Some(ProgramCause::AsInScript(Cause::TooGreat))
     } else {
         None
     }
@@ -240,11 +179,21 @@ fn said(text: &Text, at: usize, words: &[Token], token: Token, role: Role) -> Op
             text.paragraph(text_in(token)).is_none(),
             ProgramCause::UnknownParagraph,
         ),
-        Role::FirstValue => value_fault(text, token),
-        Role::FirstNumber => number_fault(text, token),
-        Role::SecondValue => second_fault(text, words, token),
-        Role::MovedTo => moved_fault(text, words, token),
-        Role::CountedTo => counted_fault(text, token),
+        Role::FirstValue => value_fault(text, token, false, is_too_great(token)),
+        Role::FirstNumber => value_fault(text, token, is_text(text, token), is_too_great(token)),
+        Role::SecondValue => value_fault(
+            text,
+            token,
+            are_two_kinds(text, word_at(words, 1), token),
+            is_too_great(token),
+        ),
+        Role::MovedTo => value_fault(
+            text,
+            token,
+            are_two_kinds(text, word_at(words, 1), token),
+            is_too_great_for(text.picture(token), word_at(words, 1)),
+        ),
+        Role::CountedTo => value_fault(text, token, is_text(text, token), false),
     }
 }
 

@@ -15,7 +15,7 @@ pub enum Operand {
 }
 
 /// How two values compare.
-#[derive(Clone, Copy, PartialEq, Eq)]
+#[derive(Clone, Copy)]
 pub enum Relation {
     Less,
     Equal,
@@ -47,7 +47,7 @@ pub enum Word {
 }
 
 /// How a program ends, and in which line.
-#[derive(Clone, Copy, Debug, PartialEq, Eq)]
+#[derive(Clone, Copy, PartialEq, Eq)]
 pub enum End {
     /// by STOP, or at the end of its text
     Stop,

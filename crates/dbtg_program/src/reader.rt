@@ -18,32 +18,18 @@ use dbtg_script::{Cause, Lines, Token, ends_in_text, is_allowed, is_statement, t
 use dbtg_unit::MOST_STATEMENTS;
 use std::alloc::Global;
 
-/// Is this a sentence too many?
-fn is_too_much(at: usize, line: &[u8]) -> bool
-    ensures { result ≡ (is_statement line.now && nat_le MOST_STATEMENTS at) }
-{
-    MOST_STATEMENTS <= at && is_statement(line)
-}
-
-/// Is this a sentence with a text that is not closed?
-fn is_open(line: &[u8]) -> bool
-    ensures { result ≡ (is_statement line.now && ends_in_text false line.now) }
-{
-    ends_in_text(line) && is_statement(line)
-}
-
 /// The first fault of a line as a whole, after this many sentences.
 #[tactic(auto, unfolding(crate::specs::Inside::Reading::whole_verdict))]
 fn whole_fault(at: usize, line: &[u8]) -> Option<ProgramCause>
     ensures { result ≡ whole_verdict at line.now }
 {
-    if is_too_much(at, line) {
+    if MOST_STATEMENTS <= at && is_statement(line) {
         return Some(ProgramCause::AsInScript(Cause::TooMuch));
     }
     if !is_allowed(line) {
         return Some(ProgramCause::AsInScript(Cause::LineNotAllowed));
     }
-    if is_open(line) {
+    if ends_in_text(line) && is_statement(line) {
         return Some(ProgramCause::AsInScript(Cause::UnexpectedWord));
     }
     None

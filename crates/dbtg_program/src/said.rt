@@ -67,8 +67,9 @@ fn tokens_of<'a>(
     ensures { IfOk result (λ tokens. map view tokens.items ≡ map (said_word state.now) words.now) }
 {
     let mut tokens = Vec::with_capacity(alloc, words.len())?;
-    for (i, word) in words.iter().enumerate() {
-        tokens.push(token_of(state, word, digits[i].as_slice()))?;
+    for word in words {
+        let digits = digits[tokens.len()].as_slice();
+        tokens.push(token_of(state, word, digits))?;
     }
     Ok(tokens)
 }

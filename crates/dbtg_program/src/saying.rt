@@ -24,10 +24,7 @@ use std::alloc::{AllocError, Global};
 fn field_in(text: &Text, token: Token) -> usize
     ensures { result ≡ field_in text.now (view token.entry) }
 {
-    match text.field(text_in(token)) {
-        Some(field) => field,
-        None => 0,
-    }
+    text.field(text_in(token)).unwrap_or(0)
 }
 
 fn value_of(token: Token<'_>) -> Borrowed<'_>
@@ -52,10 +49,7 @@ fn operand_of(alloc: Global, text: &Text, token: Token) -> Result<Operand, Alloc
 fn target_of(text: &Text, token: Token) -> usize
     ensures { result ≡ target_of text.now (view token.entry) }
 {
-    match text.paragraph(text_in(token)) {
-        Some(at) => at,
-        None => 0,
-    }
+    text.paragraph(text_in(token)).unwrap_or(0)
 }
 
 fn relation_of(token: Token) -> Relation
@@ -119,14 +113,6 @@ fn condition_of(alloc: Global, text: &Text, words: &[Token]) -> Result<Condition
     comparison(alloc, text, words)
 }
 
-/// The first value of a sentence, and the field behind the word after it.
-fn operands_of(alloc: Global, text: &Text, words: &[Token]) -> Result<(Operand, usize), AllocError>
-    ensures { IfOk result (λ o. o ≡ (operand_of text.now (word_at 1 (map view words.now)), field_in text.now (word_at 3 (map view words.now)))) }
-{
-    let value = operand_of(alloc, text, word_at(words, 1))?;
-    Ok((value, field_in(text, word_at(words, 3))))
-}
-
 /// The sentence that these words with this verb say; a counter does nothing.
 pub fn said_by(
     alloc: Global,
@@ -138,16 +124,16 @@ pub fn said_by(
 {
     match verb {
         Keyword::Move => {
-            let (value, field) = operands_of(alloc, text, words)?;
-            Ok(Sentence::Move(value, field))
+            let value = operand_of(alloc, text, word_at(words, 1))?;
+            Ok(Sentence::Move(value, field_in(text, word_at(words, 3))))
         }
         Keyword::Add => {
-            let (value, field) = operands_of(alloc, text, words)?;
-            Ok(Sentence::Add(value, field))
+            let value = operand_of(alloc, text, word_at(words, 1))?;
+            Ok(Sentence::Add(value, field_in(text, word_at(words, 3))))
         }
         Keyword::Subtract => {
-            let (value, field) = operands_of(alloc, text, words)?;
-            Ok(Sentence::Subtract(value, field))
+            let value = operand_of(alloc, text, word_at(words, 1))?;
+            Ok(Sentence::Subtract(value, field_in(text, word_at(words, 3))))
         }
         Keyword::Go => Ok(Sentence::GoTo(target_of(text, word_at(words, 2)))),
         Keyword::If => {

@@ -117,14 +117,6 @@ fn count(values: &Vec<Value>) -> usize
     values.len()
 }
 
-/// The number of the next sentence.
-fn behind(at: usize, len: usize) -> usize
-    requires { at < len }
-    ensures { result ≡ at + 1 }
-{
-    at + 1
-}
-
 /// Sets the field that is `behind` places after field `first`.
 fn put_behind(fields: &mut [Value], first: usize, behind: usize, value: Value)
     ensures { fields.new ≡ slice_set fields.old (first + behind) value }
@@ -266,7 +258,8 @@ impl State {
             self.fill(alloc, program, answer)?;
         }
         self.status = answer.status.code(statement);
-        self.at = behind(self.at, program.lines.len());
+        let _lines = program.lines.len();
+        self.at += 1;
         Ok(())
     }
 

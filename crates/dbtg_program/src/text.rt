@@ -5,14 +5,14 @@ ghost use Rattle.dbtg_script.specs.Tokens.{view};
 ghost use Rattle.dbtg_program.specs.Sentences.{counter_of, counter_picture, counters_of, field_named, fields_in, paragraph_at, picture_in, sentences_of};
 ghost use Rattle.dbtg_program.specs.States.{beginning_with};
 ghost use Rattle.dbtg_program.specs.Values.{records_from};
-ghost use Rattle.dbtg_program.specs.Inside.Gathered.{leads_to};
+ghost use Rattle.dbtg_program.specs.Inside.Gathered.{AreNames, leads_to};
 ghost use Rattle.dbtg_program.specs.Inside.Views.{view_holding};
 ghost use Rattle.std.specs.Option.{option_or};
-ghost use Rattle.std.specs.Prelude.{◌≡◌, ◌≤◌, List, ℕ, IfOk, None, OnOk, Some, cond, length, map, option_map, slice_get};
+ghost use Rattle.std.specs.Prelude.{◌≡◌, ◌≤◌, ◌++◌, List, ℕ, IfOk, None, OnOk, Some, cond, length, map, option_map, slice_get};
 ghost use Rattle.std.specs.Str.{bytes_eq};
 
 use crate::cutting::{Holding, sentences_of};
-use crate::fields::{Fields, fields_with};
+use crate::fields::{Fields, fields_of_types};
 use crate::grammar::Keyword;
 use crate::places::Places;
 use crate::program::{Line, Program};
@@ -23,17 +23,23 @@ use dbtg_script::Token;
 use std::alloc::{AllocError, Global};
 use std::marker::Model;
 
+/// The fields of a text: its counters are the last of them.
+#[derive(Drop)]
+pub struct Names {
+    fields: Fields,
+    first_counter: usize,
+    /// from the name of a field to its number
+    places: Places,
+    /// before any sentence
+    beginning: State,
+}
+
 /// A text with the names that it declares.
 pub struct Text<'a> {
     schema: &'a Schema,
     sentences: Vec<Holding<'a>>,
     paragraphs: Places,
-    counters: Vec<Item>,
-    fields: Fields,
-    /// from the name of a field to its number
-    named: Places,
-    /// before any sentence
-    beginning: State,
+    names: Names,
 }
 
 impl<'a> Drop for Text<'a> {
@@ -42,10 +48,7 @@ impl<'a> Drop for Text<'a> {
             schema: _,
             sentences: _,
             paragraphs: _,
-            counters: _,
-            fields: _,
-            named: _,
-            beginning: _,
+            names: _,
         } = self;
     }
 }
@@ -60,7 +63,7 @@ impl<'a> Model for Text<'a> {
 
     ghost view = { λ t. record { schema = t.schema.now; sentences = map view_holding t.sentences.items } };
 
-    ghost invariant = { λ t. IsGathered (record { schema = t.schema.now; sentences = map view_holding t.sentences.items }) t.paragraphs t.counters.items t.fields t.named t.beginning };
+    ghost invariant = { λ t. IsGathered (record { schema = t.schema.now; sentences = map view_holding t.sentences.items }) t.paragraphs t.names };
 }
 
 /// Enters the paragraph that a sentence begins, if it begins one.
@@ -97,10 +100,7 @@ fn counter_picture(words: &[Token]) -> Picture
     } else {
         3
     };
-    match spelled_picture(text_in(word_at(words, place))) {
-        Some(picture) => picture,
-        None => Picture::Number(0),
-    }
+    spelled_picture(text_in(word_at(words, place))).unwrap_or(Picture::Number(0))
 }
 
 fn counter_of(alloc: Global, words: &[Token]) -> Result<Item, AllocError>
@@ -113,20 +113,23 @@ fn counter_of(alloc: Global, words: &[Token]) -> Result<Item, AllocError>
     })
 }
 
-/// The counters, which come before everything else.
-fn counters_of(alloc: Global, sentences: &[Holding]) -> Result<Vec<Item>, AllocError>
-    ensures { IfOk result (λ v. v.items ≡ counters_of (map view_holding sentences.now)) }
+/// Appends the counters, which come before everything else.
+fn push_counters(
+    alloc: Global,
+    fields: &mut Vec<Item>,
+    sentences: &[Holding],
+) -> Result<(), AllocError>
+    ensures { OnOk result (fields.new.items ≡ fields.old.items ++ counters_of (map view_holding sentences.now)) }
 {
-    let mut counters = Vec::new(alloc);
     let mut words = Vec::new(alloc);
     for sentence in sentences {
         sentence.take_words(alloc, &mut words)?;
         if !begins(words.as_slice(), Keyword::Level) {
-            return Ok(counters);
+            return Ok(());
         }
-        counters.push(counter_of(alloc, words.as_slice())?)?;
+        fields.push(counter_of(alloc, words.as_slice())?)?;
     }
-    Ok(counters)
+    Ok(())
 }
 
 fn places_of(alloc: Global, fields: &[Item]) -> Result<Places, AllocError>
@@ -139,6 +142,23 @@ fn places_of(alloc: Global, fields: &[Item]) -> Result<Places, AllocError>
     Ok(places)
 }
 
+/// The names of a text with these sentences.
+fn names_of(alloc: Global, schema: &Schema, sentences: &[Holding]) -> Result<Names, AllocError>
+    ensures { IfOk result (λ names. AreNames (record { schema = schema.now; sentences = map view_holding sentences.now }) names) }
+{
+    let mut fields = fields_of_types(alloc, schema.types())?;
+    let first_counter = fields.items.as_slice().len();
+    push_counters(alloc, &mut fields.items, sentences)?;
+    let places = places_of(alloc, fields.items.as_slice())?;
+    let beginning = State::beginning_with(alloc, fields.items.as_slice())?;
+    Ok(Names {
+        fields,
+        first_counter,
+        places,
+        beginning,
+    })
+}
+
 impl<'a> Text<'a> {
     /// Gathers the names that the bytes of a program declare.
     pub fn gather(alloc: Global, schema: &'a Schema, text: &'a [u8]) -> Result<Self, AllocError>
@@ -147,18 +167,12 @@ impl<'a> Text<'a> {
     {
         let sentences = sentences_of(alloc, text)?;
         let paragraphs = paragraphs_of(alloc, sentences.as_slice())?;
-        let counters = counters_of(alloc, sentences.as_slice())?;
-        let fields = fields_with(alloc, schema, counters.as_slice())?;
-        let named = places_of(alloc, fields.items.as_slice())?;
-        let beginning = State::beginning_with(alloc, fields.items.as_slice())?;
+        let names = names_of(alloc, schema, sentences.as_slice())?;
         Ok(Self {
             schema,
             sentences,
             paragraphs,
-            counters,
-            fields,
-            named,
-            beginning,
+            names,
         })
     }
 
@@ -185,40 +199,29 @@ impl<'a> Text<'a> {
     pub fn counters(&self) -> &[Item]
         ensures { result.now ≡ counters_of self.now.sentences }
     {
-        self.counters.as_slice()
+        &self.names.fields.items.as_slice()[self.names.first_counter..]
     }
 
     /// The number of the field with this name.
     pub fn field(&self, name: &[u8]) -> Option<usize>
         ensures { result ≡ field_named (fields_in self.now) name.now }
     {
-        self.named.place(name)
-    }
-
-    fn picture_of(&self, field: usize) -> Option<Picture>
-        ensures { result ≡ option_map (λ i. i.picture) (slice_get (fields_in self.now) field) }
-    {
-        match self.fields.items.get(field) {
-            Some(item) => Some(item.picture),
-            None => None,
-        }
+        self.names.places.place(name)
     }
 
     /// The picture of the field that a word names.
     pub fn picture(&self, token: Token) -> Option<Picture>
         ensures { result ≡ picture_in (fields_in self.now) (view token.entry) }
     {
-        match self.field(text_in(token)) {
-            Some(field) => self.picture_of(field),
-            None => None,
-        }
+        let field = self.field(text_in(token))?;
+        Some(self.names.fields.items.get(field)?.picture)
     }
 
     /// The state before any sentence.
     pub fn beginning(&self) -> &State
         ensures { result.now ≡ beginning_with (fields_in self.now) }
     {
-        &self.beginning
+        &self.names.beginning
     }
 
     /// The program of this text, which has these lines.
@@ -229,15 +232,12 @@ impl<'a> Text<'a> {
             schema: _,
             sentences: _,
             paragraphs: _,
-            counters: _,
-            fields,
-            named: _,
-            beginning: _,
+            names,
         } = self;
         Program {
             lines: Row::of(lines),
-            fields: Row::of(fields.items),
-            records: Row::of(fields.firsts),
+            fields: Row::of(names.fields.items),
+            records: Row::of(names.fields.firsts),
         }
     }
 }

@@ -2,7 +2,7 @@
 
 ghost use Rattle.dbtg_schema.specs.Texts.Spelling.{among};
 ghost use Rattle.dbtg_script.specs.Tokens.{view};
-ghost use Rattle.dbtg_program.specs.Sentences.{begins, is_equals, is_field_word, is_own_name, is_spelled, is_two_parts, is_word, spelling, text_in, verb_of, verbs, word_at};
+ghost use Rattle.dbtg_program.specs.Sentences.{begins, is_equals, is_field_word, is_own_name, is_spelled, is_two_parts, is_word, spelling, text_in, verb_of, word_at};
 ghost use Rattle.std.specs.List.{find};
 ghost use Rattle.std.specs.Prelude.{◌≡◌, map};
 ghost use Rattle.std.specs.Str.{bytes_eq};
@@ -15,6 +15,18 @@ use dbtg_script::{Token, behind, has_byte, in_front, is_number};
 const NO_NAMES: [Keyword; 10] = [
     Keyword::To,
     Keyword::Status,
+    Keyword::Level,
+    Keyword::Move,
+    Keyword::Add,
+    Keyword::Subtract,
+    Keyword::Go,
+    Keyword::If,
+    Keyword::Assert,
+    Keyword::Stop,
+];
+
+/// The words that begin a sentence that scripts do not have.
+const VERBS: [Keyword; 8] = [
     Keyword::Level,
     Keyword::Move,
     Keyword::Add,
@@ -63,6 +75,18 @@ pub fn is_equals(token: Token) -> bool
         Token::Equals => true,
         Token::Literal(_) => false,
     }
+}
+
+/// The first of these words that is spelled like this.
+fn keyword_in(word: &[u8], keywords: &[Keyword]) -> Option<Keyword>
+    ensures { result ≡ find (λ k. bytes_eq word.now (spelling k)) keywords.now }
+{
+    for keyword in keywords {
+        if word == keyword.text().as_bytes() {
+            return Some(*keyword);
+        }
+    }
+    None
 }
 
 fn is_among(word: &[u8], keywords: &[Keyword]) -> bool
@@ -120,37 +144,12 @@ pub fn begins(words: &[Token], keyword: Keyword) -> bool
     is_word(word_at(words, 0), keyword)
 }
 
-/// The verb that is spelled like this.
-fn verb_in(word: &[u8]) -> Option<Keyword>
-    ensures { result ≡ find (λ k. bytes_eq word.now (spelling k)) verbs }
-{
-    if word == b"01".as_slice() {
-        Some(Keyword::Level)
-    } else if word == b"MOVE".as_slice() {
-        Some(Keyword::Move)
-    } else if word == b"ADD".as_slice() {
-        Some(Keyword::Add)
-    } else if word == b"SUBTRACT".as_slice() {
-        Some(Keyword::Subtract)
-    } else if word == b"GO".as_slice() {
-        Some(Keyword::Go)
-    } else if word == b"IF".as_slice() {
-        Some(Keyword::If)
-    } else if word == b"ASSERT".as_slice() {
-        Some(Keyword::Assert)
-    } else if word == b"STOP".as_slice() {
-        Some(Keyword::Stop)
-    } else {
-        None
-    }
-}
-
 /// The verb with which the words begin.
 pub fn verb_of(words: &[Token]) -> Option<Keyword>
     ensures { result ≡ verb_of (map view words.now) }
 {
     match word_at(words, 0) {
-        Token::Plain(word) => verb_in(word),
+        Token::Plain(word) => keyword_in(word, &VERBS),
         Token::Equals => None,
         Token::Literal(_) => None,
     }

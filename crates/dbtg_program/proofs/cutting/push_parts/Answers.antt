@@ -1,9 +1,10 @@
 use Rattle.std.proofs.Common.{arith}
 use Rattle.std.proofs.lemmas.Grind.{common_steps}
+use Rattle.dbtg_program.proofs.Parts.{no_part}
 use Rattle.dbtg_program.proofs.cutting.push_parts.Goals as goal
 
-pub loop-part-preserved : goal.loop-part-preserved
-loop-part-preserved c = grind (arith, common_steps)
+pub loop-rest-preserved : goal.loop-rest-preserved
+loop-rest-preserved c = grind (arith, common_steps)
 
 pub returns : goal.returns
-returns c = grind (arith, common_steps)
+returns c = grind (arith, common_steps, no_part)

@@ -2,8 +2,8 @@ use Rattle.std.proofs.Common.{arith}
 use Rattle.std.proofs.lemmas.Grind.{common_steps}
 use Rattle.dbtg_program.proofs.said.tokens_of.Goals as goal
 
-pub loop-i-preserved : goal.loop-i-preserved
-loop-i-preserved c = grind (arith, common_steps)
+pub loop-word-preserved : goal.loop-word-preserved
+loop-word-preserved c = grind (arith, common_steps)
 
 pub returns : goal.returns
 returns c = grind (arith, common_steps)
