@@ -83,9 +83,10 @@ fn lines_beside<'a>(
     let mut lines = Vec::new(alloc);
     let mut made = nothing_made();
     for entry in history {
-        let unit = entry.unit;
-        lines.push(line_at(scripts, unit, made[unit as usize]))?;
-        made[unit as usize] += 1;
+        let unit = entry.unit as usize;
+        let place = made[unit];
+        made[unit] = place + 1;
+        lines.push(line_at(scripts, entry.unit, place))?;
     }
     Ok(lines)
 }

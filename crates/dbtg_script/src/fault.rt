@@ -1,15 +1,13 @@
 //! Why a script is refused.
 
 ghost use Rattle.dbtg_script.specs.Printing.Causes.{cause_number};
-ghost use Rattle.dbtg_script.specs.declared.fault.ScriptFault.TheVariants.{Memory, Refused};
 ghost use Rattle.dbtg_script.specs.declared.fault.LineFault.TheVariants as line_fault;
 ghost use Rattle.std.specs.Prelude.{◌≡◌};
 
 use std::alloc::{AllocError, AllocFailed};
-use thiserror::Error;
 
 /// What is wrong with a script. Each cause has a number, 1 to 14, by which it is printed.
-#[derive(Clone, Copy, Debug, PartialEq, Eq)]
+#[derive(Clone, Copy)]
 pub enum Cause {
     /// 1: a byte of the line that is not printable ASCII, or a line of more than 1,000 bytes
     LineNotAllowed,
@@ -72,30 +70,12 @@ pub struct Fault {
 }
 
 /// Why no script was read.
-#[derive(Debug, Drop, Error)]
+#[derive(Drop)]
 pub enum ScriptFault {
     /// The first fault of the text.
-    #[error("fault {} line {line}", .cause.number())]
     Refused { line: u64, cause: Cause },
     /// Memory was refused before a fault was met.
-    #[error("want of memory")]
     Memory,
-}
-
-impl<T: Drop> From<AllocFailed<T>> for ScriptFault {
-    ghost from_gives = { λ _ e. e ≡ Memory };
-
-    fn from(_e: AllocFailed<T>) -> ScriptFault {
-        ScriptFault::Memory
-    }
-}
-
-impl From<AllocError> for ScriptFault {
-    ghost from_gives = { λ _ e. e ≡ Memory };
-
-    fn from(_e: AllocError) -> ScriptFault {
-        ScriptFault::Memory
-    }
 }
 
 /// Why a line was not read.

@@ -4,7 +4,9 @@ ghost use Rattle.dbtg_script.specs.Printing.Texts.{area_text, areas_text, image_
 ghost use Rattle.std.specs.List.{flat_map};
 ghost use Rattle.std.specs.Prelude.{◌≡◌, ◌++◌, IfOk, OnOk, map};
 
-use crate::print::{push_each_item, push_each_key, push_key, push_mode, push_number, push_owner};
+use crate::print::{
+    push_each_item, push_each_key, push_key, push_marked_number, push_mode, push_owner,
+};
 use dbtg_cells::{DbKey, Mode, Owner, SharedItems};
 use dbtg_schema::{Area, Row, Schema, SetType};
 use dbtg_unit::{Image, Stepped};
@@ -82,18 +84,11 @@ fn push_each_list(
     Ok(())
 }
 
-fn push_spaced_number(out: &mut Vec<u8>, number: u32) -> Result<(), AllocError>
-    ensures { OnOk result (out.new.items ≡ out.old.items ++ spaced_number number) }
-{
-    out.push(b' ')?;
-    push_number(out, number as u64)
-}
-
 fn push_each_spaced_number(out: &mut Vec<u8>, numbers: &[u32]) -> Result<(), AllocError>
     ensures { OnOk result (out.new.items ≡ out.old.items ++ flat_map spaced_number numbers.now) }
 {
     for number in numbers {
-        push_spaced_number(out, *number)?;
+        push_marked_number(out, b' ', *number as u64)?;
     }
     Ok(())
 }
@@ -109,8 +104,7 @@ fn push_next(out: &mut Vec<u8>, next: &[u32]) -> Result<(), AllocError>
 fn push_opened(out: &mut Vec<u8>, user: &(u8, Mode)) -> Result<(), AllocError>
     ensures { OnOk result (out.new.items ≡ out.old.items ++ opened_text user.now) }
 {
-    out.push(b' ')?;
-    push_number(out, user.0 as u64)?;
+    push_marked_number(out, b' ', user.0 as u64)?;
     out.push(b':')?;
     push_mode(out, user.1)
 }

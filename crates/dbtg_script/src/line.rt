@@ -24,7 +24,8 @@ fn line_len(bytes: &[u8]) -> usize
     }
 }
 
-fn behind_feed(bytes: &[u8]) -> &[u8]
+/// The bytes behind the first.
+pub fn behind_first(bytes: &[u8]) -> &[u8]
     ensures { result.now ≡ drop 1 bytes.now }
 {
     match bytes.split_first() {
@@ -45,9 +46,7 @@ impl<'a> Lines<'a> {
             return None;
         }
         let (line, tail) = rest.split_at(line_len(rest));
-        *self = Lines {
-            rest: behind_feed(tail),
-        };
+        self.rest = behind_first(tail);
         Some(line)
     }
 }

@@ -72,37 +72,25 @@ pub fn is_other_name(items: &[Item], name: &[u8]) -> bool
 pub fn area_no(schema: &Schema, name: &[u8]) -> AreaNo
     ensures { result ≡ area_no schema.now name.now }
 {
-    match schema.area(name) {
-        Some(area) => area,
-        None => AreaNo::new(0),
-    }
+    schema.area(name).unwrap_or(AreaNo::new(0))
 }
 
 pub fn type_no(schema: &Schema, name: &[u8]) -> RecordNo
     ensures { result ≡ type_no schema.now name.now }
 {
-    match schema.rtype(name) {
-        Some(rtype) => rtype,
-        None => RecordNo::new(0),
-    }
+    schema.rtype(name).unwrap_or(RecordNo::new(0))
 }
 
 pub fn set_no(schema: &Schema, name: &[u8]) -> SetNo
     ensures { result ≡ set_no schema.now name.now }
 {
-    match schema.set(name) {
-        Some(set) => set,
-        None => SetNo::new(0),
-    }
+    schema.set(name).unwrap_or(SetNo::new(0))
 }
 
 pub fn item_no(schema: &Schema, rtype: RecordNo, name: &[u8]) -> ItemNo
     ensures { result ≡ item_no schema.now rtype name.now }
 {
-    match schema.item(rtype, name) {
-        Some(item) => item,
-        None => ItemNo::new(0),
-    }
+    schema.item(rtype, name).unwrap_or(ItemNo::new(0))
 }
 
 /// The picture of the item with this name.

@@ -1,17 +1,16 @@
 //! Reading moves: words that say which unit steps or quits.
 
-ghost use Rattle.dbtg_script.specs.Moves.{RefusedAtOnce, Refuses, begins_with, cause_number, counted, is_gap, moves_of, plain_number, quit_of, refusal, refused_word, repeated, spelled_move, spelled_turn, steps_of, times, words};
+ghost use Rattle.dbtg_script.specs.Moves.{RefusedAtOnce, Refuses, begins_with, cause_number, is_gap, moves_of, plain_number, refusal, refused_word, repeated, spelled_move, spelled_turn, words};
 ghost use Rattle.dbtg_script.specs.declared.moves.MovesFault.TheVariants.{Memory};
-ghost use Rattle.std.specs.Prelude.{◌≡◌, ◌+◌, ◌-◌, ◌++◌, ◌<◌, ◌≤◌, ◌∷◌, ℕ, List, [], IfErr, IfOk, IfSome, MatchOption, MatchResult, None, OnOk, OnSome, Option, Some, false, length, replicate, slice_index, true};
+ghost use Rattle.std.specs.Prelude.{◌≡◌, ◌+◌, ◌++◌, ◌<◌, ◌≤◌, ◌∷◌, ℕ, List, [], IfErr, IfOk, IfSome, MatchOption, MatchResult, None, OnOk, OnSome, Option, Some, false, length, replicate, slice_index, true};
 
 use crate::limits::MOST_MOVES;
 use crate::spelling::{behind, has_byte, in_front, is_number, number};
 use dbtg_unit::Move;
-use std::alloc::{AllocError, AllocFailed, Global};
-use thiserror::Error;
+use std::alloc::{AllocError, Global};
 
 /// What is wrong with moves, by the number with which it is printed.
-#[derive(Clone, Copy, Debug)]
+#[derive(Clone, Copy)]
 pub enum MovesCause {
     /// 1: a word of another shape, or with a number out of range; in a text of turns a quit too
     NotAMove,
@@ -32,22 +31,12 @@ impl MovesCause {
 }
 
 /// Why no moves were read.
-#[derive(Debug, Drop, Error)]
+#[derive(Drop)]
 pub enum MovesFault {
     /// The first fault of the text, which is at this word, from 1.
-    #[error("moves fault {} word {word}", .cause.number())]
     Refused { word: u64, cause: MovesCause },
     /// Memory was refused before a fault was met.
-    #[error("want of memory")]
     Memory,
-}
-
-impl<T: Drop> From<AllocFailed<T>> for MovesFault {
-    ghost from_gives = { λ _ e. e ≡ Memory };
-
-    fn from(_e: AllocFailed<T>) -> MovesFault {
-        MovesFault::Memory
-    }
 }
 
 impl From<AllocError> for MovesFault {
@@ -92,10 +81,10 @@ impl<'a> Words<'a> {
         while let Some((first, after)) = self.rest.split_first() {
             let rest = self.rest;
             if is_gap(*first) {
-                *self = Words { rest: after };
+                self.rest = after;
             } else {
                 let (text, tail) = rest.split_at(run_len(rest));
-                *self = Words { rest: tail };
+                self.rest = tail;
                 return Some(text);
             }
         }
@@ -128,70 +117,17 @@ fn plain_number(text: &[u8], most: u64) -> Option<u64>
     if n <= most { Some(n) } else { None }
 }
 
-fn times(text: &[u8], count: u64) -> Option<(u8, u64)>
-    requires { count ≤ MOST_MOVES }
-    ensures value { result ≡ times (plain_number 99 text.now) count }
-    ensures bound { IfSome result (λ r. r.1 ≤ MOST_MOVES) }
-{
-    match plain_number(text, 99) {
-        Some(unit) => Some((unit as u8, count)),
-        None => None,
-    }
-}
-
-fn counted(text: &[u8], count: &[u8]) -> Option<(u8, u64)>
-    ensures value { result ≡ counted text.now (plain_number MOST_MOVES count.now) }
-    ensures bound { IfSome result (λ r. r.1 ≤ MOST_MOVES) }
-{
-    match plain_number(count, MOST_MOVES as u64) {
-        Some(count) => times(text, count),
-        None => None,
-    }
-}
-
 /// The unit that a word names, and how often it has a turn.
 pub fn spelled_turn(text: &[u8]) -> Option<(u8, u64)>
     ensures value { result ≡ spelled_turn text.now }
     ensures bound { IfSome result (λ r. r.1 ≤ MOST_MOVES) }
 {
-    if has_byte(text, b'*') {
-        counted(in_front(text, b'*'), behind(text, b'*'))
-    } else {
-        times(text, 1)
+    if !has_byte(text, b'*') {
+        return Some((plain_number(text, 99)? as u8, 1));
     }
-}
-
-fn quit_of(text: &[u8]) -> Option<(Move, u64)>
-    ensures value { result ≡ quit_of (plain_number 99 text.now) }
-    ensures bound { IfSome result (λ m. m.1 ≤ MOST_MOVES) }
-{
-    match plain_number(text, 99) {
-        Some(unit) => Some((Move::Quit(unit as u8), 1)),
-        None => None,
-    }
-}
-
-fn steps_of(text: &[u8]) -> Option<(Move, u64)>
-    ensures value { result ≡ steps_of (spelled_turn text.now) }
-    ensures bound { IfSome result (λ m. m.1 ≤ MOST_MOVES) }
-{
-    match spelled_turn(text) {
-        Some((unit, count)) => Some((Move::Step(unit), count)),
-        None => None,
-    }
-}
-
-/// One of the digits 1 to 9, as a number.
-fn digit(b: u8) -> Option<u8>
-    ensures from { IfSome result (λ d. 49 ≤ b) }
-    ensures to { IfSome result (λ d. b ≤ 57) }
-    ensures value { IfSome result (λ d. d ≡ b - 48) }
-{
-    if matches!(b, b'1'..=b'9') {
-        Some(b - b'0')
-    } else {
-        None
-    }
+    let count = plain_number(behind(text, b'*'), MOST_MOVES as u64)?;
+    let unit = plain_number(in_front(text, b'*'), 99)?;
+    Some((unit as u8, count))
 }
 
 /// What a short word says, `u` or `u*k` of one digit each, as most words of moves are; none for all other words.
@@ -200,10 +136,9 @@ fn short_steps(text: &[u8]) -> Option<(Move, u64)>
     ensures bound { IfSome result (λ m. m.1 ≤ MOST_MOVES) }
 {
     match text {
-        [unit] => Some((Move::Step(digit(*unit)?), 1)),
-        [unit, b'*', count] => {
-            let unit = digit(*unit)?;
-            Some((Move::Step(unit), digit(*count)? as u64))
+        [unit @ b'1'..=b'9'] => Some((Move::Step(*unit - b'0'), 1)),
+        [unit @ b'1'..=b'9', b'*', count @ b'1'..=b'9'] => {
+            Some((Move::Step(*unit - b'0'), (*count - b'0') as u64))
         }
         _ => None,
     }
@@ -218,10 +153,11 @@ fn spelled_move(text: &[u8]) -> Option<(Move, u64)>
         return Some(steps);
     }
     if begins_with(text, b'Q') {
-        quit_of(behind(text, b'Q'))
-    } else {
-        steps_of(text)
+        let unit = plain_number(behind(text, b'Q'), 99)?;
+        return Some((Move::Quit(unit as u8), 1));
     }
+    let (unit, count) = spelled_turn(text)?;
+    Some((Move::Step(unit), count))
 }
 
 /// Appends an entry `count` times.

@@ -82,6 +82,14 @@ pub fn push_number(out: &mut Vec<u8>, n: u64) -> Result<(), AllocError>
     push_long(out, n)
 }
 
+/// A byte, and a number behind it.
+pub fn push_marked_number(out: &mut Vec<u8>, mark: u8, n: u64) -> Result<(), AllocError>
+    ensures { OnOk result (out.new.items ≡ out.old.items ++ mark ∷ decimal n) }
+{
+    out.push(mark)?;
+    push_number(out, n)
+}
+
 // A number of any length. It stands apart, since its buffer takes room at each call.
 #[inline(never)]
 fn push_long(out: &mut Vec<u8>, n: u64) -> Result<(), AllocError>
@@ -127,8 +135,7 @@ pub fn push_unit_and_status(out: &mut Vec<u8>, unit: u8, status: u16) -> Result<
         ];
         return out.extend_from_slice(&bytes);
     }
-    out.push(b' ')?;
-    push_number(out, unit as u64)?;
+    push_marked_number(out, b' ', unit as u64)?;
     out.push(b' ')?;
     push_status(out, status)
 }
@@ -148,8 +155,7 @@ fn push_generation(out: &mut Vec<u8>, generation: u8) -> Result<(), AllocError>
     if generation == 1 {
         return Ok(());
     }
-    out.push(b'.')?;
-    push_number(out, generation as u64)
+    push_marked_number(out, b'.', generation as u64)
 }
 
 /// The name of the record type, the number, and the generation if it is above the first.
@@ -157,8 +163,7 @@ pub fn push_key(out: &mut Vec<u8>, schema: &Schema, key: &DbKey) -> Result<(), A
     ensures { OnOk result (out.new.items ≡ out.old.items ++ key_text schema.now key.now) }
 {
     out.extend_from_slice(type_name(schema, key.rtype))?;
-    out.push(b':')?;
-    push_number(out, key.number as u64)?;
+    push_marked_number(out, b':', key.number as u64)?;
     push_generation(out, key.generation)
 }
 
@@ -314,8 +319,7 @@ fn push_kept_entry(
     ensures { OnOk result (out.new.items ≡ out.old.items ++ kept_entry schema.now entry.now) }
 {
     push_spaced_key(out, schema, &entry.0)?;
-    out.push(b'/')?;
-    push_number(out, entry.1)
+    push_marked_number(out, b'/', entry.1)
 }
 
 fn push_kept_entries(

@@ -7,7 +7,7 @@ ghost use Rattle.dbtg_script.specs.StatementFaults.{set_in, type_in};
 ghost use Rattle.dbtg_script.specs.Statements.{calc_value, calc_values, change_of, changes_of, current_of, erase_of, form_of, in_place, is_negative, key_of, mode_of, name_at, named_type, set_bits, signed, sorted_value, statement_by, statement_of, suppress_of, values_of, which_of};
 ghost use Rattle.dbtg_script.specs.Inside.Views.{views};
 ghost use Rattle.dbtg_script.specs.declared.role.Role.TheVariants as role;
-ghost use Rattle.std.specs.Prelude.{◌≡◌, ◌<◌, ◌≤◌, ◌^◌, ◌||◌, IfOk, length, unwrap_or};
+ghost use Rattle.std.specs.Prelude.{◌≡◌, ◌<◌, ◌≤◌, ◌^◌, ◌||◌, IfOk, length};
 
 use crate::checks::without_minus;
 use crate::lookups::{
@@ -171,15 +171,6 @@ fn name_at(schema: &Schema, rtype: RecordNo, item: ItemNo) -> &[u8]
     }
 }
 
-fn picture_or_none(picture: Option<Picture>) -> Picture
-    ensures { result ≡ unwrap_or picture (Picture.Number 0) }
-{
-    match picture {
-        Some(picture) => picture,
-        None => Picture::Number(0),
-    }
-}
-
 fn calc_value(
     alloc: Global,
     schema: &Schema,
@@ -189,7 +180,7 @@ fn calc_value(
 ) -> Result<Value, AllocError>
     ensures { IfOk result (λ v. v ≡ calc_value schema.now rtype (views words.now) item) }
 {
-    let picture = picture_or_none(schema.picture_of(rtype, item));
+    let picture = schema.picture_of(rtype, item).unwrap_or(Picture::Number(0));
     let token = given(words, name_at(schema, rtype, item));
     value_for(alloc, picture, token)
 }
@@ -220,7 +211,7 @@ fn change_of(
 ) -> Result<Change, AllocError>
     ensures { IfOk result (λ c. c ≡ change_of schema.now rtype (views words.now) name.now) }
 {
-    let picture = picture_or_none(item_picture(schema, rtype, name));
+    let picture = item_picture(schema, rtype, name).unwrap_or(Picture::Number(0));
     let value = value_for(alloc, picture, given(words, name))?;
     Ok(Change {
         item: item_no(schema, rtype, name),
@@ -301,7 +292,7 @@ fn by_sort_key(alloc: Global, words: &Words) -> Result<Form, AllocError>
     ensures { IfOk result (λ f. f ≡ Form.Sorted (set_in words.now.schema words.now.words) (sorted_value words.now.schema words.now.words)) }
 {
     let set = set_in(words);
-    let picture = picture_or_none(sort_picture(words.schema(), set));
+    let picture = sort_picture(words.schema(), set).unwrap_or(Picture::Number(0));
     let value = value_for(alloc, picture, first_word(words.list(), Role::SortedValue))?;
     Form::by_sort_key(alloc, set, value)
 }

@@ -1,6 +1,8 @@
 ghost use Rattle.std.specs.Prelude.{◌≡◌, ℕ, ◌+◌, ◌-◌, ◌<◌, ◌≤◌, ◌∷◌, [], length, MatchOption, OnSome, drop, slice_index, true, false};
 ghost use Rattle.dbtg_script.specs.Tokens.{tokens, view, is_letter};
 
+use crate::line::behind_first;
+
 /// A word of a line.
 #[derive(Clone, Copy)]
 pub enum Token<'a> {
@@ -46,15 +48,6 @@ fn literal_len(bytes: &[u8]) -> usize
     n
 }
 
-fn behind_quote(bytes: &[u8]) -> &[u8]
-    ensures { result.now ≡ drop 1 bytes.now }
-{
-    match bytes.split_first() {
-        None => bytes,
-        Some((_, rest)) => rest,
-    }
-}
-
 impl<'a> Tokens<'a> {
     /// The next word.
     pub fn next(&mut self) -> Option<Token<'a>>
@@ -65,19 +58,17 @@ impl<'a> Tokens<'a> {
         while let Some((first, after)) = self.rest.split_first() {
             let rest = self.rest;
             if *first == b' ' {
-                *self = Tokens { rest: after };
+                self.rest = after;
             } else if *first == b'=' {
-                *self = Tokens { rest: after };
+                self.rest = after;
                 return Some(Token::Equals);
             } else if *first == b'"' {
                 let (text, tail) = after.split_at(literal_len(after));
-                *self = Tokens {
-                    rest: behind_quote(tail),
-                };
+                self.rest = behind_first(tail);
                 return Some(Token::Literal(text));
             } else {
                 let (text, tail) = rest.split_at(run_len(rest));
-                *self = Tokens { rest: tail };
+                self.rest = tail;
                 return Some(Token::Plain(text));
             }
         }

@@ -8,16 +8,13 @@ ghost use Rattle.std.specs.Prelude.{◌≡◌, IfErr, IfOk, MatchResult, None, O
 use crate::moves::{MovesCause, MovesFault, Words, spelled_turn, take_word};
 use dbtg_schema::Row;
 use std::alloc::Global;
-use thiserror::Error;
 
 /// Why no turns were read.
-#[derive(Debug, Drop, Error)]
+#[derive(Drop)]
 pub enum TurnsFault {
     /// The first fault of the text, which is at this word, from 1.
-    #[error("turns fault {} word {word}", .cause.number())]
     Refused { word: u64, cause: MovesCause },
     /// Memory was refused before a fault was met.
-    #[error("want of memory")]
     Memory,
 }
 

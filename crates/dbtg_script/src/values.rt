@@ -79,17 +79,13 @@ pub fn value_for(alloc: Global, picture: Picture, token: Option<Token>) -> Resul
     ensures { IfOk result (λ v. v ≡ value_for picture (option_map view token.entry)) }
 {
     match token {
-        Some(token) => value_of(alloc, picture, token),
         None => blank(alloc, picture),
-    }
-}
-
-fn value_of(alloc: Global, picture: Picture, token: Token) -> Result<Value, AllocError>
-    ensures { IfOk result (λ v. v ≡ value_for picture (Some (view token.entry))) }
-{
-    match spelled(alloc, picture, token)? {
-        Some(value) => Ok(value),
-        None => blank(alloc, picture),
+        Some(token) => {
+            match spelled(alloc, picture, token)? {
+                Some(value) => Ok(value),
+                None => blank(alloc, picture),
+            }
+        }
     }
 }
 

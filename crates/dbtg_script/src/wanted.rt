@@ -5,7 +5,7 @@ ghost use Rattle.dbtg_script.specs.Inside.Automaton.{rest_of, view_kind};
 ghost use Rattle.dbtg_script.specs.Lines.{trimmed};
 ghost use Rattle.dbtg_script.specs.StatementGrammar.{fits, statement};
 ghost use Rattle.dbtg_script.specs.Tokens.{tokens, view};
-ghost use Rattle.dbtg_script.specs.Wanted.{in_words, last_picture, name_in_words, things, value_in_words, wanted_in_line};
+ghost use Rattle.dbtg_script.specs.Wanted.{in_words, name_in_words, things, value_in_words, wanted_in_line};
 ghost use Rattle.std.specs.Prelude.{◌≡◌, ◌∷◌, ◌++◌, [], IfOk, OnOk, false, map};
 
 use crate::automaton::{Kind, Start, State, follow};
@@ -104,17 +104,6 @@ fn stop_in<'a>(words: &mut Words<'a>, line: &'a [u8]) -> Result<State, AllocErro
     Ok(state)
 }
 
-/// What can come in this state, after these words.
-fn things_behind(
-    alloc: Global,
-    words: &Words,
-    state: State,
-) -> Result<Vec<&'static [u8]>, AllocError>
-    ensures { IfOk result (λ list. map (λ thing. thing.now) list.items ≡ things (last_picture words.now.schema words.now.words) (rest_of state)) }
-{
-    things(alloc, words.picture(), state)
-}
-
 /// What the grammar wants in place of the first word of a statement's line that does not fit, or at the line's end: words as they are,
 /// other things described. A line that is refused for fault 3, but not for a text that is not closed, has its fault there.
 pub fn wanted_in_line<'a>(
@@ -126,5 +115,5 @@ pub fn wanted_in_line<'a>(
 {
     let mut words = Words::new(alloc, schema);
     let state = stop_in(&mut words, trimmed(line))?;
-    things_behind(alloc, &words, state)
+    things(alloc, words.picture(), state)
 }

@@ -3,7 +3,7 @@
 ghost use Rattle.dbtg_script.specs.Printing.WordTexts.{in_one_word, line_of, move_word, moves_words_text, onto_run, run_words, runs, times_text, turns_text};
 ghost use Rattle.std.specs.Prelude.{◌≡◌, ◌++◌, IfOk, OnOk, map};
 
-use crate::print::push_number;
+use crate::print::{push_marked_number, push_number};
 use dbtg_unit::Move;
 use std::alloc::{AllocError, Global};
 
@@ -22,8 +22,7 @@ fn push_times(out: &mut Vec<u8>, count: u64) -> Result<(), AllocError>
     if count == 1 {
         return Ok(());
     }
-    out.push(b'*')?;
-    push_number(out, count)
+    push_marked_number(out, b'*', count)
 }
 
 fn push_word(out: &mut Vec<u8>, one: Move, count: u64) -> Result<(), AllocError>
@@ -34,10 +33,7 @@ fn push_word(out: &mut Vec<u8>, one: Move, count: u64) -> Result<(), AllocError>
             push_number(out, unit as u64)?;
             push_times(out, count)
         }
-        Move::Quit(unit) => {
-            out.push(b'Q')?;
-            push_number(out, unit as u64)
-        }
+        Move::Quit(unit) => push_marked_number(out, b'Q', unit as u64),
     }
 }
 

@@ -147,10 +147,7 @@ impl<'a> Words<'a> {
     pub fn type_in(&self) -> RecordNo
         ensures { result ≡ type_in self.now.schema self.now.words }
     {
-        match self.rtype() {
-            Some(rtype) => rtype,
-            None => RecordNo::new(0),
-        }
+        self.rtype().unwrap_or(RecordNo::new(0))
     }
 
     /// The picture of the item that was named last.

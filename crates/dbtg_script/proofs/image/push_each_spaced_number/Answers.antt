@@ -8,5 +8,5 @@ loop-number-preserved c = grind (arith, common_steps)
 pub returns : goal.returns
 returns c = grind (arith, common_steps)
 
-pub returns-in_err-push_spaced_number : goal.returns-in_err-push_spaced_number
-returns-in_err-push_spaced_number c = grind (arith, common_steps)
+pub returns-in_err-push_marked_number : goal.returns-in_err-push_marked_number
+returns-in_err-push_marked_number c = grind (arith, common_steps)

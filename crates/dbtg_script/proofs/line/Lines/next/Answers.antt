@@ -12,4 +12,4 @@ pub returns-clause-found : goal.returns-clause-found
 returns-clause-found c =
     let r = c.line_len.ensures in
     let h : length c.args.self.now.rest.now ≡ 0 → ⊥ = grind (arith, nat_tests) in
-    next_line c.line_len.result c.args.self.now.rest.now c.split_at.result.0.now c.split_at.result.1.now c.behind_feed.result.now h r.in_range r.inside r.stops c.split_at.ensures.front c.split_at.ensures.back c.behind_feed.ensures
+    next_line c.line_len.result c.args.self.now.rest.now c.split_at.result.0.now c.split_at.result.1.now c.behind_first-self.result.now h r.in_range r.inside r.stops c.split_at.ensures.front c.split_at.ensures.back c.behind_first-self.ensures

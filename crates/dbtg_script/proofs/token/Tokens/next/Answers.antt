@@ -15,7 +15,7 @@ returns-then-first-eq61-clause-found c = sym c.loop-first.invariant.same ∙ equ
 pub returns-then-first-eq34-clause-found : goal.returns-then-first-eq34-clause-found
 returns-then-first-eq34-clause-found c =
     let r = c.literal_len.ensures in
-    sym c.loop-first.invariant.same ∙ literal_step c.loop-first.self.rest.now c.in-Some.after.now c.in-Some.first.now c.literal_len.result c.split_at.result.0.now c.split_at.result.1.now c.behind_quote.result.now c.in-Some.ensures.cases.0 c.if-first-eq34.true r.in_range r.inside r.stops c.split_at.ensures.front c.split_at.ensures.back c.behind_quote.ensures
+    sym c.loop-first.invariant.same ∙ literal_step c.loop-first.self.rest.now c.in-Some.after.now c.in-Some.first.now c.literal_len.result c.split_at.result.0.now c.split_at.result.1.now c.behind_first-self.result.now c.in-Some.ensures.cases.0 c.if-first-eq34.true r.in_range r.inside r.stops c.split_at.ensures.front c.split_at.ensures.back c.behind_first-self.ensures
 
 pub returns-else-first-eq34-clause-found : goal.returns-else-first-eq34-clause-found
 returns-else-first-eq34-clause-found c =
