@@ -33,7 +33,7 @@ pub use judging::each_fault;
 pub use limits::MOST_UNITS;
 pub use order::{Order, OrderKind};
 pub use place::TextPlace;
-pub use reading::{program_of, take_script};
+pub use reading::{program_of, statements_of, take_script};
 pub use source::Source;
 pub use texts::{read_moves, read_schema, read_trace, read_turns};
 pub use wished::Wished;

@@ -1,3 +1,4 @@
+mod TextsJudged
 mod ProgramsRead
 mod Echoed
 pub mod Rows

@@ -5,6 +5,7 @@
 mod check;
 mod command;
 mod echo;
+mod judging;
 mod laws;
 mod programs;
 mod scripts_on_threads;
