@@ -56,6 +56,11 @@ pub all_left : (lists : Lists) (texts : List (List ℕ)) (statements : List (Lis
 unfolding none_yet
 all_left lists texts statements results none judged = (texts, none_yet lists texts statements none, judged)
 
+-- the same, with what the next result is
+pub next_left : (lists : Lists) (texts : List (List ℕ)) (statements : List (List Statement)) (results behind : List (Result (List Statement) Fault)) (next it : Result (List Statement) Fault) → AreLeft lists texts statements results → results ≡ next ∷ behind → next ≡ it
+    → AreLeft lists texts statements (it ∷ behind)
+next_left lists texts statements results behind next it left first is = subst (λ (r : Result (List Statement) Fault). AreLeft lists texts statements (r ∷ behind)) is (subst (AreLeft lists texts statements) first left)
+
 taken_from : (lists : Lists) (texts left : List (List ℕ)) (before after : List (List Statement)) (taken : List Statement) (results : List (Result (List Statement) Fault)) → (so_far : AreAccepted lists texts left before)
     → AreJudged lists (length so_far.front + 1) left (Ok taken ∷ results) → after ≡ before ++ taken ∷ [] → AreLeft lists texts after results
 unfolding one_more
@@ -98,7 +103,7 @@ pub none_left : (lists : Lists) (texts : List (List ℕ)) (statements : List (Li
 none_left lists texts statements left = none_from lists texts left.0 statements left.1 left.2
 
 -- each text is judged if that at each place is
-pub each_judged : (lists : Lists) (n : ℕ) (texts : List (List ℕ)) (results : List (Result (List Statement) Fault)) → length results ≡ length texts
+each_judged : (lists : Lists) (n : ℕ) (texts : List (List ℕ)) (results : List (Result (List Statement) Fault)) → length results ≡ length texts
     → ((i : ℕ) (d : Result (List Statement) Fault) → i < length texts → IsJudged lists (n + i) (get_or texts i []) (get_or results i d)) → AreJudged lists n texts results
 each_judged lists n [] [] many each = refl
 each_judged lists n [] (result ∷ results) many each = absurd (omega (arith, many))
@@ -108,6 +113,12 @@ each_judged lists n (text ∷ texts) (result ∷ results) many each =
     let behind : (i : ℕ) (d : Result (List Statement) Fault) → i < length texts → IsJudged lists (n + 1 + i) (get_or texts i []) (get_or results i d)
     = λ i d within. let place : n + suc i ≡ n + 1 + i = omega arith in subst (λ (k : ℕ). IsJudged lists k (get_or texts i []) (get_or results i d)) place (each (suc i) d (omega (arith, within))) in
     (subst (λ (k : ℕ). IsJudged lists k text result) same (each 0 result (omega arith)), each_judged lists (n + 1) texts results (omega (arith, many)) behind)
+
+-- the same of all, by their places from 0
+pub all_judged : (lists : Lists) (texts : List (List ℕ)) (results : List (Result (List Statement) Fault)) → length results ≡ length texts
+    → ((i : ℕ) (d : Result (List Statement) Fault) → i < length texts → IsJudged lists (i + 1) (get_or texts i []) (get_or results i d)) → AreJudged lists 1 texts results
+all_judged lists texts results many each = each_judged lists 1 texts results many
+    (λ i d within. let number : i + 1 ≡ 1 + i = omega arith in subst (λ (k : ℕ). IsJudged lists k (get_or texts i []) (get_or results i d)) number (each i d within))
 
 held_front : (holds : TextPlace → List ℕ → Type 0) (n : ℕ) (front left : List (List ℕ)) → HoldsScripts holds n (front ++ left) → HoldsScripts holds n front
 held_front holds n [] left held = tt

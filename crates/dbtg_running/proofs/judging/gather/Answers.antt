@@ -1,9 +1,9 @@
-use Rattle.std.proofs.Common.{◌≡◌, ◌∷◌, length, rules, subst, sym, ap, ◌∙◌, arith}
+use Rattle.std.proofs.Common.{◌≡◌, length, rules, subst, sym, ap, ◌∙◌, arith}
 use Rattle.std.proofs.lemmas.List.{nil_from_length}
 use Rattle.std.proofs.lemmas.Result.{err_from_is_err_and}
 use Rattle.std.specs.Vec.Iter.{into_iter_items}
 use Rattle.dbtg_running.specs.Inside.Judging.{AreJudged}
-use Rattle.dbtg_running.proofs.TextsJudged.{AreLeft, all_left, no_room, none_left, one_refused, one_taken}
+use Rattle.dbtg_running.proofs.TextsJudged.{AreLeft, all_left, next_left, no_room, none_left, one_refused, one_taken}
 use Rattle.dbtg_running.proofs.judging.gather.Goals as goal
 
 pub loop-statements-init : goal.loop-statements-init
@@ -15,30 +15,21 @@ loop-statements-init c =
     }
 
 pub loop-statements-preserved : goal.loop-statements-preserved
-loop-statements-preserved c =
-    let scripts = c.loop-statements.scripts in
-    let behind = into_iter_items c.next.new.self in
-    let next = c.in-Some.ensures.steps.0 ∙ ap (λ it. it ∷ behind) c.in_ok-statements.was in
-    record {
-      left = λ lists texts judged. one_taken lists texts scripts _ _ behind (subst (AreLeft lists texts scripts) next (c.loop-statements.invariant.left lists texts judged)) c.in_ok-push.ensures.ok;
-      many = let many = c.loop-statements.invariant.many in let gone = c.in-Some.ensures.steps.1 in let shorter = ap length c.in-Some.ensures.steps.0 in omega arith;
-    }
+loop-statements-preserved c = record {
+  left = λ lists texts judged. one_taken lists texts c.loop-statements.scripts _ _ _
+      (next_left _ _ _ _ _ _ _ (c.loop-statements.invariant.left lists texts judged) c.in-Some.ensures.steps.0 c.in_ok-statements.was) c.in_ok-push.ensures.ok;
+  many = let many = c.loop-statements.invariant.many in let gone = c.in-Some.ensures.steps.1 in let shorter = ap length c.in-Some.ensures.steps.0 in omega arith;
+}
 
 pub returns-in_err-statements-clause-refused : goal.returns-in_err-statements-clause-refused
 returns-in_err-statements-clause-refused c = λ lists texts judged.
-    let scripts = c.loop-statements.scripts in
-    let behind = into_iter_items c.next.new.self in
-    let next = c.in-Some.ensures.steps.0 ∙ ap (λ it. it ∷ behind) c.in_err-statements.was in
     let told = err_from_is_err_and c.from_residual.result c.from_residual.ensures.1 in
-    rw (told.1, told.2) (one_refused lists texts scripts _ behind (subst (AreLeft lists texts scripts) next (c.loop-statements.invariant.left lists texts judged)))
+    rw (told.1, told.2) (one_refused _ _ _ _ _ (next_left _ _ _ _ _ _ _ (c.loop-statements.invariant.left lists texts judged) c.in-Some.ensures.steps.0 c.in_err-statements.was))
 
 pub returns-in_err-push-clause-refused : goal.returns-in_err-push-clause-refused
 returns-in_err-push-clause-refused c = λ lists texts judged.
-    let scripts = c.loop-statements.scripts in
-    let behind = into_iter_items c.next.new.self in
-    let next = c.in-Some.ensures.steps.0 ∙ ap (λ it. it ∷ behind) c.in_ok-statements.was in
     let told = err_from_is_err_and c.from_residual-in_err-push.result c.from_residual-in_err-push.ensures.1 in
-    rw (told.1, told.2) (no_room lists texts scripts _ behind (subst (AreLeft lists texts scripts) next (c.loop-statements.invariant.left lists texts judged)))
+    rw (told.1, told.2) (no_room _ _ _ _ _ (next_left _ _ _ _ _ _ _ (c.loop-statements.invariant.left lists texts judged) c.in-Some.ensures.steps.0 c.in_ok-statements.was))
 
 pub returns-clause-accepted : goal.returns-clause-accepted
 returns-clause-accepted c = λ lists texts judged.
