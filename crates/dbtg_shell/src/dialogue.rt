@@ -6,14 +6,13 @@ ghost use Rattle.dbtg_program.specs.Reading.{program as program_said};
 ghost use Rattle.dbtg_shell.specs.Programs.{Following, HasBegun, HasGoneOn, HasRun, IsStopped, RunsText};
 ghost use Rattle.dbtg_shell.specs.Inside.Programs.{IsFollowed, MakesDue, MayHaveMade, MayHaveTyped, TypesLine, end_text, seen};
 
-use crate::commands::{Reply, Shell};
 use crate::running::{Followed, shown_line};
 use crate::saved::{first_there, save};
-use crate::session::Session;
 use dbtg_command::reason::reason;
 use dbtg_command::{Call, Fault, Files, Order, Paths, program_of};
 use dbtg_going::lines_of;
 use dbtg_program::Program;
+use dbtg_session::{Reply, Session, Shell};
 use std::alloc::{AllocError, Global};
 use std::fs::File;
 use std::io::{self, BufRead, BufReader, Input, IsTerminal, Read, Write};
