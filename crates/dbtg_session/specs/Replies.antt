@@ -1,5 +1,5 @@
 -- What the shell prints: answers, faults, hints, and what its commands show.
-use Rattle.std.specs.Prelude.{ℕ, ◌≡◌, ◌%◌, ◌==◌, ◌∷◌, ◌++◌, List, [], Option, None, Some, codes, decimal, if◌then◌else◌, length, option_map, unwrap_or}
+use Rattle.std.specs.Prelude.{ℕ, ◌≡◌, ◌-◌, ◌%◌, ◌==◌, ◌∷◌, ◌++◌, List, [], Option, None, Some, codes, decimal, if◌then◌else◌, length, option_map, slice_get, unwrap_or}
 use Rattle.std.specs.List.{list_any}
 use Rattle.std.specs.Str.{bytes_eq}
 use Rattle.dbtg_schema.specs.Lists.{Lists}
@@ -18,7 +18,7 @@ use Rattle.dbtg_explain.specs.Explaining.{fault_field, field, row_of}
 use Rattle.dbtg_explain.specs.FaultyWord.{line_at}
 use Rattle.dbtg_explain.specs.Misfits.{said_of_word}
 use Rattle.dbtg_session.specs.Asking.{asks, behind_spaces, means_unit, turn_given}
-use Rattle.dbtg_session.specs.UnitWords.{unit_said}
+use Rattle.dbtg_session.specs.UnitWords.{unit_words}
 
 -- ANSWERS
 
@@ -86,6 +86,10 @@ listed_by m command =
     if asks (codes "units") command then Some (units_text m.schema (state_now m).units)
     else (if asks (codes "schema") command then Some (schema_lines m.schema)
     else (if asks (codes "database") command then Some (database_text m) else None))
+
+-- what is current of unit u
+abbrev pub unit_said : Making → ℕ → Option (List ℕ)
+unit_said m u = option_map (unit_words m.schema (image_of m.schema m.capacity (state_now m).database)) (slice_get (state_now m).units (u - 1))
 
 -- what `.unit` prints: what is current of the unit that it means, or that there is no such unit
 abbrev pub unit_shown : Making → ℕ → List ℕ → Option (List ℕ)

@@ -1,6 +1,6 @@
 -- What is current of a unit, in words, a line each, given the image of the database, which says whether it is still there.
 -- k is a key, o an owner, s a set, v a version.
-use Rattle.std.specs.Prelude.{ℕ, ◌+◌, ◌-◌, ◌/◌, ◌%◌, ◌==◌, ◌&&◌, List, [], ◌∷◌, ◌++◌, Option, Some, None, if◌then◌else◌, length, option_map, unwrap_or, slice_get, decimal, codes}
+use Rattle.std.specs.Prelude.{ℕ, ◌+◌, ◌/◌, ◌%◌, ◌==◌, ◌&&◌, List, [], ◌∷◌, ◌++◌, Option, Some, None, if◌then◌else◌, length, option_map, unwrap_or, slice_get, decimal, codes}
 use Rattle.std.specs.List.{find, flat_map, list_any, position_from}
 use Rattle.dbtg_schema.specs.Lists.{Lists}
 use Rattle.dbtg_schema.specs.Lookups.{at}
@@ -12,9 +12,8 @@ use Rattle.dbtg_cells.specs.declared.key.DbKey.{DbKey}
 use Rattle.dbtg_cells.specs.declared.key.Owner.{Owner}
 use Rattle.dbtg_cells.specs.declared.key.Owner.TheVariants.{System, Rec}
 use Rattle.dbtg_cells.specs.declared.usage.Mode.{Mode}
-use Rattle.dbtg_unit.specs.Database.State.Image.{Image, image_of}
+use Rattle.dbtg_unit.specs.Database.State.Image.{Image}
 use Rattle.dbtg_unit.specs.Database.State.Units.{place_in}
-use Rattle.dbtg_step.specs.Core.Whole.{Making, state_now}
 use Rattle.dbtg_unit.specs.declared.unit.Place.{Place}
 use Rattle.dbtg_unit.specs.declared.unit.Unit.{Unit}
 use Rattle.dbtg_script.specs.Printing.Texts.{key_text, mode_text}
@@ -136,7 +135,3 @@ unit_words schema image unit =
     ++ set_lines schema image unit 0 schema.sets
     ++ area_lines schema image unit 0 schema.areas
     ++ kept_lines schema image unit.kept
-
--- what is current of unit u
-abbrev pub unit_said : Making → ℕ → Option (List ℕ)
-unit_said m u = option_map (unit_words m.schema (image_of m.schema m.capacity (state_now m).database)) (slice_get (state_now m).units (u - 1))

@@ -7,10 +7,11 @@ ghost use Rattle.dbtg_session.specs.Sessions.{Answers, IsLastAnswer, IsText, May
 
 use crate::asked::{Asked, asks, asks_undo, behind_spaces, read_asked};
 use crate::replies::{
-    database_reply, fault_reply, no_unit_reply, push_answer_reply, schema_reply, undone_reply,
-    unit_reply, units_reply, with_here,
+    database_reply, fault_reply, no_unit_reply, push_answer_reply, undone_reply, unit_reply,
+    units_reply, with_here,
 };
 use crate::session::{Refusal, Session};
+use dbtg_draw::schema_lines;
 use dbtg_explain::{Kind, Topic, explained, fault_topic, status_topic, topic_of};
 use dbtg_script::{Cause, behind, in_front, is_number, number};
 use std::alloc::{AllocError, Global};
@@ -113,9 +114,10 @@ impl<'a> Shell<'a> {
 
     /// Is this the directory in which the session was saved last?
     pub fn has_saved(&self, directory: &str) -> bool {
-        self.saved
-            .as_ref()
-            .is_some_and(|saved| saved.as_str() == directory)
+        match &self.saved {
+            Some(saved) => saved.as_str() == directory,
+            None => false,
+        }
     }
 
     /// Notes the directory in which the session is saved.
@@ -266,7 +268,7 @@ impl<'a> Shell<'a> {
             return Ok(Reply::Text(units_reply(self.alloc, &self.session)?));
         }
         if asks(b"schema", command) {
-            return Ok(Reply::Text(schema_reply(self.alloc, &self.session)?));
+            return Ok(Reply::Text(schema_lines(self.alloc, self.session.schema())?));
         }
         if asks(b"database", command) {
             return Ok(Reply::Text(database_reply(self.alloc, &self.session)?));

@@ -2,17 +2,14 @@
 ghost use Rattle.std.specs.List.{list_any};
 ghost use Rattle.std.specs.Prelude.{◌≡◌, ◌-◌, ◌%◌, ◌≤◌, ◌<◌, [], ◌∷◌, ◌++◌, codes, decimal, IfOk, length, OnOk, Some, option_map, slice_get};
 ghost use Rattle.std.specs.Str.{bytes_eq};
-ghost use Rattle.dbtg_draw.specs.Listing.{schema_lines};
 ghost use Rattle.dbtg_script.specs.Printing.Texts.{units_text};
 ghost use Rattle.dbtg_step.specs.Core.Whole.{state_now};
-ghost use Rattle.dbtg_session.specs.Replies.{IsFaultText, answer_reply, cause_name, database_text, help_words, hint_for, no_unit_text, quit_words, said_or, undone_text};
+ghost use Rattle.dbtg_session.specs.Replies.{IsFaultText, answer_reply, cause_name, database_text, help_words, hint_for, no_unit_text, quit_words, said_or, undone_text, unit_said};
 ghost use Rattle.dbtg_session.specs.Sessions.{last_made};
 ghost use Rattle.dbtg_session.specs.Inside.Sessions.{with_here};
-ghost use Rattle.dbtg_session.specs.UnitWords.{unit_said};
 
 use crate::session::Session;
 use crate::words::unit_words;
-use dbtg_draw::schema_lines;
 use dbtg_explain::{CAUSES, Kind, field, line_at, meaning_of, row_with, said_of_word};
 use dbtg_schema::Schema;
 use dbtg_script::{
@@ -177,11 +174,4 @@ pub fn unit_reply(alloc: Global, session: &Session<'_>, unit: u8) -> Result<Vec<
     let image = session.image()?;
     let shown = &session.units()[unit as usize - 1];
     unit_words(alloc, session.schema(), &image, shown)
-}
-
-/// The schema, a line for each of its parts.
-pub fn schema_reply(alloc: Global, session: &Session<'_>) -> Result<Vec<u8>, AllocError>
-    ensures { IfOk result (λ out. out.items ≡ schema_lines session.now.making.schema) }
-{
-    schema_lines(alloc, session.schema())
 }

@@ -192,13 +192,6 @@ fn made_again<'a>(
     Ok(database)
 }
 
-// How many of these statements the unit made.
-fn made_by(history: &[Entry], unit: u8) -> usize
-    ensures { result ≡ length (entries_of unit history.now) }
-{
-    history.iter().filter(|entry| entry.unit == unit).count()
-}
-
 /// A database in memory, its units, numbered from 1, and the script of each.
 pub struct Session<'a> {
     alloc: Global,
@@ -323,7 +316,8 @@ impl<'a> Session<'a> {
     pub fn count_of(&self, unit: u8) -> usize
         ensures { result ≡ length (entries_of unit self.now.making.history) }
     {
-        made_by(self.database.history(), unit)
+        let history = self.database.history();
+        history.iter().filter(|entry| entry.unit == unit).count()
     }
 
     /// What is in the way of the last statement; nothing if it was done.

@@ -4,7 +4,8 @@ use Rattle.std.proofs.lemmas.Option.{slice_get_read}
 use Rattle.std.proofs.lemmas.Result.{IfOk-weaker}
 use Rattle.dbtg_unit.specs.Database.State.Image.{image_of}
 use Rattle.dbtg_step.specs.Core.Whole.{state_now}
-use Rattle.dbtg_session.specs.UnitWords.{unit_said, unit_words}
+use Rattle.dbtg_session.specs.Replies.{unit_said}
+use Rattle.dbtg_session.specs.UnitWords.{unit_words}
 use Rattle.dbtg_session.proofs.replies.unit_reply.Goals as goal
 
 pub returns : goal.returns
