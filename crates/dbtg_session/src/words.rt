@@ -53,8 +53,7 @@ fn push_among(out: &mut Vec<u8>, place: Option<usize>, many: usize) -> Result<()
         Some(place) => {
             out.extend_from_slice(b", ")?;
             push_ordinal(out, place as u64)?;
-            out.extend_from_slice(b" of ")?;
-            push_number(out, many as u64)?;
+            push_with_number(out, b" of ", many as u64)?;
             out.extend_from_slice(b" in the list of ")
         }
     }
@@ -236,8 +235,7 @@ impl<'a> SchemaAndImage<'a> {
         ensures { OnOk result (out.new.items ≡ out.old.items ++ kept_words self.now.schema.now self.now.image.now kept.now) }
     {
         self.push_key(out, &kept.0)?;
-        out.extend_from_slice(b", version ")?;
-        push_number(out, kept.1)?;
+        push_with_number(out, b", version ", kept.1)?;
         if self.is_at_version(kept) {
             return Ok(());
         }
@@ -255,8 +253,7 @@ impl<'a> SchemaAndImage<'a> {
     {
         push_front(out, what, name)?;
         self.push_current(out, current)?;
-        out.push(b'\n')?;
-        Ok(())
+        out.extend_from_slice(b"\n")
     }
 
     fn push_set_line(
@@ -271,8 +268,7 @@ impl<'a> SchemaAndImage<'a> {
         push_front(out, b"set ", name)?;
         let place = unit.place_in(self.schema, SetNo::new(number));
         self.push_place(out, number, place)?;
-        out.push(b'\n')?;
-        Ok(())
+        out.extend_from_slice(b"\n")
     }
 
     fn push_area_line(
@@ -287,8 +283,7 @@ impl<'a> SchemaAndImage<'a> {
         push_front(out, b"area ", name)?;
         self.push_current(out, entry_at(unit.currency.areas.as_slice(), number))?;
         push_open(out, entry_at(unit.modes.as_slice(), number))?;
-        out.push(b'\n')?;
-        Ok(())
+        out.extend_from_slice(b"\n")
     }
 
     fn push_types(
@@ -330,8 +325,7 @@ impl<'a> SchemaAndImage<'a> {
     {
         push_front(out, b"kept", b"")?;
         self.push_kept(out, kept)?;
-        out.push(b'\n')?;
-        Ok(())
+        out.extend_from_slice(b"\n")
     }
 
     fn push_each_kept(&self, out: &mut Vec<u8>, kept: &[(DbKey, u64)]) -> Result<(), AllocError>
@@ -356,10 +350,8 @@ impl<'a> SchemaAndImage<'a> {
 fn push_number_of(out: &mut Vec<u8>, unit: &Unit) -> Result<(), AllocError>
     ensures { OnOk result (out.new.items ≡ out.old.items ++ codes "UNIT " ++ decimal unit.now.number ++ 10 ∷ []) }
 {
-    out.extend_from_slice(b"UNIT ")?;
-    push_number(out, unit.number as u64)?;
-    out.push(b'\n')?;
-    Ok(())
+    push_with_number(out, b"UNIT ", unit.number as u64)?;
+    out.extend_from_slice(b"\n")
 }
 
 /// What is current of a unit, and what it keeps, given the image of the database on which it works.
