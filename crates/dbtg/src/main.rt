@@ -30,7 +30,8 @@ use dbtg_running::{
     run_programs_on_threads,
 };
 use dbtg_schema::Schema;
-use dbtg_shell::{Broken, Session, converse, write_file};
+use dbtg_session::Session;
+use dbtg_shell::{Broken, converse, write_file};
 use dbtg_unit::LAST_UNIT;
 use progress::Progress;
 use std::alloc::Global;

@@ -1,7 +1,3 @@
-mod Hints
 mod ProgramSteps
 mod Rows
-mod SessionSteps
 mod SessionTurns
-mod ShellReplies
-mod TakingBack

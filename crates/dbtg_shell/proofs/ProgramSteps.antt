@@ -16,12 +16,12 @@ use Rattle.dbtg_program.specs.States.{beginning}
 use Rattle.dbtg_command.specs.declared.fault.Fault.{Fault}
 use Rattle.dbtg_command.specs.declared.fault.Fault.TheVariants.{Schema, Script, Program, Moves, Turns, Trace, MovesOver, StatesOver, Unreadable, ScriptCount, Memory}
 use Rattle.dbtg_command.specs.Refusals.{RefusesProgram}
-use Rattle.dbtg_shell.specs.Sessions.{HasTyped, Typed, last_made, text_of}
+use Rattle.dbtg_session.specs.Sessions.{HasTyped, Typed, last_made, text_of}
 use Rattle.dbtg_shell.specs.Programs.{Following, HasBegun, HasGoneOn, HasMadeDue, IsStopped, RunsText, begun, behind, line_due}
 use Rattle.dbtg_shell.specs.Inside.Programs.{MakesDue, MayHaveMade, MayHaveTyped}
-use Rattle.dbtg_shell.proofs.SessionSteps.{found_below}
-use Rattle.dbtg_shell.proofs.ShellReplies.{last_entry}
-use Rattle.dbtg_shell.proofs.TakingBack.{get_set}
+use Rattle.dbtg_session.proofs.Public.{found_below}
+use Rattle.dbtg_session.proofs.Public.{last_entry}
+use Rattle.dbtg_session.proofs.Public.{get_set}
 
 -- the entry of a line that is typed
 abbrev made_entry : (old : Typed) (u : ℕ) (line : List ℕ) (new : Typed) → HasTyped old u line new → Entry

@@ -1,6 +1,3 @@
-pub mod Asking
-pub mod Replies
-pub mod Sessions
+pub mod Turns
 pub mod Programs
-pub mod UnitWords
 pub mod Inside

@@ -11,7 +11,7 @@ use Rattle.dbtg_program.specs.Going.{Due, due, ended, next, told}
 use Rattle.dbtg_program.specs.Reading.{program}
 use Rattle.dbtg_program.specs.States.{beginning}
 use Rattle.dbtg_going.specs.Spelled.{spelled}
-use Rattle.dbtg_shell.specs.Sessions.{HasTyped, IsUnmade, Typed, last_made}
+use Rattle.dbtg_session.specs.Sessions.{HasTyped, IsUnmade, Typed, last_made}
 
 -- WHAT IS DUE
 

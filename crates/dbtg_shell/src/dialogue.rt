@@ -6,14 +6,13 @@ ghost use Rattle.dbtg_program.specs.Reading.{program as program_said};
 ghost use Rattle.dbtg_shell.specs.Programs.{Following, HasBegun, HasGoneOn, HasRun, IsStopped, RunsText};
 ghost use Rattle.dbtg_shell.specs.Inside.Programs.{IsFollowed, MakesDue, MayHaveMade, MayHaveTyped, TypesLine, end_text, seen};
 
-use crate::commands::{Reply, Shell};
 use crate::running::{Followed, shown_line};
 use crate::saved::{first_there, save};
-use crate::session::Session;
 use dbtg_command::reason::reason;
 use dbtg_command::{Call, Fault, Files, Order, Paths, program_of};
 use dbtg_going::lines_of;
 use dbtg_program::Program;
+use dbtg_session::{Reply, Session, Shell};
 use std::alloc::{AllocError, Global};
 use std::fs::File;
 use std::io::{self, BufRead, BufReader, Input, IsTerminal, Read, Write};
@@ -131,15 +130,6 @@ fn program_bytes(rt: &HostRuntime, path: &str) -> io::Result<Vec<u8>> {
     Ok(bytes)
 }
 
-// The paths of a schema and a program.
-fn paths_of<'a>(schema: &'a str, scripts: &'a [&'a str]) -> Paths<'a> {
-    Paths {
-        schema,
-        scripts,
-        order: Order::Serial,
-    }
-}
-
 // What `check --programs --explain` prints of a program that is refused.
 fn refusal_text(rt: &HostRuntime, paths: &Paths, fault: &Fault) -> Result<String, AllocError> {
     let files = Files { reader: rt, paths };
@@ -158,7 +148,11 @@ fn told_of_file(
 ) -> Result<String, AllocError> {
     let path = String::from_str(rt.alloc(), path)?;
     let scripts = [path.as_str()];
-    let paths = paths_of(call.schema, &scripts);
+    let paths = Paths {
+        schema: call.schema,
+        scripts: &scripts,
+        order: Order::Serial,
+    };
     refusal_text(rt, &paths, fault)
 }
 
@@ -309,22 +303,23 @@ fn run_file(
     }
 }
 
-// Prints what a line came to; a line that asks to load is one of a file that is loaded already.
+// Prints what a line came to, and says whether the dialogue goes on. A line that asks to load is one of a file that is loaded already.
 fn write_reply(
     rt: &HostRuntime,
     shell: &mut Shell<'_>,
     call: &Call<'_>,
     reply: &Result<Reply<'_>, AllocError>,
-) -> Result<(), Broken> {
+) -> Result<bool, Broken> {
     match reply {
         Ok(Reply::Text(text)) => write(rt, text.as_slice()),
         Ok(Reply::Untold) => write(rt, UNTOLD.as_bytes()),
         Ok(Reply::Save(directory)) => write_saved(rt, shell, call, *directory),
         Ok(Reply::Load(_)) => write(rt, LOADING.as_bytes()),
         Ok(Reply::Run(path)) => run_file(rt, shell, call, *path),
-        Ok(Reply::Quit) => Ok(()),
+        Ok(Reply::Quit) => return Ok(false),
         Err(_) => write(rt, WANT_OF_MEMORY.as_bytes()),
-    }
+    }?;
+    Ok(true)
 }
 
 // What a line does.
@@ -337,19 +332,6 @@ fn reply_to<'b>(
         LinePart::All => shell.take_line(line),
         LinePart::Beginning => shell.take_long_line(),
     }
-}
-
-// Answers a line of a file; whether the dialogue goes on.
-fn answer_loaded(
-    rt: &HostRuntime,
-    shell: &mut Shell<'_>,
-    call: &Call<'_>,
-    kept: LinePart,
-    line: &[u8],
-) -> Result<bool, Broken> {
-    let reply = reply_to(shell, kept, line);
-    write_reply(rt, shell, call, &reply)?;
-    Ok(!matches!(reply, Ok(Reply::Quit)))
 }
 
 // Answers the lines of a file, as if they were typed; whether the dialogue goes on, or why no further line can be read.
@@ -366,7 +348,8 @@ fn answer_file<B: BufRead>(
             Ok(None) => return Ok(Ok(true)),
             Err(error) => return Ok(Err(error)),
         };
-        if !answer_loaded(rt, shell, call, kept, line.as_slice())? {
+        let reply = reply_to(shell, kept, line.as_slice());
+        if !write_reply(rt, shell, call, &reply)? {
             return Ok(Ok(false));
         }
     }
@@ -421,10 +404,7 @@ fn answer(
 ) -> Result<bool, Broken> {
     match reply_to(shell, kept, line) {
         Ok(Reply::Load(path)) => load(rt, shell, call, path),
-        reply => {
-            write_reply(rt, shell, call, &reply)?;
-            Ok(!matches!(reply, Ok(Reply::Quit)))
-        }
+        reply => write_reply(rt, shell, call, &reply),
     }
 }
 

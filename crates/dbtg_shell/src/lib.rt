@@ -2,17 +2,12 @@
 //! given order, since it saves the scripts and the turns by which they are made again. A program is run in it as if its statements were typed.
 #![tactic(auto)]
 
-mod asked;
-mod commands;
 mod dialogue;
-mod replies;
 mod running;
 mod saved;
-mod session;
-mod words;
+mod turns;
 mod writing;
 
-pub use commands::{Reply, Shell};
 pub use dialogue::{Broken, converse, run_program};
-pub use session::{Refusal, Script, Session};
+pub use turns::turns_of;
 pub use writing::write_file;

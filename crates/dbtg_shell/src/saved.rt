@@ -1,7 +1,8 @@
 //! Saving a session: a file for the script of each unit, and one for the turns.
 
-use crate::session::{Script, Session};
+use crate::turns::turns_of;
 use crate::writing::write_file;
+use dbtg_session::{Script, Session};
 use std::alloc::AllocError;
 use std::fs;
 
@@ -43,7 +44,7 @@ fn save_turns(
     directory: &str,
     session: &Session<'_>,
 ) -> Result<Option<String>, AllocError> {
-    let turns = session.turns()?;
+    let turns = turns_of(rt.alloc(), session)?;
     let path = format!(in rt.alloc(); "{directory}/turns")?;
     written(rt, path.as_str(), turns.as_slice())
 }

@@ -8,7 +8,7 @@ use Rattle.dbtg_going.specs.Texts.{program_text}
 use Rattle.dbtg_going.specs.declared.member.Reached.{Reached}
 use Rattle.dbtg_shell.specs.declared.running.Followed.{Followed}
 use Rattle.dbtg_shell.specs.Programs.{Following, HasMadeDue, IsStopped}
-use Rattle.dbtg_shell.specs.Sessions.{HasTyped, IsUnmade, Typed}
+use Rattle.dbtg_session.specs.Sessions.{HasTyped, IsUnmade, Typed}
 
 -- the program, its lines, and what is due
 abbrev pub seen : Followed → Following

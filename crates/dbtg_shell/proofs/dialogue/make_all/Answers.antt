@@ -2,7 +2,7 @@ use Rattle.std.proofs.Common.{◌∙◌, ◌<◌, ℕ, Bool, true, subst, sym}
 use Rattle.dbtg_shell.specs.Inside.Programs.{MakesDue, MayHaveMade, seen}
 use Rattle.dbtg_shell.specs.Programs.{Following, HasGoneOn}
 use Rattle.dbtg_shell.proofs.ProgramSteps.{gone_on, in_part, left_if, less_left, stopped}
-use Rattle.dbtg_shell.proofs.ShellReplies.{on_err}
+use Rattle.dbtg_session.proofs.Public.{on_err}
 use Rattle.dbtg_shell.proofs.dialogue.make_all.Goals as goal
 
 pub returns-in_err-goes_on-clause-part : goal.returns-in_err-goes_on-clause-part

@@ -3,7 +3,7 @@ use Rattle.std.specs.Prelude.{option_map}
 use Rattle.dbtg_shell.specs.Inside.Programs.{MayHaveMade, TypesLine, seen}
 use Rattle.dbtg_shell.specs.Programs.{line_due}
 use Rattle.dbtg_shell.proofs.ProgramSteps.{due_typed, may_have_made}
-use Rattle.dbtg_shell.proofs.ShellReplies.{on_err}
+use Rattle.dbtg_session.proofs.Public.{on_err}
 use Rattle.dbtg_shell.proofs.dialogue.make_due.Goals as goal
 
 pub returns-in_err-type_line-clause-part : goal.returns-in_err-type_line-clause-part

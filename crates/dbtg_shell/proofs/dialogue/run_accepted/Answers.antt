@@ -1,6 +1,6 @@
 use Rattle.dbtg_shell.specs.Programs.{HasBegun}
 use Rattle.dbtg_shell.proofs.ProgramSteps.{nothing_yet}
-use Rattle.dbtg_shell.proofs.ShellReplies.{on_err}
+use Rattle.dbtg_session.proofs.Public.{on_err}
 use Rattle.dbtg_shell.proofs.dialogue.run_accepted.Goals as goal
 
 pub returns-in_err-lines-clause-part : goal.returns-in_err-lines-clause-part

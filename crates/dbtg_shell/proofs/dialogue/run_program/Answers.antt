@@ -1,7 +1,7 @@
 use Rattle.std.proofs.Common.{refl}
 use Rattle.dbtg_shell.specs.Programs.{HasBegun}
 use Rattle.dbtg_shell.proofs.ProgramSteps.{nothing_yet, told_of}
-use Rattle.dbtg_shell.proofs.ShellReplies.{on_err}
+use Rattle.dbtg_session.proofs.Public.{on_err}
 use Rattle.dbtg_shell.proofs.dialogue.run_program.Goals as goal
 
 pub returns-in-Err : goal.returns-in-Err

@@ -1,0 +1,6 @@
+mod Hints
+mod Rows
+mod SessionSteps
+mod ShellReplies
+mod TakingBack
+pub mod Public

@@ -1,0 +1,114 @@
+-- What is told of a line.
+use Rattle.std.proofs.Common.{◌≡◌, ℕ, true, false, Option, ◌+◌, ◌-◌, List, [], ◌∷◌, ◌++◌, length, Some, slice_get, inl, inr, ap, sym, ◌∙◌, subst, arith, length-append, IfOk, Result, Ok, Err, None}
+use Rattle.std.specs.Prelude.{◌==◌, ◌&&◌, OnErr, codes, if◌then◌else◌}
+use Rattle.std.specs.Str.{bytes_eq}
+use Rattle.std.proofs.lemmas.Bool.{and_parts}
+use Rattle.std.proofs.lemmas.Slice.Eq.{bytes_eq-Decides}
+use Rattle.dbtg_schema.specs.Lists.{Lists}
+use Rattle.std.proofs.lemmas.Option.{none-some}
+use Rattle.dbtg_cells.proofs.Public.{get_behind}
+use Rattle.dbtg_step.specs.Core.Whole.{Making, state_now}
+use Rattle.dbtg_draw.specs.Listing.{schema_lines}
+use Rattle.dbtg_refusal.specs.Said.{said_in}
+use Rattle.dbtg_unit.specs.declared.unit.Entry.{Entry}
+use Rattle.dbtg_script.specs.Printing.Spelling.{behind, in_front}
+use Rattle.dbtg_script.specs.Printing.Texts.{units_text}
+use Rattle.dbtg_script.specs.declared.fault.Cause.{Cause}
+use Rattle.dbtg_session.specs.Asking.{asked_of, asks_undo, behind_spaces, is_unit, turn_after, turn_behind, turn_given}
+use Rattle.dbtg_session.specs.Replies.{IsFaultText, answer_reply, database_text, no_unit_text, shown_by, unit_shown}
+use Rattle.dbtg_session.specs.Sessions.{Answers, IsLastAnswer, IsLastSaid, IsText, IsUnmade, Prints, RefusesLine, TakesAsked, TakesLine, Typed}
+use Rattle.dbtg_session.specs.declared.asked.Asked.{Asked}
+use Rattle.dbtg_session.specs.declared.commands.Reply.{Reply}
+use Rattle.dbtg_session.specs.declared.commands.Reply.TheVariants as reply
+use Rattle.dbtg_session.specs.declared.session.Refusal.TheVariants.{Fault}
+
+-- THE LAST ENTRY
+
+pub last_entry : (history before : List Entry) (e : Entry) → history ≡ before ++ e ∷ [] → slice_get history (length history - 1) ≡ Some e
+last_entry history before e is =
+    let many : length history ≡ length before + 1 = ap length is ∙ length-append before (e ∷ []) in
+    let place : length history - 1 ≡ length before = omega (arith, many) in
+    ap (slice_get history) place ∙ ap (λ (es : List Entry). slice_get es (length before)) is ∙ get_behind before e []
+
+pub is_last : (typed : Typed) (schema : Lists) (one : Entry) (out : List ℕ) → Some one ≡ slice_get typed.making.history (length typed.making.history - 1) → schema ≡ typed.making.schema → out ≡ answer_reply schema one → IsLastAnswer typed out
+is_last typed schema one out at same told = λ before e is.
+    let found : Some one ≡ Some e = at ∙ last_entry typed.making.history before e is in
+    let entry : one ≡ e = cc (found) in
+    subst (λ (s : Lists). out ≡ answer_reply s e) same (subst (λ (x : Entry). out ≡ answer_reply schema x) entry told)
+
+-- what is said of the last entry
+pub said_last : {E V : Type 0} (items : V → List ℕ) (typed : Typed) (one : Entry) (told : Result V E) → Some one ≡ slice_get typed.making.history (length typed.making.history - 1)
+    → IfOk told (λ out. items out ≡ said_in typed.making.schema typed.making.capacity (state_now typed.making) one) → IfOk told (λ out. IsLastSaid typed (items out))
+said_last items typed one (Ok out) at said = λ before e is.
+    let found : Some one ≡ Some e = at ∙ last_entry typed.making.history before e is in
+    let entry : one ≡ e = cc (found) in
+    subst (λ (x : Entry). items out ≡ said_in typed.making.schema typed.making.capacity (state_now typed.making) x) entry said
+said_last items typed one (Err error) at said = said
+
+-- nothing is said where no statement was made
+pub said_nothing : (typed : Typed) → None ≡ slice_get typed.making.history (length typed.making.history - 1) → IsLastSaid typed []
+said_nothing typed at = λ before e is. absurd (none-some e (at ∙ last_entry typed.making.history before e is))
+
+-- WHAT IS TOLD
+
+-- what holds whatever comes out
+pub if_ok : {A E : Type 0} (result : Result A E) (P : Type 0) → P → IfOk result (λ x. P)
+if_ok (Ok x) P p = p
+if_ok (Err e) P p = tt
+
+pub on_err : {A E : Type 0} (result : Result A E) (P : Type 0) → P → OnErr result P
+on_err (Ok x) P p = tt
+on_err (Err e) P p = p
+
+is_text : (A B : List ℕ → Type 0) (r : Reply) → ((out : List ℕ) → A out → B out) → IsText A r → IsText B r
+is_text A B (reply.Text out) f told = f out.items told
+is_text A B reply.Untold f told = told
+is_text A B (reply.Save directory) f told = told
+is_text A B (reply.Load path) f told = told
+is_text A B (reply.Run path) f told = told
+is_text A B reply.Quit f told = told
+
+-- who takes a statement back keeps the turn
+pub undo_keeps_turn : (units turn : ℕ) (command : List ℕ) → asks_undo command ≡ true → turn_behind units turn command ≡ turn
+undo_keeps_turn units turn command asks =
+    let word : in_front 32 command ≡ codes "undo" = (bytes_eq-Decides (in_front 32 command) (codes "undo")).0 (and_parts _ _ asks).0 in
+    ap (λ (w : List ℕ). if bytes_eq w (codes "unit") then turn_given units turn (behind_spaces (behind 32 command)) else turn) word
+
+-- and shows nothing
+pub undo_shows : {E : Type 0} (m : Making) (turn : ℕ) (command : List ℕ) (told : Result Reply E) → asks_undo command ≡ true → IfOk told (Prints (shown_by m turn command))
+undo_shows m turn command told asks =
+    let word : in_front 32 command ≡ codes "undo" = (bytes_eq-Decides (in_front 32 command) (codes "undo")).0 (and_parts _ _ asks).0 in
+    let rest : List ℕ = behind_spaces (behind 32 command) in
+    let none : shown_by m turn command ≡ None = ap (λ (w : List ℕ). if bytes_eq w (codes "unit") then unit_shown m turn rest
+    else (if bytes_eq w (codes "units") && (length rest == 0) then Some (units_text m.schema (state_now m).units)
+    else (if bytes_eq w (codes "schema") && (length rest == 0) then Some (schema_lines m.schema)
+    else (if bytes_eq w (codes "database") && (length rest == 0) then Some (database_text m) else None)))) word in
+    subst (λ (text : Option (List ℕ)). IfOk told (Prints text)) (sym none) (if_ok told (Unit {0}) tt)
+
+-- a line comes to nothing if there is no such unit, and where it has a fault
+module _ {E : Type 0} (u : ℕ) (old new : Typed) (line : List ℕ) (result : Result Reply E) (same : new ≡ old) where
+  unmade : (A : List ℕ → Type 0) → ((out : List ℕ) → A out → IsUnmade old u line out) → IfOk result (IsText A) → TakesLine u old line result new
+  unmade A f told = taken result told
+    where
+      taken : (r : Result Reply E) → IfOk r (IsText A) → TakesLine u old line r new
+      taken (Ok it) h = inr (same, is_text A (IsUnmade old u line) it f h)
+      taken (Err e) h = same
+
+  pub without_unit : is_unit old.making.units u ≡ false → IfOk result (IsText (λ out. out ≡ no_unit_text old.making.units)) → TakesLine u old line result new
+  without_unit none told = unmade (λ out. out ≡ no_unit_text old.making.units) (λ out h. inl (none, h)) told
+
+  pub with_fault : (cause : Cause) → RefusesLine (Fault cause) old u line → IfOk result (IsText (IsFaultText old.making.schema line cause)) → TakesLine u old line result new
+  with_fault cause refused told = unmade (IsFaultText old.making.schema line cause) (λ out h. inr (inr (cause, refused, h))) told
+
+-- WHAT A LINE ASKS FOR IS DONE
+
+pub answered : {E : Type 0} (line : List ℕ) (turn turn_now : ℕ) (old new : Typed) (told : Result Reply E) (one asked : Asked)
+    → asked_of line (behind_spaces line) one → one ≡ asked → TakesAsked turn old asked told new → IfOk told (λ x. turn_now ≡ turn_after old.making.units turn asked) → OnErr told (turn_now ≡ turn)
+    → Answers line turn old told turn_now new
+answered line turn turn_now old new told one asked read is done given kept = record {
+  one = one;
+  is_read = read;
+  is_done = subst (λ (it : Asked). TakesAsked turn old it told new) (sym is) done;
+  given = subst (λ (it : Asked). IfOk told (λ x. turn_now ≡ turn_after old.making.units turn it)) (sym is) given;
+  kept = kept;
+}

@@ -1,7 +1,0 @@
-use Rattle.std.proofs.Common.{◌≡◌, ◌++◌, drop}
-use Rattle.dbtg_shell.specs.UnitWords.{area_lines}
-use Rattle.dbtg_shell.proofs.words.SchemaAndImage.push_areas.Given as goal
-
-abbrev pub invariant-loop-i : goal.invariant-loop-i
-invariant-loop-i l =
-    l.out.items ++ area_lines l.self.schema.now l.self.image.now l.unit l.i (drop l.i l.areas) ≡ l.initial.out.items ++ area_lines l.self.schema.now l.self.image.now l.unit 0 l.areas
