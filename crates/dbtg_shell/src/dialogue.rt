@@ -139,6 +139,15 @@ fn refusal_text(rt: &HostRuntime, paths: &Paths, fault: &Fault) -> Result<String
     }
 }
 
+// The paths of a schema and a program.
+fn paths_of<'a>(schema: &'a str, scripts: &'a [&'a str]) -> Paths<'a> {
+    Paths {
+        schema,
+        scripts,
+        order: Order::Serial,
+    }
+}
+
 // The same of the program in a file. Its path is copied, so that the paths of both files live as long.
 fn told_of_file(
     rt: &HostRuntime,
@@ -148,11 +157,7 @@ fn told_of_file(
 ) -> Result<String, AllocError> {
     let path = String::from_str(rt.alloc(), path)?;
     let scripts = [path.as_str()];
-    let paths = Paths {
-        schema: call.schema,
-        scripts: &scripts,
-        order: Order::Serial,
-    };
+    let paths = paths_of(call.schema, &scripts);
     refusal_text(rt, &paths, fault)
 }
 
