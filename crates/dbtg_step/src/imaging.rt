@@ -23,18 +23,6 @@ pub enum CellSource<'a> {
     Hands(&'a Held),
 }
 
-fn place_at(table: &[CellLocation], number: usize) -> Option<&CellLocation>
-    ensures { option_copied result ≡ slice_get table.now number }
-{
-    table.get(number)
-}
-
-fn runner_at(runners: &[UnitState], index: usize) -> Option<&UnitState>
-    ensures { option_copied result ≡ slice_get runners.now index }
-{
-    runners.get(index)
-}
-
 /// The unit with this number.
 pub fn unit_numbered(runners: &[UnitState], unit: u8) -> Option<&UnitState>
     ensures { option_copied result ≡ unit_at runners.now unit }
@@ -42,7 +30,7 @@ pub fn unit_numbered(runners: &[UnitState], unit: u8) -> Option<&UnitState>
     if unit == 0 {
         return None;
     }
-    runner_at(runners, unit as usize - 1)
+    runners.get(unit as usize - 1)
 }
 
 fn held_cell<'a>(runners: &'a [UnitState], unit: u8, name: &CellName) -> Option<&'a Cell>
@@ -77,7 +65,7 @@ fn find_in_parts<'a>(
     ensures { option_copied result ≡ found_cell schema.now capacity parts.now name.now }
 {
     match cell_number(schema, capacity, name) {
-        Some(number) => match place_at(parts.table.as_slice(), number) {
+        Some(number) => match parts.table.as_slice().get(number) {
             Some(place) => cell_in(parts.runners.as_slice(), place, name),
             None => None,
         },

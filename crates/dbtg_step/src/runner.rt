@@ -11,7 +11,7 @@ use dbtg_unit::{Statement, Unit};
 use std::alloc::{AllocError, Global};
 
 /// The phase of a unit.
-#[derive(Clone, Copy, Debug, PartialEq, Eq)]
+#[derive(Clone, Copy)]
 pub enum Phase {
     /// It has nothing to do.
     Over,

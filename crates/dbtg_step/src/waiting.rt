@@ -30,7 +30,7 @@ use dbtg_unit::{Held, Need};
 use std::alloc::{AllocError, Global};
 
 /// What a unit waits for: an area that it wants to share, or wants exclusively, or a cell.
-#[derive(Clone, Copy, Debug, PartialEq, Eq)]
+#[derive(Clone, Copy)]
 pub enum Awaited {
     Area { area: AreaNo, exclusive: bool },
     Cell(CellName),
@@ -67,12 +67,6 @@ fn is_with_unit(schema: &Schema, capacity: u16, table: &[CellLocation], name: &C
         },
         None => false,
     }
-}
-
-fn awaited_cell(name: CellName) -> Awaited
-    ensures { result ≡ Awaited.Cell name }
-{
-    Awaited::Cell(name)
 }
 
 fn where_held(is_held: bool, awaited: Awaited) -> Option<Awaited>
@@ -118,7 +112,7 @@ fn awaits_cell(
     let _ = progress.linked;
     let _ = unit;
     let is_held = is_with_unit(schema, capacity, parts.table.as_slice(), &name);
-    where_held(is_held, awaited_cell(name))
+    where_held(is_held, Awaited::Cell(name))
 }
 
 // What the unit waits for, given what it needs next.
