@@ -23,6 +23,12 @@ pub enum CellSource<'a> {
     Hands(&'a Held),
 }
 
+fn runner_at(runners: &[UnitState], index: usize) -> Option<&UnitState>
+    ensures { option_copied result ≡ slice_get runners.now index }
+{
+    runners.get(index)
+}
+
 /// The unit with this number.
 pub fn unit_numbered(runners: &[UnitState], unit: u8) -> Option<&UnitState>
     ensures { option_copied result ≡ unit_at runners.now unit }
@@ -30,7 +36,7 @@ pub fn unit_numbered(runners: &[UnitState], unit: u8) -> Option<&UnitState>
     if unit == 0 {
         return None;
     }
-    runners.get(unit as usize - 1)
+    runner_at(runners, unit as usize - 1)
 }
 
 fn held_cell<'a>(runners: &'a [UnitState], unit: u8, name: &CellName) -> Option<&'a Cell>

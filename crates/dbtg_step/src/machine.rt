@@ -121,18 +121,10 @@ impl Core {
         ensures { IfOk result (λ core. machine core ≡ record { schema = schema.now; capacity = capacity; opening = opening_of schema.now capacity (length scripts); state = machine_of schema.now capacity scripts }) }
     {
         let parts = opening_parts(alloc, schema, capacity, scripts)?;
-        Core::of(alloc, schema, capacity, parts)
-    }
-
-    // The core of these parts, with a schema of its own.
-    fn of(alloc: Global, schema: &Schema, capacity: u16, parts: Parts) -> Result<Core, AllocError>
-        requires { IsWell schema.now capacity parts }
-        ensures { IfOk result (λ core. machine core ≡ core_of schema.now capacity parts) }
-    {
-        let schema = schema.copy(alloc)?;
+        let own = schema.copy(alloc)?;
         Ok(Core {
             alloc,
-            schema,
+            schema: own,
             capacity,
             parts,
         })

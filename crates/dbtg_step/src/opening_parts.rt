@@ -17,19 +17,11 @@ use dbtg_schema::{AreaNo, RecordNo, Row, Schema, SetNo};
 use dbtg_unit::{Currency, Held, Kept, LAST_UNIT, Statement, Unit};
 use std::alloc::{AllocError, Global};
 
-// The items with one more.
-fn add<T: Copy>(items: &mut Vec<T>, item: &T) -> Result<(), AllocError>
-    ensures { OnOk result (items.new.items ≡ items.old.items ++ item.now ∷ []) }
-{
-    items.push(*item)?;
-    Ok(())
-}
-
 fn add_usages(schema: &Schema, names: &mut Vec<CellName>) -> Result<(), AllocError>
     ensures { OnOk result (names.new.items ≡ names.old.items ++ map CellName.Usage (range_with_len 0 (length schema.now.areas))) }
 {
     for area in 0..schema.areas().len() as u8 {
-        add(names, &CellName::Usage(AreaNo::new(area)))?;
+        names.push(CellName::Usage(AreaNo::new(area)))?;
     }
     Ok(())
 }
@@ -38,7 +30,7 @@ fn add_extents(schema: &Schema, names: &mut Vec<CellName>) -> Result<(), AllocEr
     ensures { OnOk result (names.new.items ≡ names.old.items ++ map CellName.Extent (range_with_len 0 (length schema.now.types))) }
 {
     for rtype in 0..schema.types().len() as u8 {
-        add(names, &CellName::Extent(RecordNo::new(rtype)))?;
+        names.push(CellName::Extent(RecordNo::new(rtype)))?;
     }
     Ok(())
 }
@@ -52,7 +44,7 @@ fn add_owned_rings(
     ensures { OnOk result (names.new.items ≡ names.old.items ++ map (λ n. CellName.Ring set (Some (owner, n))) (range_with_len 1 capacity)) }
 {
     for lower in 0..capacity {
-        add(names, &CellName::Ring(set, Some((owner, lower as u32 + 1))))?;
+        names.push(CellName::Ring(set, Some((owner, lower as u32 + 1))))?;
     }
     Ok(())
 }
@@ -66,7 +58,8 @@ fn add_rings_of(
     ensures { OnOk result (names.new.items ≡ names.old.items ++ rings_of schema.now capacity set) }
 {
     if schema.is_system(set) {
-        return add(names, &CellName::Ring(set, None));
+        names.push(CellName::Ring(set, None))?;
+        return Ok(());
     }
     match schema.owner_type(set) {
         Some(owner) => add_owned_rings(capacity, set, owner, names),
@@ -87,7 +80,7 @@ fn add_slots_of(capacity: u16, rtype: RecordNo, names: &mut Vec<CellName>) -> Re
     ensures { OnOk result (names.new.items ≡ names.old.items ++ slots_of capacity rtype) }
 {
     for lower in 0..capacity {
-        add(names, &CellName::Slot(rtype, lower as u32 + 1))?;
+        names.push(CellName::Slot(rtype, lower as u32 + 1))?;
     }
     Ok(())
 }

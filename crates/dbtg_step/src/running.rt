@@ -51,14 +51,6 @@ fn make_each_move(
     Ok(results)
 }
 
-// Makes the moves in turn, and takes the core apart.
-fn run_from(alloc: Global, mut core: Core, moves: &[Move]) -> Result<Run, AllocError>
-    ensures { IfOk result (λ given. (last : CoreParts) × (machine last ≡ after_moves (machine core) moves.now) × IsHandedOut last (results_of_moves (machine core) moves.now) given) }
-{
-    let results = make_each_move(alloc, &mut core, moves)?;
-    core.into_run(results)
-}
-
 /// Makes the moves in turn, starting with the opening database, with a unit for each script. A step for which memory is refused ends it.
 pub fn run(
     alloc: Global,
@@ -72,8 +64,9 @@ pub fn run(
     requires fit { scripts_fit schema.now scripts ≡ true }
     ensures { IfOk result (λ given. RunIs schema.now capacity scripts moves.now given) }
 {
-    let core = Core::new(alloc, schema, capacity, scripts)?;
-    run_from(alloc, core, moves)
+    let mut core = Core::new(alloc, schema, capacity, scripts)?;
+    let results = make_each_move(alloc, &mut core, moves)?;
+    core.into_run(results)
 }
 
 // The statements of a unit's script, one after another.
