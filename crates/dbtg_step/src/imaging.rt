@@ -23,6 +23,13 @@ pub enum CellSource<'a> {
     Hands(&'a Held),
 }
 
+/// The place with this number in the table.
+pub fn place_at(table: &[CellLocation], number: usize) -> Option<&CellLocation>
+    ensures { option_copied result ≡ slice_get table.now number }
+{
+    table.get(number)
+}
+
 fn runner_at(runners: &[UnitState], index: usize) -> Option<&UnitState>
     ensures { option_copied result ≡ slice_get runners.now index }
 {
@@ -39,15 +46,6 @@ pub fn unit_numbered(runners: &[UnitState], unit: u8) -> Option<&UnitState>
     runner_at(runners, unit as usize - 1)
 }
 
-fn held_cell<'a>(runners: &'a [UnitState], unit: u8, name: &CellName) -> Option<&'a Cell>
-    ensures { option_copied result ≡ option_and_then (λ r. cell_of name.now r.held.cells) (unit_at runners.now unit) }
-{
-    match unit_numbered(runners, unit) {
-        Some(runner) => runner.held.cell(name),
-        None => None,
-    }
-}
-
 fn cell_in<'a>(
     runners: &'a [UnitState],
     place: &'a CellLocation,
@@ -57,7 +55,10 @@ fn cell_in<'a>(
 {
     match place {
         CellLocation::Home(cell) => Some(cell),
-        CellLocation::HeldBy(unit) => held_cell(runners, *unit, name),
+        CellLocation::HeldBy(unit) => match unit_numbered(runners, *unit) {
+            Some(runner) => runner.held.cell(name),
+            None => None,
+        },
     }
 }
 
@@ -71,7 +72,7 @@ fn find_in_parts<'a>(
     ensures { option_copied result ≡ found_cell schema.now capacity parts.now name.now }
 {
     match cell_number(schema, capacity, name) {
-        Some(number) => match parts.table.as_slice().get(number) {
+        Some(number) => match place_at(parts.table.as_slice(), number) {
             Some(place) => cell_in(parts.runners.as_slice(), place, name),
             None => None,
         },

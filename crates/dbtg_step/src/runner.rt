@@ -106,16 +106,6 @@ pub fn link(runner: &mut UnitState, progress: StatementProgress)
     });
 }
 
-/// The statement has its ticket.
-pub fn pass(runner: &mut UnitState)
-    requires { runner.old.next < length runner.old.script }
-    ensures { runner.new ≡ record runner.old { next = runner.old.next + 1 } }
-{
-    // The number of statements fits a usize, and so does the next place.
-    let _count = runner.script.len();
-    runner.next += 1;
-}
-
 /// Once nothing is held the statement is over.
 pub fn close(runner: &mut UnitState)
     ensures { runner.new ≡ record runner.old { progress = progress_while_held runner.old.held.areas runner.old.held.cells runner.old.progress } }

@@ -20,6 +20,7 @@ ghost use Rattle.dbtg_step.specs.Inside.Parts.{core_of};
 ghost use Rattle.dbtg_step.specs.Inside.Stands.{StandsNeeding};
 ghost use Rattle.dbtg_step.specs.Inside.Waiting.{IsAwaited, has_awaited, is_with_unit, numbers_from};
 
+use crate::imaging::place_at;
 use crate::needing::{holds_against, other_holds_against};
 use crate::parts::{CellLocation, Parts, StatementProgress, UnitState};
 use crate::runner::{Phase, phase_of, progress_of, statement_of};
@@ -60,7 +61,7 @@ fn is_with_unit(schema: &Schema, capacity: u16, table: &[CellLocation], name: &C
     ensures { result ≡ is_with_unit (location_at schema.now capacity table.now name.now) }
 {
     match cell_number(schema, capacity, name) {
-        Some(number) => match table.get(number) {
+        Some(number) => match place_at(table, number) {
             Some(CellLocation::HeldBy(_)) => true,
             Some(CellLocation::Home(_)) => false,
             None => false,
