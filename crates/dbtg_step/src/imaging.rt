@@ -3,7 +3,6 @@ ghost use Rattle.std.specs.Prelude.{◌≡◌, ◌<◌, ◌^◌, ◌++◌, [], I
 ghost use Rattle.std.specs.List.{flat_map, range_with_len};
 ghost use Rattle.dbtg_schema.specs.Structure.{set_numbers};
 ghost use Rattle.dbtg_cells.specs.Numbers.{is_used, numbers_where};
-ghost use Rattle.dbtg_unit.specs.Hands.Hands.{cell_of};
 ghost use Rattle.dbtg_unit.specs.Hands.InHand.{numbers_of, users_of};
 ghost use Rattle.dbtg_step.specs.Machine.SequentialDatabase.{unit_at};
 ghost use Rattle.dbtg_step.specs.Inside.Imaging.{cell_in, found_cell, found_in, generations_in, image_from, list_of, lists_of, next_in, occurrence_at, owned_lists, record_of, records_of, stored_at, version_of, versions_of};

@@ -1,5 +1,5 @@
 //! The core before its first step: all cells at home as in the opening database, each unit before its script.
-ghost use Rattle.std.specs.Prelude.{◌≡◌, ◌≤◌, ◌++◌, ◌∷◌, [], None, Some, map, length, replicate, IfOk, OnOk};
+ghost use Rattle.std.specs.Prelude.{◌≡◌, ◌≤◌, ◌++◌, [], None, Some, map, length, replicate, IfOk, OnOk};
 ghost use Rattle.std.specs.List.{flat_map, range_with_len};
 ghost use Rattle.dbtg_schema.specs.Structure.{set_numbers};
 ghost use Rattle.dbtg_cells.specs.Cells.{shown};

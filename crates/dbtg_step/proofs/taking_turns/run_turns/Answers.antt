@@ -2,7 +2,7 @@ use Rattle.std.proofs.Common.{subst}
 use Rattle.dbtg_step.specs.Core.Parts.{CoreState, machine}
 use Rattle.dbtg_step.specs.Core.Runs.{IsHandedOut}
 use Rattle.dbtg_step.specs.Inside.Turns.{TurnsLead}
-use Rattle.dbtg_step.proofs.MadeWhole.TurnsTaken.{opened, opens_between, turns_handed}
+use Rattle.dbtg_step.proofs.MadeWhole.TurnsTaken.{opens_between, turns_handed}
 use Rattle.dbtg_step.proofs.taking_turns.run_turns.Goals as goal
 
 pub moves_of_turns-requires : goal.moves_of_turns-requires
