@@ -8,12 +8,10 @@ use dbtg_unit::Answer;
 fn same_items(a: &Option<SharedItems>, b: &Option<SharedItems>) -> bool
     ensures { Decides result (a.now ≡ b.now) }
 {
-    match a {
-        Some(these) => match b {
-            Some(those) => values_eq(these.get().as_slice(), those.get().as_slice()),
-            None => false,
-        },
-        None => b.is_none(),
+    match (a, b) {
+        (Some(these), Some(those)) => values_eq(these.get().as_slice(), those.get().as_slice()),
+        (None, None) => true,
+        _ => false,
     }
 }
 
