@@ -14,9 +14,8 @@ returns c =
     let last = c.moves_of_turns.new.core in
     let went = c.in_ok-moves.ensures in
     let lead = subst (λ (x : CoreState). TurnsLead x turns went.0 (machine last)) c.in_ok-core.ensures went.1 in
-    let handed = subst (λ rs. IsHandedOut last rs c.in_ok-run.run') c.new.ensures.items c.in_ok-run.ensures in
     record {
       moves = went.0;
-      run = turns_handed c.args.schema.now c.args.capacity c.args.scripts c.requires.sound c.requires.fit turns went.0 last lead c.in_ok-run.run' handed;
+      run = turns_handed c.args.schema.now c.args.capacity c.args.scripts c.requires.sound c.requires.fit turns went.0 last lead c.in_ok-run.run' (subst (λ rs. IsHandedOut last rs c.in_ok-run.run') c.new-2.ensures.items c.in_ok-run.ensures);
       given_moves = went.2;
     }
