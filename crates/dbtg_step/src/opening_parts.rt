@@ -1,5 +1,5 @@
 //! The core before its first step: all cells at home as in the opening database, each unit before its script.
-ghost use Rattle.std.specs.Prelude.{◌≡◌, ◌≤◌, ◌++◌, [], None, Some, map, length, replicate, IfOk, OnOk};
+ghost use Rattle.std.specs.Prelude.{◌≡◌, ◌≤◌, ◌++◌, ◌∷◌, [], None, Some, map, length, replicate, IfOk, OnOk};
 ghost use Rattle.std.specs.List.{flat_map, range_with_len};
 ghost use Rattle.dbtg_schema.specs.Structure.{set_numbers};
 ghost use Rattle.dbtg_cells.specs.Cells.{shown};
@@ -17,11 +17,19 @@ use dbtg_schema::{AreaNo, RecordNo, Row, Schema, SetNo};
 use dbtg_unit::{Currency, Held, Kept, LAST_UNIT, Statement, Unit};
 use std::alloc::{AllocError, Global};
 
+// The items with one more.
+fn add<T: Copy>(items: &mut Vec<T>, item: &T) -> Result<(), AllocError>
+    ensures { OnOk result (items.new.items ≡ items.old.items ++ item.now ∷ []) }
+{
+    items.push(*item)?;
+    Ok(())
+}
+
 fn add_usages(schema: &Schema, names: &mut Vec<CellName>) -> Result<(), AllocError>
     ensures { OnOk result (names.new.items ≡ names.old.items ++ map CellName.Usage (range_with_len 0 (length schema.now.areas))) }
 {
     for area in 0..schema.areas().len() as u8 {
-        names.push(CellName::Usage(AreaNo::new(area)))?;
+        add(names, &CellName::Usage(AreaNo::new(area)))?;
     }
     Ok(())
 }
@@ -30,7 +38,7 @@ fn add_extents(schema: &Schema, names: &mut Vec<CellName>) -> Result<(), AllocEr
     ensures { OnOk result (names.new.items ≡ names.old.items ++ map CellName.Extent (range_with_len 0 (length schema.now.types))) }
 {
     for rtype in 0..schema.types().len() as u8 {
-        names.push(CellName::Extent(RecordNo::new(rtype)))?;
+        add(names, &CellName::Extent(RecordNo::new(rtype)))?;
     }
     Ok(())
 }
@@ -44,7 +52,7 @@ fn add_owned_rings(
     ensures { OnOk result (names.new.items ≡ names.old.items ++ map (λ n. CellName.Ring set (Some (owner, n))) (range_with_len 1 capacity)) }
 {
     for lower in 0..capacity {
-        names.push(CellName::Ring(set, Some((owner, lower as u32 + 1))))?;
+        add(names, &CellName::Ring(set, Some((owner, lower as u32 + 1))))?;
     }
     Ok(())
 }
@@ -58,8 +66,7 @@ fn add_rings_of(
     ensures { OnOk result (names.new.items ≡ names.old.items ++ rings_of schema.now capacity set) }
 {
     if schema.is_system(set) {
-        names.push(CellName::Ring(set, None))?;
-        return Ok(());
+        return add(names, &CellName::Ring(set, None));
     }
     match schema.owner_type(set) {
         Some(owner) => add_owned_rings(capacity, set, owner, names),
@@ -80,7 +87,7 @@ fn add_slots_of(capacity: u16, rtype: RecordNo, names: &mut Vec<CellName>) -> Re
     ensures { OnOk result (names.new.items ≡ names.old.items ++ slots_of capacity rtype) }
 {
     for lower in 0..capacity {
-        names.push(CellName::Slot(rtype, lower as u32 + 1))?;
+        add(names, &CellName::Slot(rtype, lower as u32 + 1))?;
     }
     Ok(())
 }

@@ -71,6 +71,24 @@ fn goes_by_guesses(statement: &Statement) -> bool
     matches!(statement, Statement::Remove(_) | Statement::Modify { .. })
 }
 
+// What the statement needs, if it is asked once: nothing was kept before, and nothing is kept.
+fn need_once(
+    alloc: Global,
+    schema: &Schema,
+    capacity: u16,
+    unit: &Unit,
+    statement: &Statement,
+    held: &Held,
+) -> Result<Need, AllocError>
+    requires fits { fits schema.now statement.now ≡ true }
+    requires of_schema { IsUnitOf schema.now unit.now }
+    requires within { IsWithin capacity unit.now }
+    ensures need { IfOk result (λ n. (db : Database) → Agrees schema.now capacity db held.now unit.now → n ≡ need schema.now capacity db unit.now held.now statement.now) }
+{
+    let mut course = None;
+    next_need(alloc, schema, capacity, unit, statement, held, &mut course)
+}
+
 // Sets the guesses to the true owners. With all areas and cells held, the statement is then ready. It stands apart, since guesses take
 // room that is cleared at each call.
 #[inline(never)]
@@ -92,9 +110,7 @@ fn guess_anew(
     ensures areas { held.new.areas ≡ held.old.areas }
 {
     held.set_guesses(Owners::none(schema.sets().len()));
-    let mut course = None;
-    let need = next_need(alloc, schema, capacity, unit, statement, held, &mut course)?;
-    if let Need::Stale = need {
+    if let Need::Stale = need_once(alloc, schema, capacity, unit, statement, held)? {
         let guesses = true_guesses(schema, unit, statement, held);
         held.set_guesses(guesses);
     }

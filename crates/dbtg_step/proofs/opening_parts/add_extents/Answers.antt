@@ -5,4 +5,4 @@ use Rattle.dbtg_step.proofs.opening_parts.add_extents.Goals as goal
 
 pub loop-rtype-preserved : goal.loop-rtype-preserved
 loop-rtype-preserved c =
-    map_pushed_behind Extent 0 c.loop-rtype.rtype c.loop-rtype.rtype (omega arith) _ c.args.names.now.items c.loop-rtype.names.items c.push.new.self.items c.loop-rtype.invariant (rw c.new.ensures at c.in_ok-push.ensures.items) refl
+    map_pushed_behind Extent 0 c.loop-rtype.rtype c.loop-rtype.rtype (omega arith) _ c.args.names.now.items c.loop-rtype.names.items c.add.new.items.items c.loop-rtype.invariant (rw c.new.ensures at c.in_ok-add.ensures) refl

@@ -5,4 +5,4 @@ use Rattle.dbtg_step.proofs.opening_parts.add_slots_of.Goals as goal
 
 pub loop-lower-preserved : goal.loop-lower-preserved
 loop-lower-preserved c =
-    map_pushed_behind (Slot c.args.rtype) 1 c.loop-lower.lower (c.loop-lower.lower + 1) (omega arith) _ c.args.names.now.items c.loop-lower.names.items c.push.new.self.items c.loop-lower.invariant c.in_ok-push.ensures.items refl
+    map_pushed_behind (Slot c.args.rtype) 1 c.loop-lower.lower (c.loop-lower.lower + 1) (omega arith) _ c.args.names.now.items c.loop-lower.names.items c.add.new.items.items c.loop-lower.invariant c.in_ok-add.ensures refl

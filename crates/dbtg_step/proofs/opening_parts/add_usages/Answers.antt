@@ -5,4 +5,4 @@ use Rattle.dbtg_step.proofs.opening_parts.add_usages.Goals as goal
 
 pub loop-area-preserved : goal.loop-area-preserved
 loop-area-preserved c =
-    map_pushed_behind Usage 0 c.loop-area.area c.loop-area.area (omega arith) _ c.args.names.now.items c.loop-area.names.items c.push.new.self.items c.loop-area.invariant (rw c.new.ensures at c.in_ok-push.ensures.items) refl
+    map_pushed_behind Usage 0 c.loop-area.area c.loop-area.area (omega arith) _ c.args.names.now.items c.loop-area.names.items c.add.new.items.items c.loop-area.invariant (rw c.new.ensures at c.in_ok-add.ensures) refl
