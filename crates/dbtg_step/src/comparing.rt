@@ -2,20 +2,8 @@
 ghost use Rattle.std.specs.Prelude.{◌≡◌};
 ghost use Rattle.std.specs.Bool.{Decides};
 
-use dbtg_cells::{DbKey, SharedItems, values_eq};
-use dbtg_unit::{Answer, Status};
-
-fn same_status(a: Status, b: Status) -> bool
-    ensures { Decides result (a ≡ b) }
-{
-    a == b
-}
-
-fn same_key(a: Option<DbKey>, b: Option<DbKey>) -> bool
-    ensures { Decides result (a ≡ b) }
-{
-    a == b
-}
+use dbtg_cells::{SharedItems, values_eq};
+use dbtg_unit::Answer;
 
 fn same_items(a: &Option<SharedItems>, b: &Option<SharedItems>) -> bool
     ensures { Decides result (a.now ≡ b.now) }
@@ -31,5 +19,5 @@ fn same_items(a: &Option<SharedItems>, b: &Option<SharedItems>) -> bool
 pub fn same_answer(a: &Answer, b: &Answer) -> bool
     ensures { Decides result (a.now ≡ b.now) }
 {
-    same_status(a.status, b.status) & same_key(a.key, b.key) & same_items(&a.items, &b.items)
+    (a.status == b.status) & (a.key == b.key) & same_items(&a.items, &b.items)
 }

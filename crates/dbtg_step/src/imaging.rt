@@ -3,7 +3,6 @@ ghost use Rattle.std.specs.Prelude.{◌≡◌, ◌<◌, ◌^◌, ◌++◌, [], I
 ghost use Rattle.std.specs.List.{flat_map, range_with_len};
 ghost use Rattle.dbtg_schema.specs.Structure.{set_numbers};
 ghost use Rattle.dbtg_cells.specs.Numbers.{is_used, numbers_where};
-ghost use Rattle.dbtg_unit.specs.Hands.Hands.{cell_of};
 ghost use Rattle.dbtg_unit.specs.Hands.InHand.{numbers_of, users_of};
 ghost use Rattle.dbtg_step.specs.Machine.SequentialDatabase.{unit_at};
 ghost use Rattle.dbtg_step.specs.Inside.Imaging.{cell_in, found_cell, found_in, generations_in, image_from, list_of, lists_of, next_in, occurrence_at, owned_lists, record_of, records_of, stored_at, version_of, versions_of};
@@ -23,7 +22,8 @@ pub enum CellSource<'a> {
     Hands(&'a Held),
 }
 
-fn place_at(table: &[CellLocation], number: usize) -> Option<&CellLocation>
+/// The place with this number in the table.
+pub fn place_at(table: &[CellLocation], number: usize) -> Option<&CellLocation>
     ensures { option_copied result ≡ slice_get table.now number }
 {
     table.get(number)
@@ -45,15 +45,6 @@ pub fn unit_numbered(runners: &[UnitState], unit: u8) -> Option<&UnitState>
     runner_at(runners, unit as usize - 1)
 }
 
-fn held_cell<'a>(runners: &'a [UnitState], unit: u8, name: &CellName) -> Option<&'a Cell>
-    ensures { option_copied result ≡ option_and_then (λ r. cell_of name.now r.held.cells) (unit_at runners.now unit) }
-{
-    match unit_numbered(runners, unit) {
-        Some(runner) => runner.held.cell(name),
-        None => None,
-    }
-}
-
 fn cell_in<'a>(
     runners: &'a [UnitState],
     place: &'a CellLocation,
@@ -63,7 +54,10 @@ fn cell_in<'a>(
 {
     match place {
         CellLocation::Home(cell) => Some(cell),
-        CellLocation::HeldBy(unit) => held_cell(runners, *unit, name),
+        CellLocation::HeldBy(unit) => match unit_numbered(runners, *unit) {
+            Some(runner) => runner.held.cell(name),
+            None => None,
+        },
     }
 }
 

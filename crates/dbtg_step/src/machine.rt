@@ -19,7 +19,7 @@ ghost use Rattle.dbtg_step.specs.Core.Runs.{IsHandedOut};
 ghost use Rattle.dbtg_step.specs.Core.Turns.{AllBetween};
 ghost use Rattle.dbtg_step.specs.Core.Waiting.{TellsOfBlocked, blocking_of};
 
-use crate::imaging::{CellSource, read_image};
+use crate::imaging::{CellSource, read_image, unit_numbered};
 use crate::opening_parts::{opening_runners, opening_table};
 use crate::parts::Parts;
 use crate::quitting::quit;
@@ -121,18 +121,10 @@ impl Core {
         ensures { IfOk result (λ core. machine core ≡ record { schema = schema.now; capacity = capacity; opening = opening_of schema.now capacity (length scripts); state = machine_of schema.now capacity scripts }) }
     {
         let parts = opening_parts(alloc, schema, capacity, scripts)?;
-        Core::of(alloc, schema, capacity, parts)
-    }
-
-    // The core of these parts, with a schema of its own.
-    fn of(alloc: Global, schema: &Schema, capacity: u16, parts: Parts) -> Result<Core, AllocError>
-        requires { IsWell schema.now capacity parts }
-        ensures { IfOk result (λ core. machine core ≡ core_of schema.now capacity parts) }
-    {
-        let schema = schema.copy(alloc)?;
+        let own = schema.copy(alloc)?;
         Ok(Core {
             alloc,
-            schema,
+            schema: own,
             capacity,
             parts,
         })
@@ -246,30 +238,30 @@ impl Core {
         ensures machine { option_map (λ u. u.now) result ≡ option_map (λ s. s.unit) (unit_at (machine self.now).state.units number) }
         ensures sequential { option_map (λ u. u.now) result ≡ unit_at (state_now self.now).units number }
     {
-        if number == 0 || self.parts.runners.len() < number as usize {
-            return None;
+        match unit_numbered(self.parts.runners.as_slice(), number) {
+            Some(runner) => Some(&runner.unit),
+            None => None,
         }
-        Some(&self.parts.runners[number as usize - 1].unit)
     }
 
     /// Where the unit with this number is.
     pub fn position_at(&self, number: u8) -> Option<Position>
         ensures { result ≡ position_at (network (machine self.now).schema (machine self.now).capacity) (machine self.now).state number }
     {
-        if number == 0 || self.parts.runners.len() < number as usize {
-            return None;
+        match unit_numbered(self.parts.runners.as_slice(), number) {
+            Some(runner) => Some(position_of(runner)),
+            None => None,
         }
-        Some(position_of(&self.parts.runners[number as usize - 1]))
     }
 
     /// What the unit with this number took last, of the areas and of the cells that it holds in mid-statement.
     pub fn newest_at(&self, number: u8) -> Option<Newest>
         ensures { result ≡ newest_at (machine self.now) number }
     {
-        if number == 0 || self.parts.runners.len() < number as usize {
-            return None;
+        match unit_numbered(self.parts.runners.as_slice(), number) {
+            Some(runner) => Some(newest_of(runner)),
+            None => None,
         }
-        Some(newest_of(&self.parts.runners[number as usize - 1]))
     }
 }
 

@@ -142,9 +142,12 @@ pub fn holds_against(runner: &UnitState, exclusive: bool, area: AreaNo) -> bool
 fn any_holds_against(runners: &[UnitState], exclusive: bool, area: AreaNo) -> bool
     ensures { result ≡ list_any (holds_against exclusive area) runners.now }
 {
-    runners
-        .iter()
-        .any(|runner| holds_against(runner, exclusive, area))
+    for runner in runners {
+        if holds_against(runner, exclusive, area) {
+            return true;
+        }
+    }
+    false
 }
 
 /// Does any other unit hold the area in a conflicting way?

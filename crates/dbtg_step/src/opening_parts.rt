@@ -2,14 +2,14 @@
 ghost use Rattle.std.specs.Prelude.{◌≡◌, ◌≤◌, ◌++◌, ◌∷◌, [], None, Some, map, length, replicate, IfOk, OnOk};
 ghost use Rattle.std.specs.List.{flat_map, range_with_len};
 ghost use Rattle.dbtg_schema.specs.Structure.{set_numbers};
-ghost use Rattle.dbtg_cells.specs.Shown.{RingValue, SlotValue, UsageValue};
+ghost use Rattle.dbtg_cells.specs.Cells.{shown};
 ghost use Rattle.dbtg_cells.specs.CellNumbers.{cells_in_order, rings_of, slots_of};
 ghost use Rattle.dbtg_unit.specs.Database.State.Base.{opening};
 ghost use Rattle.dbtg_unit.specs.Database.State.Units.{opening_unit};
 ghost use Rattle.dbtg_unit.specs.Hands.Local.{AllAgree, names_of};
 ghost use Rattle.dbtg_step.specs.Core.Openings.{homes_of, homes_shown};
 ghost use Rattle.dbtg_step.specs.Core.Parts.{location_of};
-ghost use Rattle.dbtg_step.specs.Inside.Openings.{Adds, opening_runner, runners_from, unused_extent};
+ghost use Rattle.dbtg_step.specs.Inside.Openings.{homes_opened, opening_runner, opening_value, runners_from};
 
 use crate::parts::{CellLocation, UnitState};
 use dbtg_cells::{Cell, CellName, Extent, Layout, Owner, Owners, Ring, Slot, Usage, cell_count};
@@ -117,41 +117,6 @@ pub fn cell_names(
     Ok(names)
 }
 
-fn open_usages(alloc: Global, schema: &Schema, cells: &mut Vec<Cell>) -> Result<(), AllocError>
-    ensures { OnOk result (Adds cells.old.items (length schema.now.areas) (UsageValue []) cells.new.items) }
-{
-    for _area in 0..schema.areas().len() {
-        cells.push(Cell::Usage(Usage::new(alloc)))?;
-    }
-    Ok(())
-}
-
-fn open_extents(
-    alloc: Global,
-    schema: &Schema,
-    capacity: u16,
-    cells: &mut Vec<Cell>,
-) -> Result<(), AllocError>
-    ensures { OnOk result (Adds cells.old.items (length schema.now.types) (unused_extent capacity) cells.new.items) }
-{
-    for _rtype in 0..schema.types().len() {
-        let extent = Extent::new(alloc, capacity)?;
-        cells.push(Cell::Extent(extent))?;
-    }
-    Ok(())
-}
-
-// Appends this many rings without an occurrence.
-fn add_absent_rings(alloc: Global, count: u16, cells: &mut Vec<Cell>) -> Result<(), AllocError>
-    ensures { OnOk result (Adds cells.old.items count (RingValue None) cells.new.items) }
-{
-    cells.reserve(count as usize)?;
-    for _turn in 0..count {
-        cells.push_reserved(Cell::Ring(Ring::absent(alloc)));
-    }
-    Ok(())
-}
-
 // The ring of SYSTEM, whose occurrence is always there.
 fn system_ring(alloc: Global) -> Ring
     ensures { result.occurrence ≡ Some (record { owner = Owner.System; members = [] }) }
@@ -161,69 +126,39 @@ fn system_ring(alloc: Global) -> Ring
     ring
 }
 
-fn open_rings_of(
-    alloc: Global,
-    schema: &Schema,
-    capacity: u16,
-    set: SetNo,
-    cells: &mut Vec<Cell>,
-) -> Result<(), AllocError>
-    ensures { OnOk result (homes_shown cells.new.items ≡ homes_shown cells.old.items ++ homes_of schema.now capacity (rings_of schema.now capacity set)) }
+// The cell of this name, as the opening database has it.
+fn opening_cell(alloc: Global, capacity: u16, name: &CellName) -> Result<Cell, AllocError>
+    ensures { IfOk result (λ cell. shown cell ≡ opening_value capacity name.now) }
 {
-    if schema.is_system(set) {
-        cells.push(Cell::Ring(system_ring(alloc)))?;
-        return Ok(());
-    }
-    match schema.owner_type(set) {
-        Some(_) => add_absent_rings(alloc, capacity, cells),
-        None => Ok(()),
+    match name {
+        CellName::Usage(_) => Ok(Cell::Usage(Usage::new(alloc))),
+        CellName::Extent(_) => {
+            let extent = Extent::new(alloc, capacity)?;
+            Ok(Cell::Extent(extent))
+        }
+        CellName::Ring(_, None) => Ok(Cell::Ring(system_ring(alloc))),
+        CellName::Ring(_, Some(_)) => Ok(Cell::Ring(Ring::absent(alloc))),
+        CellName::Slot(_, _) => Ok(Cell::Slot(Slot::vacant())),
     }
 }
 
-fn open_rings(
-    alloc: Global,
-    schema: &Schema,
-    capacity: u16,
-    cells: &mut Vec<Cell>,
-) -> Result<(), AllocError>
-    ensures { OnOk result (homes_shown cells.new.items ≡ homes_shown cells.old.items ++ flat_map (λ s. homes_of schema.now capacity (rings_of schema.now capacity s)) (set_numbers schema.now)) }
+// The cells of these names, as the opening database has them.
+fn cells_of(alloc: Global, capacity: u16, names: &[CellName]) -> Result<Vec<Cell>, AllocError>
+    ensures { IfOk result (λ cells. homes_shown cells.items ≡ homes_opened capacity names.now) }
 {
-    for set in 0..schema.sets().len() as u8 {
-        open_rings_of(alloc, schema, capacity, SetNo::new(set), cells)?;
+    let mut cells = Vec::with_capacity(alloc, names.len())?;
+    for name in names {
+        cells.push(opening_cell(alloc, capacity, name)?)?;
     }
-    Ok(())
-}
-
-// Appends this many slots without a record.
-fn add_vacant_slots(count: u16, cells: &mut Vec<Cell>) -> Result<(), AllocError>
-    ensures { OnOk result (Adds cells.old.items count (SlotValue None) cells.new.items) }
-{
-    cells.reserve(count as usize)?;
-    for _turn in 0..count {
-        cells.push_reserved(Cell::Slot(Slot::vacant()));
-    }
-    Ok(())
-}
-
-fn open_slots(schema: &Schema, capacity: u16, cells: &mut Vec<Cell>) -> Result<(), AllocError>
-    ensures { OnOk result (homes_shown cells.new.items ≡ homes_shown cells.old.items ++ flat_map (λ t. homes_of schema.now capacity (slots_of capacity t)) (range_with_len 0 (length schema.now.types))) }
-{
-    for _rtype in 0..schema.types().len() {
-        add_vacant_slots(capacity, cells)?;
-    }
-    Ok(())
+    Ok(cells)
 }
 
 /// All cells of the schema at this capacity in the order of their numbers, as the opening database has them.
 pub fn opening_cells(alloc: Global, schema: &Schema, capacity: u16) -> Result<Vec<Cell>, AllocError>
     ensures { IfOk result (λ cells. homes_shown cells.items ≡ homes_of schema.now capacity (cells_in_order schema.now capacity)) }
 {
-    let mut cells = Vec::with_capacity(alloc, cell_count(schema, capacity))?;
-    open_usages(alloc, schema, &mut cells)?;
-    open_extents(alloc, schema, capacity, &mut cells)?;
-    open_rings(alloc, schema, capacity, &mut cells)?;
-    open_slots(schema, capacity, &mut cells)?;
-    Ok(cells)
+    let names = cell_names(alloc, schema, capacity)?;
+    cells_of(alloc, capacity, names.as_slice())
 }
 
 // A table that has these cells at home.
@@ -255,7 +190,7 @@ pub fn hold_opening_cells(alloc: Global, schema: &Schema, capacity: u16) -> Resu
     ensures cells { IfOk result (λ held. AllAgree schema.now capacity (opening schema.now) held.cells) }
 {
     let names = cell_names(alloc, schema, capacity)?;
-    let cells = opening_cells(alloc, schema, capacity)?;
+    let cells = cells_of(alloc, capacity, names.as_slice())?;
     let layout = Layout::of(schema, capacity);
     let guesses = Owners::none(schema.sets().len());
     Ok(Held::numbered(alloc, layout, names, cells, guesses))

@@ -13,7 +13,7 @@ pub enum CellLocation {
 }
 
 /// How far a unit is with its statement; `linked` counts the cells that are linked after the ticket.
-#[derive(Clone, Copy, Debug, PartialEq, Eq)]
+#[derive(Clone, Copy)]
 pub struct StatementProgress {
     pub exclusive: bool,
     pub turning_back: bool,

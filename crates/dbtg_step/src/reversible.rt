@@ -112,12 +112,4 @@ impl<'a> ReversibleDatabase<'a> {
     {
         &self.database
     }
-
-    /// The database as it is now; no more of its statements can be taken back.
-    pub fn into_database(self) -> WholeDatabase<'a>
-        ensures { result ≡ self.entry.making }
-    {
-        let Self { database, ways: _ } = self;
-        database
-    }
 }

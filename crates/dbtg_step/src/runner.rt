@@ -11,7 +11,7 @@ use dbtg_unit::{Statement, Unit};
 use std::alloc::{AllocError, Global};
 
 /// The phase of a unit.
-#[derive(Clone, Copy, Debug, PartialEq, Eq)]
+#[derive(Clone, Copy)]
 pub enum Phase {
     /// It has nothing to do.
     Over,
@@ -104,16 +104,6 @@ pub fn link(runner: &mut UnitState, progress: StatementProgress)
         ticket: progress.ticket,
         linked: progress.linked + 1,
     });
-}
-
-/// The statement has its ticket.
-pub fn pass(runner: &mut UnitState)
-    requires { runner.old.next < length runner.old.script }
-    ensures { runner.new ≡ record runner.old { next = runner.old.next + 1 } }
-{
-    // The number of statements fits a usize, and so does the next place.
-    let _count = runner.script.len();
-    runner.next += 1;
 }
 
 /// Once nothing is held the statement is over.

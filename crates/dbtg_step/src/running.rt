@@ -6,8 +6,7 @@ ghost use Rattle.dbtg_unit.specs.Database.Statements.Fits.{fits};
 ghost use Rattle.dbtg_step.specs.Core.CoreSteps.{after_move, result_of_move};
 ghost use Rattle.dbtg_step.specs.Machine.Headline.{RunIs};
 ghost use Rattle.dbtg_step.specs.Laws.{scripts_fit};
-ghost use Rattle.dbtg_step.specs.Core.Parts.{CoreParts, machine};
-ghost use Rattle.dbtg_step.specs.Core.Runs.{IsHandedOut};
+ghost use Rattle.dbtg_step.specs.Core.Parts.{machine};
 ghost use Rattle.dbtg_step.specs.Inside.Runs.{after_moves, results_of_moves};
 ghost use Rattle.dbtg_step.specs.Core.Serial.{SerialRunIs, in_turn_from};
 ghost use Rattle.dbtg_step.specs.Inside.Whole.{HasMadeAll};
@@ -51,14 +50,6 @@ fn make_each_move(
     Ok(results)
 }
 
-// Makes the moves in turn, and takes the core apart.
-fn run_from(alloc: Global, mut core: Core, moves: &[Move]) -> Result<Run, AllocError>
-    ensures { IfOk result (λ given. (last : CoreParts) × (machine last ≡ after_moves (machine core) moves.now) × IsHandedOut last (results_of_moves (machine core) moves.now) given) }
-{
-    let results = make_each_move(alloc, &mut core, moves)?;
-    core.into_run(results)
-}
-
 /// Makes the moves in turn, starting with the opening database, with a unit for each script. A step for which memory is refused ends it.
 pub fn run(
     alloc: Global,
@@ -72,8 +63,9 @@ pub fn run(
     requires fit { scripts_fit schema.now scripts ≡ true }
     ensures { IfOk result (λ given. RunIs schema.now capacity scripts moves.now given) }
 {
-    let core = Core::new(alloc, schema, capacity, scripts)?;
-    run_from(alloc, core, moves)
+    let mut core = Core::new(alloc, schema, capacity, scripts)?;
+    let results = make_each_move(alloc, &mut core, moves)?;
+    core.into_run(results)
 }
 
 // The statements of a unit's script, one after another.

@@ -158,29 +158,6 @@ pub fn next_need(
     }
 }
 
-// What a statement needs that no check without cells refuses, except a DELETE that has its areas.
-fn need_of_passed(
-    schema: &Schema,
-    capacity: u16,
-    unit: &Unit,
-    statement: &Statement,
-    held: &Held,
-) -> Option<Need>
-    requires fits { fits schema.now statement.now ≡ true }
-    requires of_schema { IsUnitOf schema.now unit.now }
-    requires within { IsWithin capacity unit.now }
-    requires passed { refused_at_once schema.now capacity unit.now statement.now ≡ None }
-    ensures { MatchOption result (HasItsAreas schema.now unit.now held.now statement.now) (λ n. (db : Database) → Agrees schema.now capacity db held.now unit.now → n ≡ need schema.now capacity db unit.now held.now statement.now) }
-{
-    match next_area(schema, unit, statement, held) {
-        Some(area) => Some(Need::Area(area)),
-        None => match delete_option(statement) {
-            Some(_) => None,
-            None => Some(dbtg_plan::need_with_areas(schema, capacity, unit, statement, held)),
-        },
-    }
-}
-
 /// What the statement needs next, asked from the beginning. It takes no memory, and so says nothing for a DELETE that has its areas.
 pub fn need_unless_delete(
     schema: &Schema,
@@ -196,7 +173,13 @@ pub fn need_unless_delete(
 {
     match refused_at_once(schema, capacity, unit, statement) {
         Some(_cause) => Some(Need::Ready),
-        None => need_of_passed(schema, capacity, unit, statement, held),
+        None => match next_area(schema, unit, statement, held) {
+            Some(area) => Some(Need::Area(area)),
+            None => match delete_option(statement) {
+                Some(_) => None,
+                None => Some(dbtg_plan::need_with_areas(schema, capacity, unit, statement, held)),
+            },
+        },
     }
 }
 

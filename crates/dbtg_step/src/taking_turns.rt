@@ -7,10 +7,9 @@ ghost use Rattle.dbtg_schema.specs.Sound.{IsSound};
 ghost use Rattle.dbtg_unit.specs.declared.moves.Move.{Move};
 ghost use Rattle.dbtg_step.specs.declared.parts.UnitState.{UnitState};
 ghost use Rattle.dbtg_step.specs.declared.taking_turns.Noted.{Noted};
-ghost use Rattle.dbtg_step.specs.Core.Runs.{IsHandedOut};
 ghost use Rattle.dbtg_step.specs.Laws.{scripts_fit};
 ghost use Rattle.dbtg_step.specs.Machine.Network.{network};
-ghost use Rattle.dbtg_step.specs.Core.Parts.{CoreParts, machine, unit_state_of};
+ghost use Rattle.dbtg_step.specs.Core.Parts.{machine, unit_state_of};
 ghost use Rattle.dbtg_step.specs.Inside.Parts.{core_of, state_of};
 ghost use Rattle.dbtg_step.specs.Inside.Events.{IsWell};
 ghost use Rattle.dbtg_step.specs.Core.Turns.{AllBetween, AreGiven, TurnedIs};
@@ -212,23 +211,6 @@ fn moves_of_turns(
     noted.moves(alloc)
 }
 
-// The run of a core, beside these moves.
-fn run_with_moves(alloc: Global, core: Core, moves: Option<Row<Move>>) -> Result<Turned, AllocError>
-    ensures { IfOk result (λ given. IsHandedOut core [] given.run × (given.moves ≡ moves)) }
-{
-    let run = core.into_run(Vec::new(alloc))?;
-    Ok(Turned { run, moves })
-}
-
-// The units of the core take these turns, and it is taken apart.
-fn run_from(alloc: Global, mut core: Core, turns: &[u8], limit: usize) -> Result<Turned, AllocError>
-    requires { AllBetween (network (machine core).schema (machine core).capacity) (machine core).state }
-    ensures { IfOk result (λ given. (last : CoreParts) × (moves : List Move) × TurnsLead (machine core) turns.now moves (machine last) × AreGiven limit moves given.moves × IsHandedOut last [] given.run) }
-{
-    let moves = moves_of_turns(alloc, &mut core, turns, limit)?;
-    run_with_moves(alloc, core, moves)
-}
-
 /// The units take these turns, starting with the opening database, with a unit for each script: a turn is the events of a unit up to
 /// the last of its next statement, and nothing if there is no such unit or its script is at its end. The moves that the turns
 /// stand for are given if they are no more than the limit; a run with more of them still goes on to its end. A step for
@@ -246,6 +228,8 @@ pub fn run_turns(
     requires fit { scripts_fit schema.now scripts ≡ true }
     ensures { IfOk result (λ given. TurnedIs schema.now capacity scripts turns.now limit given) }
 {
-    let core = Core::new(alloc, schema, capacity, scripts)?;
-    run_from(alloc, core, turns, limit)
+    let mut core = Core::new(alloc, schema, capacity, scripts)?;
+    let moves = moves_of_turns(alloc, &mut core, turns, limit)?;
+    let run = core.into_run(Vec::new(alloc))?;
+    Ok(Turned { run, moves })
 }

@@ -1,18 +1,12 @@
 //! What a unit waits for when its step is blocked, and which other units have it.
-ghost use Rattle.std.specs.Prelude.{◌≡◌, ◌≤◌, ◌<◌, ◌-◌, ℕ, IfOk, MatchOption, None, Some, if◌then◌else◌, length, slice_get, true};
+ghost use Rattle.std.specs.Prelude.{◌≡◌, ◌≤◌, ◌<◌, ◌-◌, ℕ, IfOk, None, Some, if◌then◌else◌, length, slice_get, true};
 ghost use Rattle.std.specs.List.{list_any};
 ghost use Rattle.dbtg_cells.specs.Names.{name_eq};
 ghost use Rattle.dbtg_schema.specs.Lists.{Lists};
 ghost use Rattle.dbtg_unit.specs.declared.held.Need.{Need};
-ghost use Rattle.dbtg_unit.specs.declared.statement.Statement.{Statement};
-ghost use Rattle.dbtg_unit.specs.Database.State.Base.{Database};
-ghost use Rattle.dbtg_unit.specs.Database.State.Belongs.{IsUnitOf, IsWithin};
-ghost use Rattle.dbtg_unit.specs.Database.Statements.Fits.{fits};
-ghost use Rattle.dbtg_unit.specs.Hands.Local.{Agrees};
 ghost use Rattle.dbtg_unit.specs.Hands.Needs.{need};
 ghost use Rattle.dbtg_step.specs.declared.parts.UnitState.{UnitState};
 ghost use Rattle.dbtg_step.specs.declared.waiting.Awaited.{Awaited};
-ghost use Rattle.dbtg_step.specs.Machine.NeedOrder.{HasItsAreas};
 ghost use Rattle.dbtg_step.specs.Core.Parts.{location_at};
 ghost use Rattle.dbtg_step.specs.Core.Waiting.{TellsOfBlocked, blocking_of};
 ghost use Rattle.dbtg_step.specs.Inside.Events.{IsWell, NeedsNext};
@@ -20,6 +14,7 @@ ghost use Rattle.dbtg_step.specs.Inside.Parts.{core_of};
 ghost use Rattle.dbtg_step.specs.Inside.Stands.{StandsNeeding};
 ghost use Rattle.dbtg_step.specs.Inside.Waiting.{IsAwaited, has_awaited, is_with_unit, numbers_from};
 
+use crate::imaging::place_at;
 use crate::needing::{holds_against, other_holds_against};
 use crate::parts::{CellLocation, Parts, StatementProgress, UnitState};
 use crate::runner::{Phase, phase_of, progress_of, statement_of};
@@ -30,7 +25,7 @@ use dbtg_unit::{Held, Need};
 use std::alloc::{AllocError, Global};
 
 /// What a unit waits for: an area that it wants to share, or wants exclusively, or a cell.
-#[derive(Clone, Copy, Debug, PartialEq, Eq)]
+#[derive(Clone, Copy)]
 pub enum Awaited {
     Area { area: AreaNo, exclusive: bool },
     Cell(CellName),
@@ -43,36 +38,18 @@ pub struct Blocking {
     pub holders: Row<usize>,
 }
 
-// What the unit's statement needs next, unless it is a DELETE that has its areas.
-fn need_of_runner(schema: &Schema, capacity: u16, runner: &UnitState) -> Option<Need>
-    requires left { runner.now.next < length runner.now.script }
-    requires fits { (x : Statement) → slice_get runner.now.script runner.now.next ≡ Some x → fits schema.now x ≡ true }
-    requires of_schema { IsUnitOf schema.now runner.now.unit }
-    requires within { IsWithin capacity runner.now.unit }
-    ensures { MatchOption result ((x : Statement) → slice_get runner.now.script runner.now.next ≡ Some x → HasItsAreas schema.now runner.now.unit runner.now.held x) (λ n. (x : Statement) (db : Database) → slice_get runner.now.script runner.now.next ≡ Some x → Agrees schema.now capacity db runner.now.held runner.now.unit → n ≡ need schema.now capacity db runner.now.unit runner.now.held x) }
-{
-    let statement = statement_of(runner);
-    need_unless_delete(schema, capacity, &runner.unit, statement, &runner.held)
-}
-
 #[tactic(auto, unfolding(crate::specs::Core::Parts::location_at))]
 fn is_with_unit(schema: &Schema, capacity: u16, table: &[CellLocation], name: &CellName) -> bool
     ensures { result ≡ is_with_unit (location_at schema.now capacity table.now name.now) }
 {
     match cell_number(schema, capacity, name) {
-        Some(number) => match table.get(number) {
+        Some(number) => match place_at(table, number) {
             Some(CellLocation::HeldBy(_)) => true,
             Some(CellLocation::Home(_)) => false,
             None => false,
         },
         None => false,
     }
-}
-
-fn awaited_cell(name: CellName) -> Awaited
-    ensures { result ≡ Awaited.Cell name }
-{
-    Awaited::Cell(name)
 }
 
 fn where_held(is_held: bool, awaited: Awaited) -> Option<Awaited>
@@ -118,7 +95,7 @@ fn awaits_cell(
     let _ = progress.linked;
     let _ = unit;
     let is_held = is_with_unit(schema, capacity, parts.table.as_slice(), &name);
-    where_held(is_held, awaited_cell(name))
+    where_held(is_held, Awaited::Cell(name))
 }
 
 // What the unit waits for, given what it needs next.
@@ -159,7 +136,9 @@ fn awaited_by_needing(
     requires stands { (r : UnitState) → slice_get parts.now.runners.items (unit - 1) ≡ Some r → StandsNeeding r progress }
     ensures { IsAwaited (core_of schema.now capacity parts.now) unit result }
 {
-    match need_of_runner(schema, capacity, &parts.runners[unit as usize - 1]) {
+    let runner = &parts.runners[unit as usize - 1];
+    let statement = statement_of(runner);
+    match need_unless_delete(schema, capacity, &runner.unit, statement, &runner.held) {
         Some(need) => awaited_by_need(schema, capacity, parts, unit, progress, need),
         None => None,
     }

@@ -12,7 +12,7 @@ use dbtg_schema::AreaNo;
 
 /// How far a unit is with its statement: how many areas and cells it holds, whether it turns back, whether it has its ticket, and how
 /// many of the cells are linked after the ticket.
-#[derive(Clone, Copy, Debug, PartialEq, Eq)]
+#[derive(Clone, Copy)]
 pub struct Progress {
     pub areas: usize,
     pub cells: usize,
@@ -22,7 +22,7 @@ pub struct Progress {
 }
 
 /// Where a unit is: how many statements of its script have their ticket, and in mid-statement its progress.
-#[derive(Clone, Copy, Debug, PartialEq, Eq)]
+#[derive(Clone, Copy)]
 pub struct Position {
     pub made: usize,
     pub progress: Option<Progress>,
@@ -53,7 +53,7 @@ pub fn position_of(runner: &UnitState) -> Position
 }
 
 /// What a unit took last, of the areas and of the cells that it holds in mid-statement.
-#[derive(Clone, Copy, Debug, PartialEq, Eq)]
+#[derive(Clone, Copy)]
 pub struct Newest {
     pub area: Option<AreaNo>,
     pub cell: Option<CellName>,

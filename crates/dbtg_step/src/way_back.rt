@@ -29,7 +29,12 @@ pub struct WayBack {
 fn is_among(names: &[CellName], name: &CellName) -> bool
     ensures { result ≡ is_named names.now name.now }
 {
-    names.iter().any(|other| name_eq(*name, *other))
+    for other in names {
+        if name_eq(*name, *other) {
+            return true;
+        }
+    }
+    false
 }
 
 fn add_name(names: &mut Vec<CellName>, name: &CellName) -> Result<(), AllocError>

@@ -322,14 +322,6 @@ impl<'a> WholeDatabase<'a> {
         ensures { IfOk result (λ given. IsMadeRun self.entry given) }
     {
         let image = self.image()?;
-        Ok(self.run_with(image))
-    }
-
-    // The database taken apart, beside its image.
-    fn run_with(self, image: Image) -> Run
-        requires { image ≡ image_of self.schema self.capacity (state_now self).database }
-        ensures { IsMadeRun self.entry result }
-    {
         let Self {
             alloc,
             schema: _,
@@ -338,12 +330,12 @@ impl<'a> WholeDatabase<'a> {
             units,
             history,
         } = self;
-        Run {
+        Ok(Run {
             results: Row::of(Vec::new(alloc)),
             image,
             history: Row::of(history),
             units: Row::of(units),
-        }
+        })
     }
 
     /// As `make`, with the way back over the statement.

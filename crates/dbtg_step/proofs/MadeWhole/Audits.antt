@@ -29,9 +29,6 @@ newest_of xs all x e =
     let back : length (xs ++ x ∷ []) - 1 ≡ length xs = omega (arith, l) in
     subst (λ ys. slice_get ys (length ys - 1) ≡ Some x) (sym e) (ap (slice_get (xs ++ x ∷ [])) back ∙ get_behind xs x [])
 
-pub not_none : {X : Type 0} (xs all : List X) (x : X) → all ≡ xs ++ x ∷ [] → 0 < length all
-not_none xs all x e = let l = length-append xs (x ∷ []) in let k = ap length e in omega (arith, l, k)
-
 -- a list around one of its entries
 pub around : {X : Type 0} (xs : List X) (k : ℕ) (x : X) → slice_get xs k ≡ Some x → (take k xs ++ x ∷ drop (suc k) xs ≡ xs) × (take (suc k) xs ≡ take k xs ++ x ∷ []) × (length (take k xs) ≡ k)
 around [] zero x e = absurd (cc (e))

@@ -157,10 +157,6 @@ module _ (m : Making) (ways : List WayBack) (way : WayBack) (has : HasWaysBack m
   pub same_stays : length left.history - length ways ≡ length m.history - length (ways ++ way ∷ [])
   same_stays = let few = has.few in let l = ways_counted in let s = shorter in omega (arith, few, l, s)
 
-  -- there is one statement less
-  pub one_less : length left.history < length m.history
-  one_less = let few = has.few in let l = ways_counted in let s = shorter in omega (arith, few, l, s)
-
   pub same_first : (count : ℕ) → count < length m.history → made_first count left ≡ made_first count m
   same_first count l = first_of_first m count (length m.history - 1) (omega (arith, l))
 
@@ -186,10 +182,6 @@ module _ (m : Making) (ways : List WayBack) (has : HasWaysBack m ways) where
     | inl more ↦ let last = there_is ways (length ways - 1) (omega arith) in absurd (none-some last.0 (sym none ∙ last.1))
     | inr few ↦ omega arith
   ]
-
--- before the first is made that can be taken back
-pub no_ways : (m : Making) → HasWaysBack m []
-no_ways m = record { few = omega arith; each = λ k way at. absurd (cc (at)) }
 
 -- what is held is a cell of the schema
 held_are_cells : (schema : Lists) (capacity : ℕ) (hands : Hands) → HoldsAll schema capacity hands → (names : List CellName) → list_all (holds hands.cells) names ≡ true → list_all (is_cell schema capacity) names ≡ true
@@ -334,9 +326,3 @@ module _ (schema : Lists) (capacity : ℕ) (hands : Hands) (units : List Unit) (
 
   pub whole_before : (new : Hands) → new ≡ back → IsWhole schema capacity new (slice_set units (entry.unit - 1) way.unit) rest
   whole_before new is = subst (λ (h : Hands). IsWhole schema capacity h (slice_set units (entry.unit - 1) way.unit) rest) (sym is) whole_back
-
-  pub made_before : making schema capacity (length (slice_set units (entry.unit - 1) way.unit)) rest ≡ made_first (length m.history - 1) m
-  made_before =
-      let l = entries_counted in
-      let short : rest ≡ take (length history - 1) history = sym (ap (take (length history - 1)) are ∙ take_at rest (entry ∷ []) (length history - 1) (omega (arith, l))) in
-      (λ i. making schema capacity (as_many i) (short i)) ∙ ap (λ (k : Making). made_first (length k.history - 1) k) view

@@ -63,11 +63,6 @@ module _ (schema : Lists) (capacity : ℕ) (unit : Unit) (x : Statement) (hands 
   lies_in_area Ready e = tt
 
 module _ (schema : Lists) (capacity : ℕ) (unit : Unit) (x : Statement) (hands : Hands) where
-  -- what is said of a statement is said of the same
-  pub needed_of : {E : Type 0} (r : Result Need E) (y : Statement) → x ≡ y → IfOk r (λ n. (d : Database) → Agrees schema capacity d hands unit → n ≡ need schema capacity d unit hands y) →
-      IfOk r (λ n. (d : Database) → Agrees schema capacity d hands unit → n ≡ need schema capacity d unit hands x)
-  needed_of r y e h = subst (λ z. IfOk r (λ n. (d : Database) → Agrees schema capacity d hands unit → n ≡ need schema capacity d unit hands z)) (sym e) h
-
   pub above_of : (n : Need) → ((d : Database) → Agrees schema capacity d hands unit → n ≡ need schema capacity d unit hands x) → (db : Database) → IsSound schema → AreCellsOf schema capacity db unit x hands → WasTakenInTurn schema capacity unit x hands → IsAboveHands x hands n
   above_of n is db sound m taken = is_above schema capacity unit x hands n is db sound m taken n refl
 

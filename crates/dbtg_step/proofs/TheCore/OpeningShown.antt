@@ -1,12 +1,12 @@
 -- The core before its first step is the machine before its scripts.
-use Rattle.std.proofs.Common.{ℕ, zero, suc, ◌≡◌, ◌+◌, Bool, true, false, cond, ◌&&◌, List, [], ◌∷◌, ◌++◌, Option, Some, None, map, length, replicate, slice_get, refl, sym, ap, ◌∙◌, subst, arith, append_assoc}
-use Rattle.std.specs.Prelude.{option_map, unwrap_or, if◌then◌else◌}
-use Rattle.std.specs.List.{flat_map, range_with_len, zip}
-use Rattle.std.proofs.lemmas.List.{length-map, length-replicate, map-append, replicate_more}
+use Rattle.std.proofs.Common.{ℕ, zero, suc, ◌≡◌, ◌+◌, Bool, true, false, ◌&&◌, List, [], ◌∷◌, Option, Some, None, map, length, replicate, slice_get, refl, sym, ap, ◌∙◌, subst, arith}
+use Rattle.std.specs.Prelude.{is_some, option_map, if◌then◌else◌}
+use Rattle.std.specs.List.{range_with_len, zip}
+use Rattle.std.proofs.lemmas.List.{length-map, length-replicate}
 use Rattle.std.proofs.lemmas.Option.{slice_get-map}
 use Rattle.dbtg_schema.specs.Lists.{Lists}
 use Rattle.dbtg_schema.specs.Sound.{IsSound}
-use Rattle.dbtg_schema.specs.Structure.{is_system, owner_type, set_numbers}
+use Rattle.dbtg_schema.specs.Structure.{is_system}
 use Rattle.dbtg_cells.specs.declared.cell.Cell.{Cell}
 use Rattle.dbtg_cells.specs.declared.extent.Number.{Number}
 use Rattle.dbtg_cells.specs.declared.key.Owner.{Owner}
@@ -14,17 +14,17 @@ use Rattle.dbtg_cells.specs.declared.key.Owner.TheVariants.{System, Rec}
 use Rattle.dbtg_cells.specs.declared.name.CellName.{CellName}
 use Rattle.dbtg_cells.specs.declared.name.CellName.TheVariants.{Usage, Extent, Ring, Slot}
 use Rattle.dbtg_cells.specs.Cells.{shown}
-use Rattle.dbtg_cells.specs.Shown.{CellValue, UsageValue, ExtentValue, RingValue, SlotValue}
+use Rattle.dbtg_cells.specs.Shown.{UsageValue, ExtentValue, RingValue, SlotValue}
 use Rattle.dbtg_cells.specs.Names.{name_below}
-use Rattle.dbtg_cells.proofs.Public.{stands_at}
-use Rattle.dbtg_cells.specs.CellNumbers.{cell_count, cell_number, cells_in_order, rings_of, slots_of}
+use Rattle.dbtg_cells.proofs.Public.{has_number, numbered_at, stands_at}
+use Rattle.dbtg_cells.specs.CellNumbers.{cell_count, cell_number, cells_in_order, is_cell}
 use Rattle.dbtg_unit.specs.declared.statement.Statement.{Statement}
 use Rattle.dbtg_unit.specs.Database.State.Base.{opening}
 use Rattle.dbtg_unit.specs.Database.State.Cells.{cell, number_of, ring_of}
 use Rattle.dbtg_unit.specs.Hands.Local.{AllAgree, names_of}
 use Rattle.dbtg_step.specs.declared.parts.Parts.{Parts}
 use Rattle.dbtg_step.specs.declared.parts.CellLocation.{CellLocation}
-use Rattle.dbtg_step.specs.Machine.Machine.{CellLocation as Location, Home}
+use Rattle.dbtg_step.specs.Machine.Machine.{Home}
 use Rattle.dbtg_step.specs.Machine.Network.{network}
 use Rattle.dbtg_step.specs.Machine.Headline.{machine_of, opening_of, units_from}
 use Rattle.dbtg_step.specs.Laws.{scripts_fit}
@@ -34,14 +34,13 @@ use Rattle.dbtg_step.specs.Inside.Parts.{core_of, state_of}
 use Rattle.dbtg_step.specs.Core.Parts.{found_location, location_at, location_in, location_of, note_of, state_from, unit_state_of}
 use Rattle.dbtg_step.specs.Inside.Events.{HaveRings, IsWell, RunnerFits, RunnersFit}
 use Rattle.dbtg_step.specs.Core.Openings.{homes_of, homes_shown}
-use Rattle.dbtg_step.specs.Inside.Openings.{Adds, opening_runner, runners_from, unused_extent}
+use Rattle.dbtg_step.specs.Inside.Openings.{homes_opened, opening_runner, opening_value, runners_from}
 use Rattle.dbtg_step.proofs.Runs.Headlines.{machine_is_opening}
 use Rattle.dbtg_step.proofs.Runs.EveryRun.{start_in_turn}
 use Rattle.dbtg_step.proofs.Runs.GuessesFit.{AllGuesses}
 use Rattle.dbtg_step.proofs.Network.NameOrder.{names_are_ordered}
 use Rattle.dbtg_step.proofs.Network.NeededCellsExist.{opening_has_rings}
 use Rattle.dbtg_step.proofs.Network.NetworkFacts.{needs_in_order, network_is_sequential}
-use Rattle.dbtg_step.proofs.TheCore.ImagesRead.{map_flat}
 use Rattle.dbtg_step.proofs.Runs.Opening.{opening_is_lawful}
 use Rattle.dbtg_unit.proofs.Public.{opening_is_legal}
 
@@ -50,11 +49,6 @@ use Rattle.dbtg_unit.proofs.Public.{opening_is_legal}
 none_numbers : (schema : Lists) (t a n : ℕ) → map (number_of schema (opening schema) t) (range_with_len a n) ≡ replicate n (record { last = 0; calc = None })
 none_numbers schema t a zero = refl
 none_numbers schema t a (suc n) = ap (λ (xs : List Number). record { last = 0; calc = None } ∷ xs) (none_numbers schema t (a + 1) n)
-
--- one more cell that shows the same
-pub one_more_same : (v : CellValue) (n : ℕ) (x : Cell) → shown x ≡ v → (before old new : List Cell) → Adds before n v old → new ≡ old ++ x ∷ [] → Adds before (n + 1) v new
-one_more_same v n x is before old new e g =
-    ap homes_shown g ∙ map-append (λ y. Home (shown y)) old (x ∷ []) ∙ (λ i. e i ++ Home (is i) ∷ []) ∙ append_assoc (homes_shown before) (replicate n (Home v)) (Home v ∷ []) ∙ ap (λ ys. homes_shown before ++ ys) (replicate_more n (Home v))
 
 module _ (schema : Lists) (capacity : ℕ) where
   usage_opens : (a : ℕ) → UsageValue [] ≡ cell schema capacity (opening schema) (Usage a)
@@ -90,46 +84,23 @@ module _ (schema : Lists) (capacity : ℕ) where
 
   -- THE CELLS
 
-  all_same : (f : ℕ → CellName) (v : CellValue) → ((n : ℕ) → v ≡ cell schema capacity (opening schema) (f n)) → (a n : ℕ) → replicate n (Home v) ≡ homes_of schema capacity (map f (range_with_len a n))
-  all_same f v is a zero = refl
-  all_same f v is a (suc n) = λ i. Home (is a i) ∷ all_same f v is (a + 1) n i
+  opens : (c : CellName) → is_cell schema capacity c ≡ true → opening_value capacity c ≡ cell schema capacity (opening schema) c
+  opens (Usage a) h = usage_opens a
+  opens (Extent t) h = extent_opens t
+  opens (Ring s None) h = system_is_open s h
+  opens (Ring s (Some p)) h = owned_opens s p
+  opens (Slot t n) h = slot_opens t n
 
-  usages_open : (n : ℕ) → replicate n (Home (UsageValue [])) ≡ homes_of schema capacity (map Usage (range_with_len 0 n))
-  usages_open n = all_same Usage (UsageValue []) usage_opens 0 n
+  each_opens : (names : List CellName) → ((n : ℕ) (c : CellName) → slice_get names n ≡ Some c → is_cell schema capacity c ≡ true) → homes_opened capacity names ≡ homes_of schema capacity names
+  each_opens [] h = refl
+  each_opens (c ∷ cs) h =
+      let here = opens c (h 0 c refl) in
+      let rest = each_opens cs (λ n d e. h (suc n) d e) in
+      λ i. Home (here i) ∷ rest i
 
-  extents_open : (n : ℕ) → replicate n (Home (unused_extent capacity)) ≡ homes_of schema capacity (map Extent (range_with_len 0 n))
-  extents_open n = all_same Extent (unused_extent capacity) extent_opens 0 n
-
-  pub slots_open : (t : ℕ) → replicate capacity (Home (SlotValue None)) ≡ homes_of schema capacity (slots_of capacity t)
-  slots_open t = all_same (Slot t) (SlotValue None) (slot_opens t) 1 capacity
-
-  pub system_ring_opens : (s : ℕ) → is_system schema s ≡ true → Home (RingValue (Some (record { owner = System; members = [] }))) ∷ [] ≡ homes_of schema capacity (rings_of schema capacity s)
-  system_ring_opens s e =
-      ap (λ v. Home v ∷ []) (system_is_open s e)
-      ∙ sym (ap (λ b. homes_of schema capacity (cond b (Ring s None ∷ []) (unwrap_or (option_map (λ t. map (λ n. Ring s (Some (t, n))) (range_with_len 1 capacity)) (owner_type schema s)) []))) e)
-
-  pub owned_rings_open : (s t : ℕ) → is_system schema s ≡ false → owner_type schema s ≡ Some t → replicate capacity (Home (RingValue None)) ≡ homes_of schema capacity (rings_of schema capacity s)
-  owned_rings_open s t e o =
-      all_same (λ n. Ring s (Some (t, n))) (RingValue None) (λ n. owned_opens s (t, n)) 1 capacity
-      ∙ sym (λ i. homes_of schema capacity (cond (e i) (Ring s None ∷ []) (unwrap_or (option_map (λ t. map (λ n. Ring s (Some (t, n))) (range_with_len 1 capacity)) (o i)) [])))
-
-  -- the four kinds of cells one after another
-  pub all_homes : (none usages extents rings slots : List Cell) → none ≡ [] → Adds none (length schema.areas) (UsageValue []) usages → Adds usages (length schema.types) (unused_extent capacity) extents
-      → homes_shown rings ≡ homes_shown extents ++ flat_map (λ s. homes_of schema capacity (rings_of schema capacity s)) (set_numbers schema)
-      → homes_shown slots ≡ homes_shown rings ++ flat_map (λ t. homes_of schema capacity (slots_of capacity t)) (range_with_len 0 (length schema.types))
-      → homes_shown slots ≡ homes_of schema capacity (cells_in_order schema capacity)
-  all_homes none usages extents rings slots is a b c d =
-      let h : CellName → Location CellValue = λ n. Home (cell schema capacity (opening schema) n) in
-      let u : List CellName = map Usage (range_with_len 0 (length schema.areas)) in
-      let e : List CellName = map Extent (range_with_len 0 (length schema.types)) in
-      let r : List CellName = flat_map (rings_of schema capacity) (set_numbers schema) in
-      let s : List CellName = flat_map (slots_of capacity) (range_with_len 0 (length schema.types)) in
-      let first : homes_shown usages ≡ map h u = a ∙ (λ i. homes_shown (is i) ++ usages_open (length schema.areas) i) in
-      let second : homes_shown extents ≡ map h u ++ map h e = b ∙ (λ i. first i ++ extents_open (length schema.types) i) in
-      let third : homes_shown rings ≡ (map h u ++ map h e) ++ map h r = c ∙ (λ i. second i ++ sym (map_flat h (rings_of schema capacity) (set_numbers schema)) i) in
-      d ∙ (λ i. third i ++ sym (map_flat h (slots_of capacity) (range_with_len 0 (length schema.types))) i)
-      ∙ append_assoc (map h u ++ map h e) (map h r) (map h s) ∙ append_assoc (map h u) (map h e) (map h r ++ map h s)
-      ∙ sym (map-append h u (e ++ (r ++ s)) ∙ ap (λ ys. map h u ++ ys) (map-append h e (r ++ s) ∙ ap (λ ys. map h e ++ ys) (map-append h r s)))
+  -- all cells, in the order of their numbers
+  pub all_open : (names : List CellName) → names ≡ cells_in_order schema capacity → homes_opened capacity names ≡ homes_of schema capacity names
+  all_open names e = each_opens names (λ n c at. sym (has_number schema capacity c) ∙ ap is_some (numbered_at schema capacity n c (subst (λ ns. slice_get ns n ≡ Some c) e at)))
 
   -- cells beside their names, as the opening database has them
   pub agree_beside : (names : List CellName) (cells : List Cell) → homes_shown cells ≡ homes_of schema capacity names → AllAgree schema capacity (opening schema) (zip names cells)
@@ -147,11 +118,6 @@ module _ (schema : Lists) (capacity : ℕ) where
   names_beside [] cells h = refl
   names_beside (n ∷ names) [] h = absurd (omega arith)
   names_beside (n ∷ names) (x ∷ cells) h = ap (λ ns. n ∷ ns) (names_beside names cells (omega arith))
-
-  -- the four kinds of names one after another
-  pub all_names : (usages extents rings slots a b c d : List CellName) → a ≡ [] ++ usages → b ≡ a ++ extents → c ≡ b ++ rings → d ≡ c ++ slots → d ≡ usages ++ (extents ++ (rings ++ slots))
-  all_names usages extents rings slots a b c d e f g h =
-      h ∙ (λ i. (g ∙ (λ j. (f ∙ (λ k. e k ++ extents)) j ++ rings)) i ++ slots) ∙ append_assoc (usages ++ extents) rings slots ∙ append_assoc usages extents (rings ++ slots)
 
   -- THE OPENING STATE
 

@@ -1,21 +1,26 @@
 -- What a core keeps when it is opened.
-use Rattle.std.specs.Prelude.{◌≡◌, ℕ, suc, List, [], ◌∷◌, ◌++◌, None, length, replicate}
+use Rattle.std.specs.Prelude.{ℕ, suc, List, [], ◌∷◌, None, Some, length, map, replicate}
 use Rattle.dbtg_schema.specs.Lists.{Lists}
-use Rattle.dbtg_cells.specs.declared.cell.Cell.{Cell}
-use Rattle.dbtg_cells.specs.Shown.{CellValue, ExtentValue}
+use Rattle.dbtg_cells.specs.declared.key.Owner.TheVariants.{System}
+use Rattle.dbtg_cells.specs.declared.name.CellName.{CellName}
+use Rattle.dbtg_cells.specs.declared.name.CellName.TheVariants.{Usage, Extent, Ring, Slot}
+use Rattle.dbtg_cells.specs.Shown.{CellValue, UsageValue, ExtentValue, RingValue, SlotValue}
 use Rattle.dbtg_unit.specs.declared.statement.Statement.{Statement}
 use Rattle.dbtg_unit.specs.Database.State.Units.{opening_unit}
 use Rattle.dbtg_step.specs.declared.parts.UnitState.{UnitState}
-use Rattle.dbtg_step.specs.Machine.Machine.{Home}
-use Rattle.dbtg_step.specs.Core.Openings.{homes_shown}
+use Rattle.dbtg_step.specs.Machine.Machine.{CellLocation, Home}
 
--- n more cells, each of which shows v
-abbrev pub Adds : List Cell → ℕ → CellValue → List Cell → Type 0
-Adds old n v new = homes_shown new ≡ homes_shown old ++ replicate n (Home v)
+-- what the cell of a name shows in the opening database
+abbrev pub opening_value : ℕ → CellName → CellValue
+opening_value capacity (Usage a) = UsageValue []
+opening_value capacity (Extent t) = ExtentValue (replicate capacity (record { last = 0; calc = None }))
+opening_value capacity (Ring s None) = RingValue (Some (record { owner = System; members = [] }))
+opening_value capacity (Ring s (Some p)) = RingValue None
+opening_value capacity (Slot t n) = SlotValue None
 
--- an extent none of whose numbers is used
-abbrev pub unused_extent : ℕ → CellValue
-unused_extent capacity = ExtentValue (replicate capacity (record { last = 0; calc = None }))
+-- the cells of these names at home
+abbrev pub homes_opened : ℕ → List CellName → List (CellLocation CellValue)
+homes_opened capacity = map (λ c. Home (opening_value capacity c))
 
 -- a unit that stands before its script
 abbrev pub opening_runner : Lists → ℕ → List Statement → UnitState

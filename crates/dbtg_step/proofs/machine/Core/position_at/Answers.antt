@@ -1,31 +1,27 @@
-use Rattle.std.proofs.Common.{◌≡◌, Some, None, Option, slice_get, length, refl, sym, ap, subst, inl, inr, ◌∙◌, ◌-◌, arith}
+use Rattle.std.proofs.Common.{◌≡◌, Some, None, Option, ap, subst, ◌∙◌}
 use Rattle.std.specs.Prelude.{option_map}
-use Rattle.std.proofs.lemmas.Option.{slice_get_read}
 use Rattle.dbtg_step.specs.declared.parts.UnitState.{UnitState}
 use Rattle.dbtg_step.specs.declared.watching.Position.{Position}
 use Rattle.dbtg_step.specs.Machine.SequentialDatabase.{unit_at}
 use Rattle.dbtg_step.specs.Machine.Network.{network}
 use Rattle.dbtg_step.specs.Core.Parts.{CoreParts, machine, unit_state_of}
 use Rattle.dbtg_step.specs.Core.Positions.{position_at, position_of}
-use Rattle.dbtg_step.proofs.TheCore.EventsShown.{no_unit, unit_there}
 use Rattle.dbtg_step.proofs.TheCore.PositionsShown.{read_of_unit}
 use Rattle.dbtg_step.proofs.machine.Core.position_at.Goals as goal
-use Rattle.dbtg_step.proofs.machine.Core.position_at.Goals.{then-number-eq0-via-then-number-eq0, then-number-eq0-via-else-number-eq0+then-len-number}
 
-pub returns-then-number-eq0 : goal.returns-then-number-eq0
-returns-then-number-eq0 c =
+pub returns-in-Some : goal.returns-in-Some
+returns-in-Some c =
     let inside = c.self.inside in
     let items = inside.parts.runners.items in
-    let none : unit_at items c.args.number ≡ None = no_unit items c.args.number (elim c.then-number-eq0.branch [ then-number-eq0-via-then-number-eq0 w ↦ inl (omega arith) | then-number-eq0-via-else-number-eq0+then-len-number w ↦ inr (omega (arith, w.if-len-number.true, w.len.ensures)) ]) in
-    subst (λ (v : CoreParts). ◌≡◌ {A = Option Position} None (position_at (network v.schema v.capacity) (machine v).state c.args.number)) c.self.view_is
-    (sym (ap (option_map (λ (x : UnitState). position_of (network inside.schema inside.capacity) (unit_state_of inside.schema inside.capacity x))) none) ∙ read_of_unit inside.schema inside.capacity (position_of (network inside.schema inside.capacity)) c.args.number inside.parts.table.items inside.parts.history.items items)
-
-pub returns : goal.returns
-returns c =
-    let inside = c.self.inside in
-    let items = inside.parts.runners.items in
-    let at : slice_get items (c.args.number - 1) ≡ Some c.index.result.now = slice_get_read items (length items) (c.args.number - 1) c.index.result.now refl (omega arith) c.index.ensures in
-    let some : unit_at items c.args.number ≡ Some c.index.result.now = unit_there items c.args.number c.index.result.now (omega arith) at in
-    let here : c.position_of.result ≡ position_of (network inside.schema inside.capacity) (unit_state_of inside.schema inside.capacity c.index.result.now) = c.position_of.ensures inside.schema inside.capacity in
+    let there : Some c.in-Some.runner.now ≡ unit_at items c.args.number = c.in-Some.ensures ∙ ap (λ xs. unit_at xs c.args.number) c.as_slice.ensures.value in
+    let here = c.position_of.ensures inside.schema inside.capacity in
     subst (λ (v : CoreParts). ◌≡◌ {A = Option Position} (Some c.position_of.result) (position_at (network v.schema v.capacity) (machine v).state c.args.number)) c.self.view_is
-    (ap Some here ∙ sym (ap (option_map (λ (x : UnitState). position_of (network inside.schema inside.capacity) (unit_state_of inside.schema inside.capacity x))) some) ∙ read_of_unit inside.schema inside.capacity (position_of (network inside.schema inside.capacity)) c.args.number inside.parts.table.items inside.parts.history.items items)
+    (ap Some here ∙ ap (option_map (λ (x : UnitState). position_of (network inside.schema inside.capacity) (unit_state_of inside.schema inside.capacity x))) there ∙ read_of_unit inside.schema inside.capacity (position_of (network inside.schema inside.capacity)) c.args.number inside.parts.table.items inside.parts.history.items items)
+
+pub returns-in-None : goal.returns-in-None
+returns-in-None c =
+    let inside = c.self.inside in
+    let items = inside.parts.runners.items in
+    let none : None ≡ unit_at items c.args.number = c.in-None.ensures ∙ ap (λ xs. unit_at xs c.args.number) c.as_slice.ensures.value in
+    subst (λ (v : CoreParts). ◌≡◌ {A = Option Position} None (position_at (network v.schema v.capacity) (machine v).state c.args.number)) c.self.view_is
+    (ap (option_map (λ (x : UnitState). position_of (network inside.schema inside.capacity) (unit_state_of inside.schema inside.capacity x))) none ∙ read_of_unit inside.schema inside.capacity (position_of (network inside.schema inside.capacity)) c.args.number inside.parts.table.items inside.parts.history.items items)
