@@ -131,7 +131,7 @@ fn moves_and_their_faults(rt: HostRuntime) {
 
 #[test]
 fn moves_are_those_of_the_words(rt: HostRuntime) {
-    let moves = read_moves(rt.alloc(), b"2*2 Q1 99").expect(&rt, "moves");
+    let moves = read_moves(rt.alloc(), b"2*2 Q1 99").ok().expect(&rt, "moves");
     assert!(rt;
         matches!(
             moves.as_slice(),
@@ -151,7 +151,7 @@ pub(super) fn turns_verdict(rt: &HostRuntime, text: &[u8]) -> (u8, u64) {
 
 #[test]
 fn turns_and_their_faults(rt: HostRuntime) {
-    let units = read_turns(rt.alloc(), b"1 1 2\t1*3\r\n2").expect(&rt, "turns");
+    let units = read_turns(rt.alloc(), b"1 1 2\t1*3\r\n2").ok().expect(&rt, "turns");
     assert_eq!(rt; units.as_slice(), [1, 1, 2, 1, 1, 1, 2].as_slice());
     assert_eq!(rt; turns_verdict(&rt, b"9 Q9 1*0"), (1, 2));
     assert_eq!(rt; turns_verdict(&rt, b"9 1*0 Q9"), (1, 2));
