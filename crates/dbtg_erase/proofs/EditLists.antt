@@ -15,7 +15,7 @@ use Rattle.dbtg_unit.specs.declared.edit.Edit.TheVariants.{Vacate}
 use Rattle.dbtg_unit.specs.declared.erased.Erased.{Erased}
 use Rattle.dbtg_unit.specs.Hands.EditsOf.{close_ring, closing_edits, edits_of_erased, leave_number, leaving_edits, slot_edit}
 use Rattle.dbtg_unit.specs.Hands.Erasing.{own_rings}
-use Rattle.dbtg_unit.proofs.Public.{numbers_end, numbers_next}
+use Rattle.dbtg_schema.proofs.Public.{numbers_end, numbers_next}
 use Rattle.dbtg_erase.specs.Inside.ErasePlan.{going_edits}
 
 pub edits_append : (edits xs ys : List CellEdit) → (edits ++ xs) ++ ys ≡ edits ++ (xs ++ ys)

@@ -11,7 +11,8 @@ use Rattle.dbtg_cells.specs.declared.key.DbKey.{DbKey}
 use Rattle.dbtg_cells.specs.declared.name.CellName.{CellName}
 use Rattle.dbtg_unit.specs.Hands.Hands.{Hands, cell_of}
 use Rattle.dbtg_unit.specs.Hands.Local.{holds}
-use Rattle.dbtg_unit.proofs.Public.{holds_there, numbers_end, numbers_next}
+use Rattle.dbtg_schema.proofs.Public.{numbers_end, numbers_next}
+use Rattle.dbtg_unit.proofs.Public.{holds_there}
 use Rattle.dbtg_erase.proofs.Bringing.{find_second}
 use Rattle.dbtg_erase.proofs.KeyLists.{append_nil}
 

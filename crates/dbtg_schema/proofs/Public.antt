@@ -60,6 +60,12 @@ pub use Rattle.dbtg_schema.proofs.Indexes.LeastClosed.{least_closed_is_least}
 pub use Rattle.dbtg_schema.proofs.Indexes.LeastClosed.{length_filter}
 -- the first place in a list with one more at its end
 pub use Rattle.dbtg_schema.proofs.Indexes.Positions.{position_more}
+-- NUMBERS FROM 0 UP
+
+-- past the end, no number is left
+pub use Rattle.dbtg_schema.proofs.Indexes.Numbers.{numbers_end}
+-- among the numbers from i on, i comes first and the others follow
+pub use Rattle.dbtg_schema.proofs.Indexes.Numbers.{numbers_next}
 -- OPTIONS
 
 -- it is not something: it is nothing
@@ -72,7 +78,5 @@ pub use Rattle.dbtg_schema.proofs.Options.{some_from_none}
 pub use Rattle.dbtg_schema.proofs.Options.{some_is}
 -- NAMES AND PLACES
 
--- the first place in a list with one more at its end
-pub use Rattle.dbtg_schema.proofs.Indexes.Positions.{position_more}
 -- what is found among entries with one more after them
 pub use Rattle.dbtg_schema.proofs.Indexes.NameIndexes.{lookup_more}

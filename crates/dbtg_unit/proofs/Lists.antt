@@ -5,7 +5,6 @@ pub mod Agreeing
 pub mod Ascending
 pub mod BitsBelow16
 pub mod FirstCauses
-pub mod FromZeroUp
 pub mod LentElement
 pub mod Listing
 pub mod Membership

@@ -20,10 +20,6 @@ pub use Rattle.dbtg_unit.proofs.Lists.Agreeing.{none_pass}
 pub use Rattle.dbtg_unit.proofs.Lists.Ascending.{ascending_join}
 -- a range of numbers is ascending
 pub use Rattle.dbtg_unit.proofs.Lists.Ascending.{ascending_range}
--- past the end, no number is left
-pub use Rattle.dbtg_unit.proofs.Lists.FromZeroUp.{numbers_end}
--- among the numbers from i on, i comes first and the others follow
-pub use Rattle.dbtg_unit.proofs.Lists.FromZeroUp.{numbers_next}
 -- the first number of a range that is kept and passes is this one, where none before it is
 pub use Rattle.dbtg_unit.proofs.Lists.NoAnswer.{find_here}
 -- the first number of a range that is kept and passes is none that is not kept, or does not pass

@@ -8,7 +8,8 @@ use Rattle.std.proofs.lemmas.Bool.{false≢true}
 use Rattle.std.proofs.lemmas.List.{reverse-append}
 use Rattle.std.proofs.lemmas.List.Elements.{filter-append}
 use Rattle.dbtg_schema.specs.Lookups.{final, first}
-use Rattle.dbtg_unit.proofs.Public.{numbers_end, numbers_next, slice_get_front}
+use Rattle.dbtg_schema.proofs.Public.{numbers_end, numbers_next}
+use Rattle.dbtg_unit.proofs.Public.{slice_get_front}
 
 -- those from number i on
 abbrev pub lists_from : {Y : Type 0} → (ℕ → List Y) → ℕ → ℕ → List Y

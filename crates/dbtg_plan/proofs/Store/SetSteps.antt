@@ -5,7 +5,7 @@ use Rattle.std.specs.List.{find, flat_map, list_any, range_with_len}
 use Rattle.std.specs.Option.{option_or}
 use Rattle.std.proofs.lemmas.List.Folds.{find-append}
 use Rattle.dbtg_schema.specs.Lookups.{first_cause}
-use Rattle.dbtg_unit.proofs.Public.{numbers_end, numbers_next}
+use Rattle.dbtg_schema.proofs.Public.{numbers_end, numbers_next}
 
 -- the first one that passes, of what is made of each that is kept
 found_at : {X : Type 0} (test : X → Bool) (f : ℕ → List X) (p : ℕ → Bool) (n i : ℕ) → i < n

@@ -3,7 +3,7 @@ use Rattle.std.proofs.Common.{◌≡◌, sym, ◌∙◌, ap, ℕ, ◌+◌, ◌<�
 use Rattle.std.specs.Prelude.{filter}
 use Rattle.std.specs.List.{find, list_any, range_with_len}
 use Rattle.std.proofs.lemmas.Bool.{cases_Bool, and_parts}
-use Rattle.dbtg_unit.proofs.Lists.FromZeroUp.{numbers_next}
+use Rattle.dbtg_schema.proofs.Public.{numbers_next}
 
 skipped_one : (p keep : ℕ → Bool) (i : ℕ) (rest : List ℕ) → (keep i && p i) ≡ false → list_any p (filter keep (i ∷ rest)) ≡ list_any p (filter keep rest)
 skipped_one p keep i rest off =

@@ -3,7 +3,7 @@ use Rattle.std.specs.List.{flat_map}
 use Rattle.std.proofs.lemmas.Grind.{common_steps}
 use Rattle.dbtg_unit.specs.Hands.InHand.{owner_in}
 use Rattle.dbtg_unit.specs.Hands.Needs.{ring_names}
-use Rattle.dbtg_unit.proofs.Public.{numbers_next}
+use Rattle.dbtg_schema.proofs.Public.{numbers_next}
 use Rattle.dbtg_erase.proofs.FirstNames.{names_append}
 use Rattle.dbtg_erase.proofs.EditLists.{edits_of_end}
 use Rattle.dbtg_erase.proofs.around.push_each_ring.Goals as goal

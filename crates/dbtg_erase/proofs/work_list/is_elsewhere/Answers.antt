@@ -1,5 +1,5 @@
 use Rattle.std.proofs.Common.{arith}
-use Rattle.dbtg_unit.proofs.Public.{numbers_next, numbers_end}
+use Rattle.dbtg_schema.proofs.Public.{numbers_next, numbers_end}
 use Rattle.dbtg_erase.proofs.work_list.is_elsewhere.Goals as goal
 
 pub loop-s-preserved : goal.loop-s-preserved

@@ -1,7 +1,7 @@
 use Rattle.std.proofs.Common.{◌≡◌, sym, ◌∙◌, ap, ℕ, List, length, arith}
 use Rattle.std.specs.Prelude.{is_some}
 use Rattle.std.specs.List.{flat_map}
-use Rattle.dbtg_unit.proofs.Public.{numbers_end}
+use Rattle.dbtg_schema.proofs.Public.{numbers_end}
 use Rattle.dbtg_unit.specs.Hands.Needs.{first_missing, store_rings_of}
 use Rattle.dbtg_plan.proofs.Store.StoreSteps.{missing_found, missing_passed}
 use Rattle.dbtg_plan.proofs.storing.missing_in_any_set.Goals as goal

@@ -1,5 +1,5 @@
 use Rattle.std.proofs.Common.{arith}
-use Rattle.dbtg_unit.proofs.Lists.FromZeroUp.{numbers_next, numbers_end}
+use Rattle.dbtg_schema.proofs.Public.{numbers_next, numbers_end}
 use Rattle.dbtg_unit.proofs.areas.ask_of_marked.Goals as goal
 
 pub loop-a-preserved : goal.loop-a-preserved

@@ -1,5 +1,5 @@
 use Rattle.std.proofs.Common.{arith}
-use Rattle.dbtg_unit.proofs.Public.{numbers_next, numbers_end}
+use Rattle.dbtg_schema.proofs.Public.{numbers_next, numbers_end}
 use Rattle.dbtg_plan.proofs.finding.area.missing_extent.Goals as goal
 
 pub loop-t-preserved : goal.loop-t-preserved
