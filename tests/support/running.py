@@ -37,10 +37,10 @@ def ran(words, nice=0, name=None, hear=lambda line: None):
 
 
 def run_tests(program=None, nice=0):
-    """Runs the tests of tests/tests.list that are run with the program, two at a time; without its path the others, one by one."""
+    """Runs the tests of tests/tests.list that are run with the program, one on each processor; without its path the others, one by one."""
     lines = [line.split() for line in kit.text_of(f"{kit.ROOT}/tests/tests.list").splitlines() if line and not line.startswith("#")]
     tests = [[program if it == "PROGRAM" else it for it in words] for words in lines if ("PROGRAM" in words) == bool(program)]
-    with ThreadPoolExecutor(2 if program else 1) as pool:
+    with ThreadPoolExecutor(len(os.sched_getaffinity(0)) if program else 1) as pool:
         return list(pool.map(lambda it: ran(it, nice), tests))
 
 
