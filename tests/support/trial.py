@@ -78,15 +78,13 @@ class Trial:
                 lines = [line for it in batch for at, line in it.left_out if at == file]
                 Path(copy, "proofs", file).write_text(without(kit.text_of(f"{copy}/proofs/{file}"), lines), "utf-8")
             asked = [word for it in batch for path in it.paths for word in ("--only", path)]
-            words = [kit.rattle(), "check", *kit.check_words(self.crate, self.libraries, "stand_in"), *asked, *self.haste(batch)]
+            # Half of its attempts are enough for the search at named edits: more than its failure shows that their goals are false.
+            half = ["--margin"] * all(it.name in self.named for it in batch)
+            words = [kit.rattle(), "check", *kit.check_words(self.crate, self.libraries, "stand_in"), *asked, *half]
             with self.room:
                 ran = subprocess.run(words, cwd=copy, stdin=subprocess.DEVNULL, stdout=subprocess.PIPE, stderr=subprocess.STDOUT, text=True, errors="replace", check=False)
         self.log.write(f"=== {self.crate}: {' '.join(it.name for it in batch)}\n{ran.stdout}\n")
         return Said(ran.stdout)
-
-    def haste(self, batch):
-        """Half the attempts of a search are enough for named edits: what they break is shown false by more than a search that fails."""
-        return ["--margin"] if all(it.name in self.named for it in batch) else []
 
     def count(self, edit, verdict, words, is_shown_false):
         """Counts an edit. One that is named has to be shown false: by values that the prover finds, or by the test that it names."""
