@@ -1,9 +1,11 @@
-use Rattle.std.proofs.Common.{sym, ◌∙◌, ap, subst}
+use Rattle.std.proofs.Common.{◌≡◌, None, sym, ◌∙◌, ap, subst}
 use Rattle.std.specs.Prelude.{IfOk}
 use Rattle.dbtg_unit.specs.declared.statement.Statement.{Statement}
 use Rattle.dbtg_unit.specs.declared.statement.Statement.TheVariants.{Modify}
 use Rattle.dbtg_unit.specs.declared.unit.Answer.{Answer}
+use Rattle.dbtg_unit.specs.Database.Statements.Checks.{refused_at_once}
 use Rattle.dbtg_unit.specs.Hands.Locality.{IsMadeOnEach, seen}
+use Rattle.dbtg_unit.specs.Hands.Making.{MayPrepare}
 use Rattle.dbtg_plan.proofs.Plans.MadeAtOnce.{get_is_made}
 use Rattle.dbtg_plan.proofs.making.make_passed.Goals as goal
 
@@ -32,3 +34,42 @@ pub returns-in-Modify-clause-made : goal.returns-in-Modify-clause-made
 returns-in-Modify-clause-made c =
     subst (λ (s : Statement). IfOk c.make_modify.result (λ (a : Answer). IsMadeOnEach c.args.schema.now c.args.capacity c.args.unit.now c.args.held.now s (seen a c.make_modify.new.unit c.make_modify.new.held)))
     (ap (Modify c.in-Modify.rtype) (c.as_slice.ensures ∙ c.get.ensures) ∙ sym c.in-Modify.is) c.make_modify.ensures.made
+
+pub make_find-requires : goal.make_find-requires
+make_find-requires c =
+    record {
+      may = subst (λ (s : Statement). MayPrepare c.args.schema.now c.args.capacity c.args.unit.now c.args.held.now s) c.in-Find.is c.requires.may;
+      passes = subst (λ (s : Statement). refused_at_once c.args.schema.now c.args.capacity c.args.unit.now s ≡ None) c.in-Find.is c.requires.passes;
+    }
+
+pub make_store-requires : goal.make_store-requires
+make_store-requires c =
+    record {
+      may = subst (λ (s : Statement). MayPrepare c.args.schema.now c.args.capacity c.args.unit.now c.args.held.now s) c.in-Store.is c.requires.may;
+      agrees = c.requires.agrees;
+      passes = subst (λ (s : Statement). refused_at_once c.args.schema.now c.args.capacity c.args.unit.now s ≡ None) c.in-Store.is c.requires.passes;
+    }
+
+pub make_insert-requires : goal.make_insert-requires
+make_insert-requires c =
+    record {
+      may = subst (λ (s : Statement). MayPrepare c.args.schema.now c.args.capacity c.args.unit.now c.args.held.now s) c.in-Insert.is c.requires.may;
+      agrees = c.requires.agrees;
+      passes = subst (λ (s : Statement). refused_at_once c.args.schema.now c.args.capacity c.args.unit.now s ≡ None) c.in-Insert.is c.requires.passes;
+    }
+
+pub make_remove-requires : goal.make_remove-requires
+make_remove-requires c =
+    record {
+      may = subst (λ (s : Statement). MayPrepare c.args.schema.now c.args.capacity c.args.unit.now c.args.held.now s) c.in-Remove.is c.requires.may;
+      agrees = c.requires.agrees;
+      passes = subst (λ (s : Statement). refused_at_once c.args.schema.now c.args.capacity c.args.unit.now s ≡ None) c.in-Remove.is c.requires.passes;
+    }
+
+pub make_modify-requires : goal.make_modify-requires
+make_modify-requires c =
+    record {
+      may = subst (λ (s : Statement). MayPrepare c.args.schema.now c.args.capacity c.args.unit.now c.args.held.now s) (c.in-Modify.is ∙ sym (ap (Modify c.in-Modify.rtype) (c.as_slice.ensures ∙ c.get.ensures))) c.requires.may;
+      agrees = c.requires.agrees;
+      passes = subst (λ (s : Statement). refused_at_once c.args.schema.now c.args.capacity c.args.unit.now s ≡ None) (c.in-Modify.is ∙ sym (ap (Modify c.in-Modify.rtype) (c.as_slice.ensures ∙ c.get.ensures))) c.requires.passes;
+    }
