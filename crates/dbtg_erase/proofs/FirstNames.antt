@@ -4,7 +4,7 @@ use Rattle.std.proofs.Math.Seq.{drop-cons}
 use Rattle.std.specs.Prelude.{filter, is_some, slice_get}
 use Rattle.std.specs.List.{find, flat_map, range_with_len}
 use Rattle.std.specs.Option.{option_or}
-use Rattle.std.proofs.lemmas.List.{map-append, take-append-drop, take_all}
+use Rattle.std.proofs.lemmas.List.{take-append-drop, take_all}
 use Rattle.std.proofs.lemmas.Option.{slice_get_past, slice_get_read}
 use Rattle.dbtg_cells.specs.declared.cell.Cell.{Cell}
 use Rattle.dbtg_cells.specs.declared.key.DbKey.{DbKey}
@@ -14,7 +14,6 @@ use Rattle.dbtg_unit.specs.Hands.Local.{holds}
 use Rattle.dbtg_schema.proofs.Public.{numbers_end, numbers_next}
 use Rattle.dbtg_unit.proofs.Public.{holds_there}
 use Rattle.dbtg_erase.proofs.Bringing.{find_second}
-use Rattle.dbtg_erase.proofs.KeyLists.{append_nil}
 
 -- a cell is held where one is found by its name
 pub held_by_name : (hands : Hands) (c : CellName) (o : Option Cell) → o ≡ cell_of c hands.cells → is_some o ≡ holds hands.cells c
@@ -30,13 +29,6 @@ Splits names = (i : ℕ) (xs : List ℕ) → names (i ∷ xs) ≡ names (i ∷ [
 
 pub splits_map : (f : ℕ → CellName) (p : ℕ → Bool) → Splits (λ xs. map f (filter p xs))
 splits_map f p i xs = elim (p i) as (λ b. map f (cond b (i ∷ filter p xs) (filter p xs)) ≡ map f (cond b (i ∷ []) []) ++ map f (filter p xs)) [ true ↦ refl | false ↦ refl ]
-
-pub splits_flat : (g : DbKey → CellName) (f : ℕ → List DbKey) (p : ℕ → Bool) → Splits (λ xs. map g (flat_map f (filter p xs)))
-splits_flat g f p i xs =
-    elim (p i) as (λ b. map g (flat_map f (cond b (i ∷ filter p xs) (filter p xs))) ≡ map g (flat_map f (cond b (i ∷ []) [])) ++ map g (flat_map f (filter p xs))) [
-      | true ↦ map-append g (f i) (flat_map f (filter p xs)) ∙ ap (λ ks. map g ks ++ map g (flat_map f (filter p xs))) (sym (append_nil (f i)))
-      | false ↦ refl
-    ]
 
 module _ (p : CellName → Bool) (names : List ℕ → List CellName) (n i set : ℕ) (goal : Option CellName) where
   next_is : Splits names → i < n → set ≡ i → find p (names (drop i (range_with_len 0 n))) ≡ option_or (find p (names (set ∷ []))) (find p (names (drop (i + 1) (range_with_len 0 n))))

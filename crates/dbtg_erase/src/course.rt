@@ -1,25 +1,25 @@
 //! How far a DELETE has come with its cells, as it is kept from one need to the next, so that no cell is looked at again.
-ghost use Rattle.std.specs.Prelude.{◌≡◌, ℕ, ◌∷◌, ◌+◌, ◌<◌, None, Some, length, map, IfOk, OnOk};
+ghost use Rattle.std.specs.Prelude.{◌≡◌, ℕ, [], ◌∷◌, ◌+◌, ◌<◌, None, Some, filter, length, map, IfOk, OnOk};
 ghost use Rattle.std.specs.List.{flat_map};
 ghost use Rattle.dbtg_schema.specs.Lists.{Lists};
+ghost use Rattle.dbtg_schema.specs.Structure.{owns};
 ghost use Rattle.dbtg_unit.specs.declared.statement.Erase.{Erase};
 ghost use Rattle.dbtg_unit.specs.Database.State.CellNames.{slot_name};
 ghost use Rattle.dbtg_unit.specs.Hands.Erasing.{own_rings, with_those};
 ghost use Rattle.dbtg_unit.specs.Hands.Hands.{Hands};
 ghost use Rattle.dbtg_erase.specs.Course.{AreOfMembers, IsCourse, MembersFit};
 ghost use Rattle.dbtg_erase.specs.NextCell.{first_missing};
-ghost use Rattle.dbtg_erase.specs.Inside.NextCell.{next_of_gone};
+ghost use Rattle.dbtg_erase.specs.Inside.NextCell.{next_of_gone, ring_of};
 ghost use Rattle.dbtg_erase.specs.WorkList.{cells_of_gone, gone_in, taken_in};
 
 use crate::around::around;
 use crate::keys::Keys;
 use crate::left::push_members;
 use crate::names::{Names, add, missing};
-use crate::records::{first_of_all, first_ring};
 use crate::work_list::bring;
 use dbtg_cells::{CellName, DbKey};
-use dbtg_schema::Schema;
-use dbtg_unit::{Erase, Held, type_count};
+use dbtg_schema::{Schema, SetNo};
+use dbtg_unit::{Erase, Held, set_count, type_count};
 use std::alloc::{AllocError, Global};
 
 /// How far a DELETE has come: the records known to go; how many of them have all their cells held and those that
@@ -59,6 +59,31 @@ fn slots_of_members(
     Ok(Names::new(slots_of(alloc, members.as_slice())?))
 }
 
+// The ring that a record owns in a set, if it owns one and that is not held.
+fn missing_ring(schema: &Schema, held: &Held, key: &DbKey, set: SetNo) -> Option<CellName>
+    ensures { result ≡ first_missing held.now (map (ring_of key.now) (filter (λ s. owns schema.now s key.now.rtype) (set ∷ []))) }
+{
+    if schema.owns(set, key.rtype) {
+        missing(held, CellName::Ring(set, Some((key.rtype, key.number))))
+    } else {
+        None
+    }
+}
+
+// The first ring that a record owns and that is not held.
+fn first_ring(schema: &Schema, held: &Held, key: &DbKey) -> Option<CellName>
+    ensures { result ≡ first_missing held.now (own_rings schema.now key.now) }
+{
+    for s in 0..set_count(schema) {
+        let set = SetNo::new(s);
+        match missing_ring(schema, held, key, set) {
+            Some(name) => return Some(name),
+            None => {}
+        }
+    }
+    None
+}
+
 // The first cell not held among a record's own slot and rings.
 fn first_own(schema: &Schema, held: &Held, key: &DbKey) -> Option<CellName>
     ensures { result ≡ first_missing held.now (slot_name key.now ∷ own_rings schema.now key.now) }
@@ -92,6 +117,25 @@ fn next_of_record(
     let next = names.next(held);
     *members = Some(names);
     Ok(next)
+}
+
+// The first cell not held among those of these records, one after another.
+fn first_of_all(
+    alloc: Global,
+    schema: &Schema,
+    held: &Held,
+    gone: &[DbKey],
+) -> Result<Option<CellName>, AllocError>
+    ensures { IfOk result (λ name. name ≡ first_missing held.now (flat_map (cells_of_gone schema.now held.now) gone.now)) }
+{
+    for key in gone {
+        let mut members = None;
+        match next_of_record(alloc, schema, held, key, &mut members)? {
+            Some(name) => return Ok(Some(name)),
+            None => {}
+        }
+    }
+    Ok(None)
 }
 
 impl Course {

@@ -73,16 +73,6 @@ fn members_of_all(
     Ok(members)
 }
 
-// The members that stay, each once, of the lists of the records that go.
-fn left_of_all(alloc: Global, schema: &Schema, held: &Held, gone: &Keys) -> Result<Keys, AllocError>
-    ensures { IfOk result (λ left. left ≡ left_behind (members_in_hand schema.now held.now) gone.now) }
-{
-    let members = members_of_all(alloc, schema, held, gone.as_slice())?;
-    let mut left = Keys::new(alloc);
-    leave_list(members.as_slice(), gone, &mut left)?;
-    Ok(left)
-}
-
 // Does each member go with its owner?
 fn takes_all(option: Erase) -> bool
     ensures { IsTrue result → option ≡ Erase.All }
@@ -105,5 +95,8 @@ pub(crate) fn left(
     if takes_all(option) && gone.as_slice().len() <= most_gone(schema, capacity) as usize {
         return Ok(Keys::new(alloc));
     }
-    left_of_all(alloc, schema, held, gone)
+    let members = members_of_all(alloc, schema, held, gone.as_slice())?;
+    let mut left = Keys::new(alloc);
+    leave_list(members.as_slice(), gone, &mut left)?;
+    Ok(left)
 }

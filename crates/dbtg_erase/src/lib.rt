@@ -10,7 +10,6 @@ mod left;
 mod names;
 mod next;
 mod preparing;
-mod records;
 mod work_list;
 
 pub use course::Course;

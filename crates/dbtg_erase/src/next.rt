@@ -15,7 +15,7 @@ ghost use Rattle.dbtg_unit.specs.Hands.Local.{Agrees};
 ghost use Rattle.dbtg_unit.specs.Hands.NeedOrder.{IsAbove, IsInHeldArea, IsInTurn};
 ghost use Rattle.dbtg_unit.specs.Hands.Needs.{areas_in_order, need};
 ghost use Rattle.dbtg_erase.specs.Course.{IsCourse, IsCourseOfCurrent, IsCourseIfBegun};
-ghost use Rattle.dbtg_erase.specs.Inside.NextCell.{need_of, next_cell_in, next_cell_of, next_of_gone, next_of_passed, stops_at};
+ghost use Rattle.dbtg_erase.specs.Inside.NextCell.{next_cell_in, next_cell_of, next_of_gone, next_of_passed, stops_at};
 ghost use Rattle.dbtg_erase.specs.WorkList.{gone_in};
 
 use crate::course::Course;
@@ -157,15 +157,6 @@ fn next_cell_of(
     }
 }
 
-fn need_of(name: Option<CellName>) -> Need
-    ensures { result ≡ need_of name }
-{
-    match name {
-        Some(name) => Need::Take(name),
-        None => Need::Ready,
-    }
-}
-
 /// What a DELETE needs next, on every database to which these cells may belong: its areas, ascending; then its cells in
 /// the order of taking, each record that goes in turn, first in, first out, and each in an area that is held. `course` keeps
 /// how far it has come, from `None` before the first need: it has to belong to this DELETE, with all that was held before still
@@ -191,10 +182,7 @@ pub fn next_need(
         Some(_cause) => Ok(Need::Ready),
         None => match next_area(schema, unit, &statement, held) {
             Some(area) => Ok(Need::Area(area)),
-            None => {
-                let name = next_cell_of(alloc, schema, capacity, unit, option, held, course)?;
-                Ok(need_of(name))
-            }
+            None => need_with_areas(alloc, schema, capacity, unit, option, held, course),
         },
     }
 }
@@ -215,6 +203,8 @@ pub fn need_with_areas(
     ensures kept { IsCourseOfCurrent schema.now capacity held.now unit.now option course.new }
     ensures need { IfOk result (λ next. (db : Database) → Agrees schema.now capacity db held.now unit.now → next ≡ need schema.now capacity db unit.now held.now (Delete option)) }
 {
-    let name = next_cell_of(alloc, schema, capacity, unit, option, held, course)?;
-    Ok(need_of(name))
+    match next_cell_of(alloc, schema, capacity, unit, option, held, course)? {
+        Some(name) => Ok(Need::Take(name)),
+        None => Ok(Need::Ready),
+    }
 }

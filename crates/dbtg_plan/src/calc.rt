@@ -18,22 +18,6 @@ fn number_of(key: Option<DbKey>) -> Option<u32>
     Some(key?.number)
 }
 
-// Does a held record of this type, other than the one left out, have the items with these numbers?
-fn has_calc(
-    held: &Held,
-    rtype: RecordNo,
-    item_numbers: &[ItemNo],
-    items: &[Value],
-    left_out: Option<DbKey>,
-) -> bool
-    ensures { result ≡ (in_hand held.now).has_calc rtype (picked item_numbers.now items.now) left_out }
-{
-    match numbers(held, rtype) {
-        Some(extent) => extent.has_picked(item_numbers, items, number_of(left_out)),
-        None => false,
-    }
-}
-
 /// If duplicates of the CALC items are not allowed, does a held record other than the one left out have the same ones as
 /// these?
 pub(crate) fn calc_taken(
@@ -45,13 +29,14 @@ pub(crate) fn calc_taken(
 ) -> bool
     ensures { result ≡ calc_taken schema.now (in_hand held.now) rtype items.now left_out }
 {
-    match schema.calc_of(rtype) {
-        Some(calc) => {
-            !calc.duplicates_allowed
-                && has_calc(held, rtype, calc.items.as_slice(), items, left_out)
-        }
-        None => false,
-    }
+    let Some(calc) = schema.calc_of(rtype) else {
+        return false;
+    };
+    let Some(extent) = numbers(held, rtype) else {
+        return false;
+    };
+    !calc.duplicates_allowed
+        && extent.has_picked(calc.items.as_slice(), items, number_of(left_out))
 }
 
 /// The key of a new record: the least free number of its type, in its next generation.
@@ -83,11 +68,11 @@ pub(crate) fn copy_item(alloc: Global, items: &[Value], item: ItemNo) -> Result<
 fn copy_picked(alloc: Global, numbers: &[ItemNo], items: &[Value]) -> Result<Row<Value>, AllocError>
     ensures { IfOk result (λ row. row ≡ picked numbers.now items.now) }
 {
-    let mut copies = Vec::with_capacity(alloc, numbers.len())?;
+    let mut copies = Row::of(Vec::with_capacity(alloc, numbers.len())?);
     for number in numbers {
         copies.push(copy_item(alloc, items, *number)?)?;
     }
-    Ok(Row::of(copies))
+    Ok(copies)
 }
 
 /// Copies of the CALC items.

@@ -1,13 +1,11 @@
 //! FIND: what is found, read from the cells that are held. Nothing here takes memory.
 ghost use Rattle.std.specs.Prelude.{◌≡◌, ◌∷◌, [], true, take, None};
-ghost use Rattle.dbtg_unit.specs.Database.State.Base.{Database};
-ghost use Rattle.dbtg_unit.specs.Database.State.Belongs.{IsUnitOf, IsWithin};
+ghost use Rattle.dbtg_unit.specs.Database.State.Belongs.{IsWithin};
 ghost use Rattle.dbtg_unit.specs.Database.Statements.Checks.{refused_at_once};
 ghost use Rattle.dbtg_unit.specs.Database.Statements.Fits.{form_fits};
-ghost use Rattle.dbtg_unit.specs.Hands.Local.{Agrees};
 ghost use Rattle.dbtg_unit.specs.Hands.Locality.{IsMadeOnEach, made_by, seen};
 ghost use Rattle.dbtg_unit.specs.Hands.Making.{CanFinish, MayPrepare};
-ghost use Rattle.dbtg_unit.specs.Hands.Needs.{cells_to_find, current_owner, find_cells, first_missing};
+ghost use Rattle.dbtg_unit.specs.Hands.Needs.{cells_to_find, current_owner, first_missing};
 ghost use Rattle.dbtg_unit.specs.declared.statement.Statement.TheVariants.{Find};
 ghost use Rattle.dbtg_plan.specs.Inside.Finding.{found_in, next_cell_in, owners_in, plan_of_found};
 
@@ -80,8 +78,8 @@ fn missing_to_find(schema: &Schema, unit: &Unit, form: &Form, held: &Held) -> Op
     }
 }
 
-// The first cell that is not held, among those by which the record is found and then the slot of what is found.
-fn next_cell(
+/// The first cell of a FIND that is not held: among those by which the record is found, and then the slot of what is found.
+pub(crate) fn next_cell_of_find(
     schema: &Schema,
     capacity: u16,
     unit: &Unit,
@@ -99,22 +97,6 @@ fn next_cell(
             Err(_cause) => None,
         },
     }
-}
-
-/// The first cell of a FIND that is not held.
-pub(crate) fn next_cell_of_find(
-    schema: &Schema,
-    capacity: u16,
-    unit: &Unit,
-    form: &Form,
-    held: &Held,
-) -> Option<CellName>
-    requires fits { form_fits schema.now form.now ≡ true }
-    requires of_schema { IsUnitOf schema.now unit.now }
-    requires within { IsWithin capacity unit.now }
-    ensures { (db : Database) → Agrees schema.now capacity db held.now unit.now → result ≡ first_missing held.now (find_cells schema.now capacity db unit.now form.now) }
-{
-    next_cell(schema, capacity, unit, form, held)
 }
 
 // The owners of a record that is held, by set.

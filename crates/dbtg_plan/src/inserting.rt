@@ -16,14 +16,14 @@ ghost use Rattle.dbtg_unit.specs.Hands.PlanOf.{joining_edit};
 ghost use Rattle.dbtg_plan.specs.Inside.Joining.{inserting_with};
 
 use crate::joining::{current_owner, joining_edit, make_room, place_refusal};
-use crate::members::{change_slot, slot_edit, sort_key_in};
+use crate::members::{change_slot, push_slot, sort_key_in};
 use crate::missing::{missing_ring, missing_slot};
 use crate::unit_alone;
 use crate::unit_alone::done_answer;
 use dbtg_cells::{CellName, DbKey, NewOwner, Value};
 use dbtg_schema::{Row, Schema, SetNo};
 use dbtg_unit::{
-    Answer, Cause, CellEdit, Edit, Held, Place, Prepared, Unit, UnitEdit, edit_held, next_version,
+    Answer, Cause, Edit, Held, Place, Prepared, Unit, UnitEdit, edit_held, next_version,
     own_refusal, owner_in, refused,
 };
 use std::alloc::{AllocError, Global};
@@ -67,24 +67,6 @@ fn refusal(
 }
 
 // Its place in the ring, its owner, its version.
-fn edits_of(
-    alloc: Global,
-    schema: &Schema,
-    unit: &Unit,
-    set: SetNo,
-    key: &DbKey,
-    sort_key: Option<Value>,
-) -> Result<Row<CellEdit>, AllocError>
-    ensures { IfOk result (λ edits. edits ≡ joining_edit schema.now unit.now set key.now sort_key ∷ slot_edit key.now (Edit.ChangeOwner set (Some (joined_place schema.now unit.now set).owner)) ∷ slot_edit key.now Edit.RaiseVersion ∷ []) }
-{
-    let owner = NewOwner::of(alloc, unit.joined_place(schema, set).owner)?;
-    let mut edits = Vec::new(alloc);
-    edits.push(joining_edit(schema, unit, set, key, sort_key))?;
-    edits.push(slot_edit(key, Edit::ChangeOwner { set, owner }))?;
-    edits.push(slot_edit(key, Edit::RaiseVersion))?;
-    Ok(Row::of(edits))
-}
-
 fn inserted(
     alloc: Global,
     schema: &Schema,
@@ -96,12 +78,15 @@ fn inserted(
 ) -> Result<Prepared, AllocError>
     ensures { IfOk result (λ plan. plan ≡ inserting_with schema.now unit.now set key.now sort_key version) }
 {
-    let edits = edits_of(alloc, schema, unit, set, key, sort_key)?;
-    let versions = Vec::from_slice(alloc, &[(*key, version)])?;
+    let mut edits = Row::of(Vec::new(alloc));
+    edits.push(joining_edit(schema, unit, set, key, sort_key))?;
     let place = Place {
         owner: unit.joined_place(schema, set).owner,
         at: Some(*key),
     };
+    let owner = NewOwner::of(alloc, place.owner)?;
+    push_slot(&mut edits, key, Edit::ChangeOwner { set, owner })?;
+    let versions = Vec::from_slice(alloc, &[(*key, version)])?;
     Ok(Prepared::new(
         done_answer(),
         edits,

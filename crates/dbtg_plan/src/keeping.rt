@@ -4,7 +4,7 @@ ghost use Rattle.dbtg_unit.specs.Hands.InHand.{in_hand};
 ghost use Rattle.dbtg_unit.specs.Inside.PlanOf.{plan_of};
 
 use crate::unit_alone::{done_plan, refusal};
-use dbtg_schema::{RecordNo, Schema};
+use dbtg_schema::{RecordNo, Row, Schema};
 use dbtg_unit::{
     Answer, Cause, Held, Prepared, Statement, Status, Unit, UnitEdit, refused, stored,
 };
@@ -20,16 +20,13 @@ pub(crate) fn get(
 ) -> Result<Prepared, AllocError>
     ensures { IfOk result (λ plan. plan ≡ plan_of schema.now (in_hand held.now) unit.now (Statement.Get rtype)) }
 {
-    let Some(key) = unit.currency.run_unit else {
-        return Ok(refused(alloc, Cause::NoCurrentOfRunUnit));
-    };
-    match stored(held, &key) {
-        Some(record) => {
-            let items = record.items.share()?;
-            Ok(done_plan(alloc, UnitEdit::Same, Some(key), Some(items)))
-        }
-        None => Ok(refused(alloc, Cause::Deleted)),
-    }
+    let answer = answer_get(schema, unit, rtype, held)?;
+    Ok(Prepared::new(
+        answer,
+        Row::of(Vec::new(alloc)),
+        Row::of(Vec::new(alloc)),
+        UnitEdit::Same,
+    ))
 }
 
 /// The answer of a GET that needs nothing more, without a plan. It changes nothing.

@@ -1,7 +1,6 @@
 //! MODIFY: what it needs next, and what it does once it needs nothing more.
-ghost use Rattle.std.specs.Prelude.{◌≡◌, ◌&&◌, ◌∷◌, ◌++◌, ℕ, [], Some, None, map, option_and_then, slice_set, IfOk, OnErr, if◌then◌else◌};
+ghost use Rattle.std.specs.Prelude.{◌≡◌, ◌&&◌, ◌∷◌, ◌++◌, ℕ, [], Some, None, map, option_and_then, slice_set, IfOk, OnErr, OnOk, if◌then◌else◌};
 ghost use Rattle.std.specs.List.{flat_map, list_any};
-ghost use Rattle.std.specs.Option.{option_to_list};
 ghost use Rattle.dbtg_schema.specs.Lookups.{at, first_cause};
 ghost use Rattle.dbtg_schema.specs.Structure.{rekeyed_sets, set_numbers};
 ghost use Rattle.dbtg_unit.specs.declared.statement.Statement.TheVariants.{Modify};
@@ -249,30 +248,32 @@ fn refusal(
     Ok(None)
 }
 
-fn calc_edit(
+// The CALC values change, if one is named.
+fn push_calc(
+    edits: &mut Row<CellEdit>,
     alloc: Global,
     schema: &Schema,
     changes: &[Change],
     key: &DbKey,
     items: &[Value],
-) -> Result<Option<CellEdit>, AllocError>
-    ensures { IfOk result (λ edit. option_to_list edit ≡ calc_edits schema.now changes.now key.now items.now) }
+) -> Result<(), AllocError>
+    ensures { OnOk result (edits.new ≡ edits.old ++ calc_edits schema.now changes.now key.now items.now) }
 {
-    if !names_calc(schema, key.rtype, changes) {
-        return Ok(None);
+    if names_calc(schema, key.rtype, changes) {
+        edits.push(CellEdit {
+            name: CellName::Extent(key.rtype),
+            edit: Edit::ChangeNumber {
+                number: key.number,
+                calc: copy_calc(alloc, schema, key.rtype, items)?,
+            },
+        })?;
     }
-    let calc = copy_calc(alloc, schema, key.rtype, items)?;
-    Ok(Some(CellEdit {
-        name: CellName::Extent(key.rtype),
-        edit: Edit::ChangeNumber {
-            number: key.number,
-            calc,
-        },
-    }))
+    Ok(())
 }
 
 // The record is placed again in a set, if its key item there is named and it is connected.
-fn replacing_edit(
+fn push_replacing(
+    edits: &mut Row<CellEdit>,
     alloc: Global,
     schema: &Schema,
     unit: &Unit,
@@ -281,41 +282,29 @@ fn replacing_edit(
     key: &DbKey,
     items: &[Value],
     set: SetNo,
-) -> Result<Option<CellEdit>, AllocError>
-    ensures { IfOk result (λ edit. option_to_list edit ≡ (if is_rekeyed schema.now changes.now key.now.rtype set then replacing_edits schema.now (in_hand held.now) unit.now key.now items.now set else [])) }
+) -> Result<(), AllocError>
+    ensures { OnOk result (edits.new ≡ edits.old ++ (if is_rekeyed schema.now changes.now key.now.rtype set then replacing_edits schema.now (in_hand held.now) unit.now key.now items.now set else [])) }
 {
     if !is_rekeyed_in(schema, set, key.rtype, changes) {
-        return Ok(None);
+        return Ok(());
     }
     let Some(owner) = owner_in(held, set, key) else {
-        return Ok(None);
+        return Ok(());
     };
-    let sort_key = copy_sort_key(alloc, schema, set, key.rtype, items)?;
-    Ok(Some(CellEdit {
+    edits.push(CellEdit {
         name: ring_name(set, &owner),
         edit: Edit::ReplaceMember {
             order: schema.order_of(set),
             position: position_in(schema, unit, set),
             key: *key,
-            sort_key,
+            sort_key: copy_sort_key(alloc, schema, set, key.rtype, items)?,
         },
-    }))
+    })?;
+    Ok(())
 }
 
-fn push_some(edits: &mut Vec<CellEdit>, edit: Option<CellEdit>) -> Result<(), AllocError>
-    ensures { IfOk result (λ _. edits.new.items ≡ edits.old.items ++ option_to_list edit) }
-{
-    match edit {
-        Some(edit) => {
-            edits.push(edit)?;
-            Ok(())
-        }
-        None => Ok(()),
-    }
-}
-
-fn push_replacing(
-    edits: &mut Vec<CellEdit>,
+fn push_each_replacing(
+    edits: &mut Row<CellEdit>,
     alloc: Global,
     schema: &Schema,
     unit: &Unit,
@@ -324,12 +313,10 @@ fn push_replacing(
     key: &DbKey,
     items: &[Value],
 ) -> Result<(), AllocError>
-    ensures { IfOk result (λ _. edits.new.items ≡ edits.old.items ++ flat_map (replacing_edits schema.now (in_hand held.now) unit.now key.now items.now) (rekeyed_sets schema.now key.now.rtype (map (λ c. c.item) changes.now))) }
+    ensures { OnOk result (edits.new ≡ edits.old ++ flat_map (replacing_edits schema.now (in_hand held.now) unit.now key.now items.now) (rekeyed_sets schema.now key.now.rtype (map (λ c. c.item) changes.now))) }
 {
     for s in 0..set_count(schema) {
-        let set = SetNo::new(s);
-        let edit = replacing_edit(alloc, schema, unit, changes, held, key, items, set)?;
-        push_some(edits, edit)?;
+        push_replacing(edits, alloc, schema, unit, changes, held, key, items, SetNo::new(s))?;
     }
     Ok(())
 }
@@ -346,34 +333,9 @@ fn edits_beside_slot(
 ) -> Result<Row<CellEdit>, AllocError>
     ensures { IfOk result (λ edits. edits ≡ calc_edits schema.now changes.now key.now items.now ++ flat_map (replacing_edits schema.now (in_hand held.now) unit.now key.now items.now) (rekeyed_sets schema.now key.now.rtype (map (λ c. c.item) changes.now))) }
 {
-    let mut edits = Vec::new(alloc);
-    let calc = calc_edit(alloc, schema, changes, key, items)?;
-    push_some(&mut edits, calc)?;
-    push_replacing(&mut edits, alloc, schema, unit, changes, held, key, items)?;
-    Ok(Row::of(edits))
-}
-
-fn edits_of(
-    alloc: Global,
-    schema: &Schema,
-    unit: &Unit,
-    changes: &[Change],
-    held: &Held,
-    key: &DbKey,
-    items: SharedItems,
-) -> Result<Row<CellEdit>, AllocError>
-    ensures { IfOk result (λ edits. edits ≡ modify_edits schema.now (in_hand held.now) unit.now changes.now key.now items) }
-{
-    let mut edits = edits_beside_slot(
-        alloc,
-        schema,
-        unit,
-        changes,
-        held,
-        key,
-        items.get().as_slice(),
-    )?;
-    push_slot(&mut edits, key, Edit::ChangeItems { items })?;
+    let mut edits = Row::of(Vec::new(alloc));
+    push_calc(&mut edits, alloc, schema, changes, key, items)?;
+    push_each_replacing(&mut edits, alloc, schema, unit, changes, held, key, items)?;
     Ok(edits)
 }
 
@@ -390,7 +352,16 @@ fn modified(
     requires changed { items ≡ changed_items changes.now (items_in held.now key.now) }
     ensures { IfOk result (λ plan. plan ≡ modifying schema.now (in_hand held.now) unit.now changes.now key.now) }
 {
-    let edits = edits_of(alloc, schema, unit, changes, held, key, items)?;
+    let mut edits = edits_beside_slot(
+        alloc,
+        schema,
+        unit,
+        changes,
+        held,
+        key,
+        items.get().as_slice(),
+    )?;
+    push_slot(&mut edits, key, Edit::ChangeItems { items })?;
     let versions = Vec::from_slice(alloc, &[(*key, next_version(held, key))])?;
     Ok(Prepared::new(done_answer(), edits, Row::of(versions), UnitEdit::Same))
 }

@@ -33,7 +33,7 @@ fn set_mode(
 ) -> Result<Prepared, AllocError>
     ensures { IfOk result (λ plan. plan ≡ mode_plan area edit mode) }
 {
-    let mut edits = Vec::new(alloc);
+    let mut edits = Row::of(Vec::new(alloc));
     edits.push(CellEdit {
         name: CellName::Usage(area),
         edit,
@@ -41,7 +41,7 @@ fn set_mode(
     let change = UnitEdit::SetMode { area, mode };
     Ok(Prepared::new(
         done_answer(),
-        Row::of(edits),
+        edits,
         Row::of(Vec::new(alloc)),
         change,
     ))

@@ -1,7 +1,6 @@
 //! Guesses of owners that the record that is held shows to be wrong. Nothing here takes memory.
-ghost use Rattle.std.specs.Prelude.{◌≡◌, ℕ, ◌==◌, ◌<◌, Some, length, map, true};
+ghost use Rattle.std.specs.Prelude.{◌≡◌, ℕ, ◌==◌, ◌<◌, Some, length, true};
 ghost use Rattle.std.specs.List.{list_any};
-ghost use Rattle.dbtg_schema.specs.Structure.{rekeyed_sets};
 ghost use Rattle.dbtg_unit.specs.declared.held.Need.TheVariants.{Stale};
 ghost use Rattle.dbtg_unit.specs.Database.State.Base.{Database};
 ghost use Rattle.dbtg_unit.specs.Database.Statements.Fits.{fits};
@@ -11,18 +10,8 @@ ghost use Rattle.dbtg_unit.specs.Hands.Needs.{guessed_sets, is_wrong_guess, need
 ghost use Rattle.dbtg_plan.specs.Inside.Stale.{has_wrong_owner_in, need_of_guesses, wrong_owner_in, wrong_owners_in};
 
 use dbtg_cells::{DbKey, Owner, Owners, owner_eq};
-use dbtg_schema::{RecordNo, Schema, SetNo};
-use dbtg_unit::{
-    Change, Held, Need, Statement, Unit, is_rekeyed_in, owner_in, set_count, with_owners,
-};
-
-// Is this one of the sets in which a MODIFY moves the record?
-fn is_moved_in(schema: &Schema, set: SetNo, rtype: RecordNo, changes: &[Change]) -> bool
-    requires { set < length schema.now.sets }
-    ensures { result ≡ list_any (λ s. s == set) (rekeyed_sets schema.now rtype (map (λ c. c.item) changes.now)) }
-{
-    is_rekeyed_in(schema, set, rtype, changes)
-}
+use dbtg_schema::{Schema, SetNo};
+use dbtg_unit::{Held, Need, Statement, Unit, is_rekeyed_in, owner_in, set_count, with_owners};
 
 // Must the owner of the current of run-unit in this set be the guess?
 fn is_guessed(schema: &Schema, unit: &Unit, statement: &Statement, set: SetNo) -> bool
@@ -34,7 +23,7 @@ fn is_guessed(schema: &Schema, unit: &Unit, statement: &Statement, set: SetNo) -
     match statement {
         Statement::Remove(named) => named.index() == set.index(),
         Statement::Modify { rtype, changes } => {
-            is_moved_in(schema, set, *rtype, changes.get().as_slice())
+            is_rekeyed_in(schema, set, *rtype, changes.get().as_slice())
         }
         _ => false,
     }

@@ -1,11 +1,11 @@
 //! STORE: what it needs next, and what it does once it needs nothing more.
-ghost use Rattle.std.specs.Prelude.{◌≡◌, ℕ, ◌==◌, ◌++◌, [], ◌∷◌, false, None, is_none, if◌then◌else◌, IfOk, OnErr, OnOk};
+ghost use Rattle.std.specs.Prelude.{◌≡◌, ℕ, ◌==◌, ◌++◌, [], ◌∷◌, None, is_none, if◌then◌else◌, IfOk, OnErr, OnOk};
 ghost use Rattle.std.specs.List.{flat_map, list_any};
 ghost use Rattle.dbtg_cells.specs.declared.key.DbKey.{DbKey};
 ghost use Rattle.dbtg_cells.specs.Shown.{first_version};
 ghost use Rattle.dbtg_schema.specs.Lookups.{first_cause};
 ghost use Rattle.dbtg_schema.specs.Structure.{automatic_sets, owns};
-ghost use Rattle.dbtg_unit.specs.Database.Statements.Checks.{place_checks, store_checks, refused_at_once};
+ghost use Rattle.dbtg_unit.specs.Database.Statements.Checks.{place_checks, refused_at_once};
 ghost use Rattle.dbtg_unit.specs.declared.statement.Statement.TheVariants.{Store};
 ghost use Rattle.dbtg_unit.specs.Database.State.Base.{Database, key_item};
 ghost use Rattle.dbtg_unit.specs.Hands.Hands.{Hands};
@@ -32,16 +32,10 @@ use dbtg_unit::{
 };
 use std::alloc::{AllocError, Global};
 
-// Does STORE connect a record of this type in the set?
-#[tactic(auto, using(crate::proofs::Store::StoreSteps::connected))]
-fn connects(schema: &Schema, set: SetNo, rtype: RecordNo) -> bool
-    ensures { result ≡ list_any (λ s. s == set) (automatic_sets schema.now rtype) }
-{
-    is_automatic_in(schema, set, rtype)
-}
-
 // WHAT IT NEEDS
 
+// The ring that the record joins in the set, if STORE connects it there and the ring is not held.
+#[tactic(auto, using(crate::proofs::Store::StoreSteps::connected))]
 fn missing_joined(
     schema: &Schema,
     unit: &Unit,
@@ -51,18 +45,8 @@ fn missing_joined(
 ) -> Option<CellName>
     ensures { result ≡ first_missing held.now (if list_any (λ s. s == set) (automatic_sets schema.now key.now.rtype) then ring_names set (current_owner schema.now unit.now set) else []) }
 {
-    if connects(schema, set, key.rtype) {
+    if is_automatic_in(schema, set, key.rtype) {
         missing_ring(held, set, current_owner(schema, unit, set))
-    } else {
-        None
-    }
-}
-
-fn missing_own(schema: &Schema, held: &Held, key: &DbKey, set: SetNo) -> Option<CellName>
-    ensures { result ≡ first_missing held.now (if owns schema.now set key.now.rtype then CellName.Ring set (Some (key.now.rtype, key.now.number)) ∷ [] else []) }
-{
-    if schema.owns(set, key.rtype) {
-        missing(held, CellName::Ring(set, Some((key.rtype, key.number))))
     } else {
         None
     }
@@ -81,7 +65,11 @@ fn missing_in_set(
     if joined.is_some() {
         return joined;
     }
-    missing_own(schema, held, key, set)
+    if schema.owns(set, key.rtype) {
+        missing(held, CellName::Ring(set, Some((key.rtype, key.number))))
+    } else {
+        None
+    }
 }
 
 fn missing_in_any_set(schema: &Schema, unit: &Unit, held: &Held, key: &DbKey) -> Option<CellName>
@@ -114,31 +102,6 @@ fn new_key(held: &Held, rtype: RecordNo) -> Option<DbKey>
     fresh_key(numbers(held, rtype)?, rtype)
 }
 
-fn missing_of_store(
-    schema: &Schema,
-    unit: &Unit,
-    rtype: RecordNo,
-    items: &[Value],
-    held: &Held,
-) -> Option<CellName>
-    ensures { result ≡ missing_of_store schema.now unit.now held.now rtype items.now }
-{
-    let extent = missing(held, CellName::Extent(rtype));
-    if extent.is_some() {
-        return extent;
-    }
-    match new_key(held, rtype) {
-        Some(key) => {
-            if calc_taken(schema, held, rtype, items, None) {
-                None
-            } else {
-                missing_of_key(schema, unit, held, &key)
-            }
-        }
-        None => None,
-    }
-}
-
 /// The first cell that a STORE needs and that is not held.
 pub(crate) fn next_cell_of_store(
     schema: &Schema,
@@ -147,27 +110,21 @@ pub(crate) fn next_cell_of_store(
     items: &SharedItems,
     held: &Held,
 ) -> Option<CellName>
-    ensures { (capacity : ℕ) (db : Database) (suppress : Suppress) → Agrees schema.now capacity db held.now unit.now → result ≡ first_missing held.now (cells_of schema.now capacity db unit.now held.now.guesses (Store rtype items.now suppress)) }
+    ensures { result ≡ missing_of_store schema.now unit.now held.now rtype items.now }
 {
-    missing_of_store(schema, unit, rtype, items.get().as_slice(), held)
+    let extent = missing(held, CellName::Extent(rtype));
+    if extent.is_some() {
+        return extent;
+    }
+    let key = new_key(held, rtype)?;
+    if calc_taken(schema, held, rtype, items.get().as_slice(), None) {
+        None
+    } else {
+        missing_of_key(schema, unit, held, &key)
+    }
 }
 
 // WHY IT IS REFUSED
-
-fn refusal_in_set(
-    alloc: Global,
-    schema: &Schema,
-    unit: &Unit,
-    held: &Held,
-    rtype: RecordNo,
-    items: &[Value],
-    set: SetNo,
-) -> Result<Option<Cause>, AllocError>
-    ensures { IfOk result (λ cause. cause ≡ first_cause (place_checks schema.now (in_hand held.now) unit.now set (key_item schema.now set rtype items.now))) }
-{
-    let sort_key = copy_sort_key(alloc, schema, set, rtype, items)?;
-    Ok(place_refusal(schema, unit, held, set, &sort_key))
-}
 
 fn refusal_in_any_set(
     alloc: Global,
@@ -180,30 +137,13 @@ fn refusal_in_any_set(
     ensures { IfOk result (λ cause. cause ≡ first_cause (flat_map (λ s. place_checks schema.now (in_hand held.now) unit.now s (key_item schema.now s rtype items.now)) (automatic_sets schema.now rtype))) }
 {
     for set in schema.automatic_sets(rtype) {
-        let cause = refusal_in_set(alloc, schema, unit, held, rtype, items, *set)?;
+        let sort_key = copy_sort_key(alloc, schema, *set, rtype, items)?;
+        let cause = place_refusal(schema, unit, held, *set, &sort_key);
         if cause.is_some() {
             return Ok(cause);
         }
     }
     Ok(None)
-}
-
-// Why a record that gets a number is not stored.
-fn refusal(
-    alloc: Global,
-    schema: &Schema,
-    unit: &Unit,
-    held: &Held,
-    rtype: RecordNo,
-    items: &[Value],
-) -> Result<Option<Cause>, AllocError>
-    requires { (in_hand held.now).is_full rtype ≡ false }
-    ensures { IfOk result (λ cause. cause ≡ first_cause (store_checks schema.now (in_hand held.now) unit.now rtype items.now)) }
-{
-    if calc_taken(schema, held, rtype, items, None) {
-        return Ok(Some(Cause::DuplicatesNotAllowed));
-    }
-    refusal_in_any_set(alloc, schema, unit, held, rtype, items)
 }
 
 // The key that the record gets, or why it is not stored.
@@ -220,7 +160,10 @@ fn judged(
     let Some(key) = new_key(held, rtype) else {
         return Ok(Err(Cause::NoRoom));
     };
-    match refusal(alloc, schema, unit, held, rtype, items)? {
+    if calc_taken(schema, held, rtype, items, None) {
+        return Ok(Err(Cause::DuplicatesNotAllowed));
+    }
+    match refusal_in_any_set(alloc, schema, unit, held, rtype, items)? {
         Some(cause) => Ok(Err(cause)),
         None => Ok(Ok(key)),
     }
@@ -235,9 +178,9 @@ fn push_join(
     key: &DbKey,
     items: &[Value],
     set: SetNo,
-    edits: &mut Vec<CellEdit>,
+    edits: &mut Row<CellEdit>,
 ) -> Result<(), AllocError>
-    ensures { OnOk result (edits.new.items ≡ edits.old.items ++ joining_edits schema.now unit.now set key.now (key_item schema.now set key.now.rtype items.now)) }
+    ensures { OnOk result (edits.new ≡ edits.old ++ joining_edits schema.now unit.now set key.now (key_item schema.now set key.now.rtype items.now)) }
 {
     if unit.place_in(schema, set).is_none() {
         return Ok(());
@@ -253,9 +196,9 @@ fn push_each_join(
     unit: &Unit,
     key: &DbKey,
     items: &[Value],
-    edits: &mut Vec<CellEdit>,
+    edits: &mut Row<CellEdit>,
 ) -> Result<(), AllocError>
-    ensures { OnOk result (edits.new.items ≡ edits.old.items ++ flat_map (λ s. joining_edits schema.now unit.now s key.now (key_item schema.now s key.now.rtype items.now)) (automatic_sets schema.now key.now.rtype)) }
+    ensures { OnOk result (edits.new ≡ edits.old ++ flat_map (λ s. joining_edits schema.now unit.now s key.now (key_item schema.now s key.now.rtype items.now)) (automatic_sets schema.now key.now.rtype)) }
 {
     for set in schema.automatic_sets(key.rtype) {
         push_join(alloc, schema, unit, key, items, *set, edits)?;
@@ -293,8 +236,8 @@ fn opening_edit(key: &DbKey, set: SetNo) -> CellEdit
     }
 }
 
-fn push_openings(schema: &Schema, key: &DbKey, edits: &mut Vec<CellEdit>) -> Result<(), AllocError>
-    ensures { OnOk result (edits.new.items ≡ edits.old.items ++ edits_of_opening schema.now key.now) }
+fn push_openings(schema: &Schema, key: &DbKey, edits: &mut Row<CellEdit>) -> Result<(), AllocError>
+    ensures { OnOk result (edits.new ≡ edits.old ++ edits_of_opening schema.now key.now) }
 {
     for set in schema.owned_sets(key.rtype) {
         edits.push(opening_edit(key, *set))?;
@@ -338,12 +281,12 @@ fn edits_of(
     ensures { IfOk result (λ edits. edits ≡ store_edits schema.now unit.now key.now items.now) }
 {
     // Most records need four edits: a number, a set joined, a set opened, and a slot.
-    let mut edits = Vec::with_capacity(alloc, 4)?;
+    let mut edits = Row::of(Vec::with_capacity(alloc, 4)?);
     edits.push(entering(alloc, schema, key, items.get().as_slice())?)?;
     push_each_join(alloc, schema, unit, key, items.get().as_slice(), &mut edits)?;
     push_openings(schema, key, &mut edits)?;
     edits.push(filling(alloc, key, items, owners)?)?;
-    Ok(Row::of(edits))
+    Ok(edits)
 }
 
 fn stored(
@@ -449,13 +392,13 @@ fn build(
     requires { owners.now ≡ first_owners schema.now unit.now key.now.rtype }
     ensures { IfOk result (λ built. built.entering ∷ (built.joins ++ (edits_of_opening schema.now key.now ++ built.filling ∷ [])) ≡ store_edits schema.now unit.now key.now items.now) }
 {
-    let mut joins = Vec::new(alloc);
+    let mut joins = Row::of(Vec::new(alloc));
     push_each_join(alloc, schema, unit, key, items.get().as_slice(), &mut joins)?;
     let entering = entering(alloc, schema, key, items.get().as_slice())?;
     let filling = filling(alloc, key, items, owners)?;
     Ok(Built {
         entering,
-        joins: Row::of(joins),
+        joins,
         filling,
     })
 }

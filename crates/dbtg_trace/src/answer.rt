@@ -69,7 +69,6 @@ fn value_in(alloc: Global, item: &Item, left: &mut Tokens) -> Result<Option<Valu
 }
 
 /// The values of all these items, if no other words are left.
-#[tactic(auto, using(crate::proofs::WordSteps::no_value, crate::proofs::WordSteps::one_value_more))]
 fn values_in(
     alloc: Global,
     items: &[Item],

@@ -79,7 +79,6 @@ fn said_again(so_far: &ReadSoFar, line: &[u8]) -> Result<Option<Statement>, Allo
 }
 
 /// The same where the line is read anew; then it is kept as that of the next entry.
-#[tactic(auto, using(crate::proofs::EntrySteps::no_statement, crate::proofs::EntrySteps::of_line))]
 fn read_new<'a>(
     alloc: Global,
     schema: &Schema,
@@ -162,7 +161,6 @@ fn read_answer(
 }
 
 /// What a line that holds a statement says.
-#[tactic(auto, using(crate::proofs::EntrySteps::no_unit, crate::proofs::EntrySteps::no_arrow, crate::proofs::EntrySteps::part_stops, crate::proofs::EntrySteps::no_answer, crate::proofs::EntrySteps::all_said))]
 fn read_entry<'a>(
     alloc: Global,
     schema: &Schema,
@@ -223,7 +221,6 @@ fn whole_fault(line: &[u8], count: usize) -> Option<TraceCause>
 }
 
 /// Takes a line: what it says is appended to what the earlier lines say.
-#[tactic(auto, using(crate::proofs::TraceSteps::whole_stops, crate::proofs::TraceSteps::note_passes, crate::proofs::TraceSteps::entry_decides, crate::proofs::TraceSteps::nothing_said, crate::proofs::TraceSteps::one_said))]
 fn take_line<'a>(
     alloc: Global,
     schema: &Schema,

@@ -5,10 +5,13 @@ use Rattle.dbtg_schema.specs.Lists.{Lists}
 use Rattle.dbtg_cells.specs.declared.key.DbKey.{DbKey}
 use Rattle.dbtg_unit.specs.declared.edit.UnitEdit.TheVariants.{Same, Keep as KeepEdit, Forget, ForgetAll}
 use Rattle.dbtg_unit.specs.declared.statement.Statement.TheVariants.{Get, Keep, Free}
+use Rattle.dbtg_schema.specs.Lookups.{first_cause}
+use Rattle.dbtg_unit.specs.declared.unit.Answer.{Answer}
+use Rattle.dbtg_unit.specs.declared.unit.Cause.{Cause}
 use Rattle.dbtg_unit.specs.declared.unit.Cause.TheVariants.{NoCurrentOfRunUnit}
 use Rattle.dbtg_unit.specs.declared.unit.Unit.{Unit}
 use Rattle.dbtg_unit.specs.Database.State.Base.{Database, items_of}
-use Rattle.dbtg_unit.specs.Database.Statements.Checks.{live_checks, refused_at_once}
+use Rattle.dbtg_unit.specs.Database.Statements.Checks.{about, live_checks, refused_at_once}
 use Rattle.dbtg_unit.specs.Database.Statements.Effect.{done, done_on_current, version_of}
 use Rattle.dbtg_unit.specs.Hands.Hands.{Hands}
 use Rattle.dbtg_unit.specs.Hands.InHand.{in_hand}
@@ -16,12 +19,33 @@ use Rattle.dbtg_unit.specs.Hands.Local.{Agrees}
 use Rattle.dbtg_unit.specs.Hands.Making.{CanFinish, MayPrepare}
 use Rattle.dbtg_unit.specs.Hands.PlanOf.{done_plan, planned_on_current}
 use Rattle.dbtg_unit.specs.Inside.PlanOf.{plan_of}
-use Rattle.dbtg_unit.specs.Hands.Prepared.{IsEffect}
+use Rattle.dbtg_unit.specs.Hands.Prepared.{IsEffect, Plan}
+use Rattle.dbtg_unit.specs.Inside.Prepared.{unless_refusal}
 use Rattle.dbtg_unit.specs.Database.State.Units.{forgotten, noted}
 use Rattle.dbtg_unit.specs.Database.Statements.StoredFacts.{whole}
 use Rattle.dbtg_unit.proofs.Public.{MayPlan, may_plan}
 use Rattle.dbtg_plan.proofs.Plans.EffectIsPlan.{current_plan_is_effect, effect_in_hand, planned_cells}
 use Rattle.dbtg_plan.proofs.Plans.PartByPart.{Makes, makes_done, makes_effect, makes_refusal, no_cells_can_finish}
+
+-- a plan that only answers
+abbrev pub answering : Answer → Plan
+answering answer = record { answer = answer; cells = []; versions = []; unit = Same }
+
+pub get_only_answers : (schema : Lists) (unit : Unit) (hands : Hands) (r : Option ℕ) → plan_of schema (in_hand hands) unit (Get r) ≡ answering (plan_of schema (in_hand hands) unit (Get r)).answer
+get_only_answers schema unit hands r = about_current unit.currency.run_unit where
+  getting : DbKey → Plan
+  getting k = done_plan Same (Some k) (Some ((in_hand hands).items k))
+
+  unless : (c : Option Cause) (k : DbKey) → unless_refusal c (getting k) ≡ answering (unless_refusal c (getting k)).answer
+  unless (Some cause) k = refl
+  unless None k = refl
+
+  planned : Option DbKey → Plan
+  planned current = unless_refusal (first_cause (about current (live_checks (in_hand hands)))) (planned_on_current current getting)
+
+  about_current : (current : Option DbKey) → planned current ≡ answering (planned current).answer
+  about_current None = refl
+  about_current (Some k) = unless (first_cause (live_checks (in_hand hands) k)) k
 
 module _ (schema : Lists) (capacity : ℕ) (unit : Unit) (hands : Hands) where
   module _ (r : Option ℕ) (passes : refused_at_once schema capacity unit (Get r) ≡ None) (may : MayPlan schema capacity unit hands (Get r)) where

@@ -5,7 +5,6 @@ use Rattle.std.specs.Prelude.{Result, Ok, Err, IfOk}
 use Rattle.dbtg_schema.specs.Lists.{Lists}
 use Rattle.dbtg_schema.specs.Lookups.{first_cause}
 use Rattle.dbtg_cells.specs.declared.key.DbKey.{DbKey}
-use Rattle.dbtg_unit.specs.declared.edit.UnitEdit.TheVariants.{Same}
 use Rattle.dbtg_unit.specs.declared.statement.Form.{Form}
 use Rattle.dbtg_unit.specs.declared.statement.Statement.{Statement}
 use Rattle.dbtg_unit.specs.declared.statement.Statement.TheVariants.{Find, Get}
@@ -14,19 +13,19 @@ use Rattle.dbtg_unit.specs.declared.unit.Answer.{Answer}
 use Rattle.dbtg_unit.specs.declared.unit.Cause.{Cause}
 use Rattle.dbtg_unit.specs.declared.unit.Cause.TheVariants.{NoCurrentOfRunUnit}
 use Rattle.dbtg_unit.specs.declared.unit.Unit.{Unit}
-use Rattle.dbtg_unit.specs.Database.Statements.Checks.{about, live_checks, refused_at_once}
+use Rattle.dbtg_unit.specs.Database.Statements.Checks.{about, refused_at_once}
 use Rattle.dbtg_unit.specs.Hands.Hands.{Hands}
 use Rattle.dbtg_unit.specs.Hands.InHand.{in_hand}
 use Rattle.dbtg_unit.specs.Hands.Locality.{IsMadeOnEach, Made, made_by, seen}
 use Rattle.dbtg_unit.specs.Hands.Making.{CanFinish, MayPrepare}
-use Rattle.dbtg_unit.specs.Hands.PlanOf.{done_plan, planned_on_current}
+use Rattle.dbtg_unit.specs.Hands.PlanOf.{planned_on_current}
 use Rattle.dbtg_unit.specs.Hands.Prepared.{Plan, edited_values, guesses_edited, refusal, unit_after, values_of}
 use Rattle.dbtg_unit.specs.Inside.PlanOf.{plan_of}
 use Rattle.dbtg_unit.specs.Inside.Prepared.{unless_refusal}
 use Rattle.dbtg_unit.proofs.Public.{may_plan, plan_makes}
 use Rattle.dbtg_plan.specs.Inside.Finding.{found_in, plan_of_found}
 use Rattle.dbtg_plan.proofs.Find.FindPlans.{find_can_finish}
-use Rattle.dbtg_plan.proofs.Plans.GetKeepFree.{get_finishes}
+use Rattle.dbtg_plan.proofs.Plans.GetKeepFree.{get_finishes, get_only_answers}
 use Rattle.dbtg_plan.proofs.Plans.PartByPart.{refused_finishes}
 
 -- what is seen after the edits of a plan, and with its unit and its guesses, is what the plan makes
@@ -52,18 +51,6 @@ module _ (checks : DbKey → List (Bool × Cause)) (plan : DbKey → Plan) where
 -- MADE
 
 module _ (schema : Lists) (unit : Unit) (hands : Hands) where
-  -- where plans about the current of run-unit only make their answers, so does what is planned after the checks
-  planned_answers : (current : Option DbKey) (checks : DbKey → List (Bool × Cause)) (plan : DbKey → Plan) → ((k : DbKey) → made_by schema unit hands (plan k) ≡ seen (plan k).answer unit hands)
-      → made_by schema unit hands (unless_refusal (first_cause (about current checks)) (planned_on_current current plan)) ≡ seen (unless_refusal (first_cause (about current checks)) (planned_on_current current plan)).answer unit hands
-  planned_answers None checks plan h = refl
-  planned_answers (Some k) checks plan h = by_checks (first_cause (checks k)) where
-    by_checks : (c : Option Cause) → made_by schema unit hands (unless_refusal c (plan k)) ≡ seen (unless_refusal c (plan k)).answer unit hands
-    by_checks (Some cause) = refl
-    by_checks None = h k
-
-  get_answers : (r : Option ℕ) → made_by schema unit hands (plan_of schema (in_hand hands) unit (Get r)) ≡ seen (plan_of schema (in_hand hands) unit (Get r)).answer unit hands
-  get_answers r = planned_answers unit.currency.run_unit (live_checks (in_hand hands)) (λ k. done_plan Same (Some k) (Some ((in_hand hands).items k))) (λ k. refl)
-
   module _ (capacity : ℕ) where
     -- what a plan that can be finished makes is made
     pub plan_is_made : (statement : Statement) (plan : Plan) → MayPrepare schema capacity unit hands statement → CanFinish schema capacity unit hands statement plan → IsMadeOnEach schema capacity unit hands statement (made_by schema unit hands plan)
@@ -93,5 +80,5 @@ module _ (schema : Lists) (unit : Unit) (hands : Hands) where
         → IfOk answered (λ answer. IsMadeOnEach schema capacity unit hands (Get r) (seen answer unit hands))
     get_is_made r may passes (Err e) is = tt
     get_is_made r may passes (Ok answer) is =
-        subst (IsMadeOnEach schema capacity unit hands (Get r)) (get_answers r ∙ ap (λ a. seen a unit hands) (sym is))
+        subst (IsMadeOnEach schema capacity unit hands (Get r)) (ap (made_by schema unit hands) (get_only_answers schema unit hands r) ∙ ap (λ a. seen a unit hands) (sym is))
         (plan_is_made (Get r) (plan_of schema (in_hand hands) unit (Get r)) may (get_finishes schema capacity unit hands r passes may))

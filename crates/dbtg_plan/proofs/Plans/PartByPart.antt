@@ -82,6 +82,13 @@ refused_finishes schema capacity unit hands statement cause e =
     no_cells_can_finish schema capacity unit hands statement (refusal cause) refl
     (λ db agrees. refusal_is_effect schema capacity db unit hands.guesses statement cause (effect_refused schema capacity db unit statement cause e))
 
+-- what equals a plan that can be finished can be finished, for a statement that equals its own
+pub finishes_as_plan : {E : Type 0} (schema : Lists) (capacity : ℕ) (unit : Unit) (hands : Hands) (statement same : Statement) (plan : Plan) → statement ≡ same → CanFinish schema capacity unit hands same plan
+    → (prepared : Result Plan E) → IfOk prepared (λ p. p ≡ plan) → IfOk prepared (λ p. CanFinish schema capacity unit hands statement p)
+finishes_as_plan schema capacity unit hands statement same plan e can (Ok p) is =
+    subst (λ (s : Statement). CanFinish schema capacity unit hands s p) (sym e) (subst (CanFinish schema capacity unit hands same) (sym is) can)
+finishes_as_plan schema capacity unit hands statement same plan e can (Err x) is = tt
+
 -- WHAT IS MADE
 
 -- a plan that can be finished, if memory was found for it, makes the statement

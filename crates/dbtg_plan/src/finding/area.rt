@@ -6,7 +6,6 @@ ghost use Rattle.dbtg_schema.specs.Lookups.{at, final, first, nth};
 ghost use Rattle.dbtg_unit.specs.Database.State.Belongs.{IsWithin};
 ghost use Rattle.dbtg_unit.specs.Database.Statements.Fits.{which_fits};
 ghost use Rattle.dbtg_unit.specs.Database.Statements.Found.{chosen_by_key, found_unless};
-ghost use Rattle.dbtg_unit.specs.declared.statement.Which.TheVariants.{Next, Prior};
 ghost use Rattle.dbtg_unit.specs.declared.unit.Cause.TheVariants.{End};
 ghost use Rattle.dbtg_unit.specs.Hands.Needs.{first_missing};
 ghost use Rattle.dbtg_plan.specs.Inside.Finding.{area_keys_in, is_above, is_below, is_wanted, keys_of_type, keys_wanted};
@@ -222,42 +221,7 @@ fn nth_key(
     }
 }
 
-// The next key after the area's current.
-#[tactic(auto, using(crate::proofs::Find::ChosenKeys::next_chosen, crate::proofs::Find::ChosenKeys::no_next))]
-fn next_key(
-    schema: &Schema,
-    held: &Held,
-    named: &Option<RecordNo>,
-    area: AreaNo,
-    current: &Option<DbKey>,
-) -> Option<DbKey>
-    ensures { result ≡ chosen_by_key Next current.now (area_keys_in schema.now held.now named.now area) }
-{
-    if current.is_none() {
-        return None;
-    }
-    first_key(schema, held, named, area, current)
-}
-
-// The last key before the area's current.
-#[tactic(auto, using(crate::proofs::Find::ChosenKeys::prior_chosen, crate::proofs::Find::ChosenKeys::no_prior))]
-fn prior_key(
-    schema: &Schema,
-    held: &Held,
-    named: &Option<RecordNo>,
-    area: AreaNo,
-    current: &Option<DbKey>,
-) -> Option<DbKey>
-    requires { IfSome current.now (λ k. k.number + 1 < 2 ^ 32) }
-    ensures { result ≡ chosen_by_key Prior current.now (area_keys_in schema.now held.now named.now area) }
-{
-    if current.is_none() {
-        return None;
-    }
-    last_key(schema, held, named, area, current)
-}
-
-// The key that is asked for.
+// The key that is asked for; none comes after or before a current that is not there.
 fn chosen_by_key(
     schema: &Schema,
     held: &Held,
@@ -273,8 +237,14 @@ fn chosen_by_key(
     match which {
         Which::First => first_key(schema, held, named, area, &None),
         Which::Last => last_key(schema, held, named, area, &None),
-        Which::Next => next_key(schema, held, named, area, current),
-        Which::Prior => prior_key(schema, held, named, area, current),
+        Which::Next => match current {
+            Some(_) => first_key(schema, held, named, area, current),
+            None => None,
+        },
+        Which::Prior => match current {
+            Some(_) => last_key(schema, held, named, area, current),
+            None => None,
+        },
         Which::Nth(n) => nth_key(schema, held, named, area, n),
     }
 }

@@ -16,8 +16,8 @@ returns c =
     let unit = c.args.unit.now in
     let k = c.args.key.now in
     let items = c.args.items.now in
-    edits_made schema unit k items c.in_ok-entering.entering c.in_ok-filling.filling c.of.result
+    edits_made schema unit k items c.in_ok-entering.entering c.in_ok-filling.filling c.push_each_join.new.edits
     (c.in_ok-entering.ensures ∙ ap (entering_edit schema k) (c.as_slice-2.ensures ∙ c.get-2.ensures))
-    (c.of.ensures ∙ c.in_ok-push_each_join.ensures
-    ∙ (λ i. c.new-joins.ensures.items i ++ flat_map (λ s. joining_edits schema unit s k (key_item schema s k.rtype ((c.as_slice.ensures ∙ c.get.ensures) i))) (automatic_sets schema k.rtype)))
+    (c.in_ok-push_each_join.ensures
+    ∙ (λ i. (c.of-joins.ensures ∙ c.new.ensures.items) i ++ flat_map (λ s. joining_edits schema unit s k (key_item schema s k.rtype ((c.as_slice.ensures ∙ c.get.ensures) i))) (automatic_sets schema k.rtype)))
     (c.in_ok-filling.ensures ∙ ap (λ (owners : List (Option Owner)). slot_edit k (Fill (first_version k.generation items owners))) c.requires)

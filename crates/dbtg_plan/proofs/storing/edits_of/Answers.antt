@@ -17,9 +17,8 @@ returns c =
     let schema = c.args.schema.now in
     let unit = c.args.unit.now in
     let k = c.args.key.now in
-    c.of.ensures
-    ∙ edits_pushed schema unit k c.args.items.now c.push.new.self.items c.push_each_join.new.edits.items c.push_openings.new.edits.items c.push-2.new.self.items
-    (c.in_ok-push.ensures.items ∙ (λ i. c.in_ok-edits.ensures.items i ++ (c.in_ok-entering.ensures ∙ ap (entering_edit schema k) (c.as_slice.ensures ∙ c.get.ensures)) i ∷ []))
-    (c.in_ok-push_each_join.ensures ∙ ap (λ (items : List Value). c.push.new.self.items ++ flat_map (λ s. joining_edits schema unit s k (key_item schema s k.rtype items)) (automatic_sets schema k.rtype)) (c.as_slice-2.ensures ∙ c.get-2.ensures))
+    edits_pushed schema unit k c.args.items.now c.push.new.self c.push_each_join.new.edits c.push_openings.new.edits c.push-2.new.self
+    (c.in_ok-push.ensures.ok ∙ (λ i. (c.of-edits.ensures ∙ c.in_ok-with_capacity.ensures.items) i ++ (c.in_ok-entering.ensures ∙ ap (entering_edit schema k) (c.as_slice.ensures ∙ c.get.ensures)) i ∷ []))
+    (c.in_ok-push_each_join.ensures ∙ ap (λ (items : List Value). c.push.new.self ++ flat_map (λ s. joining_edits schema unit s k (key_item schema s k.rtype items)) (automatic_sets schema k.rtype)) (c.as_slice-2.ensures ∙ c.get-2.ensures))
     c.in_ok-push_openings.ensures
-    (c.in_ok-push-2.ensures.items ∙ ap (λ (e : CellEdit). c.push_openings.new.edits.items ++ e ∷ []) (c.in_ok-filling.ensures ∙ ap (λ (owners : List (Option Owner)). slot_edit k (Fill (first_version k.generation c.args.items.now owners))) c.requires))
+    (c.in_ok-push-2.ensures.ok ∙ ap (λ (e : CellEdit). c.push_openings.new.edits ++ e ∷ []) (c.in_ok-filling.ensures ∙ ap (λ (owners : List (Option Owner)). slot_edit k (Fill (first_version k.generation c.args.items.now owners))) c.requires))

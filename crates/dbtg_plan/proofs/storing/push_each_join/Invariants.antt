@@ -7,5 +7,5 @@ use Rattle.dbtg_plan.proofs.storing.push_each_join.Given as goal
 
 abbrev pub invariant-loop-set : goal.invariant-loop-set
 invariant-loop-set l =
-    l.edits.items ++ flat_map (λ s. joining_edits l.schema l.unit s l.key (key_item l.schema s l.key.rtype l.items)) (drop l.set-index l.set-items)
-    ≡ l.initial.edits.items ++ flat_map (λ s. joining_edits l.schema l.unit s l.key (key_item l.schema s l.key.rtype l.items)) (automatic_sets l.schema l.key.rtype)
+    l.edits ++ flat_map (λ s. joining_edits l.schema l.unit s l.key (key_item l.schema s l.key.rtype l.items)) (drop l.set-index l.set-items)
+    ≡ l.initial.edits ++ flat_map (λ s. joining_edits l.schema l.unit s l.key (key_item l.schema s l.key.rtype l.items)) (automatic_sets l.schema l.key.rtype)

@@ -14,7 +14,8 @@ returns-then-is_some c =
     let f : ℕ → List (Bool × Cause) = λ s. place_checks c.args.schema.now (in_hand c.args.held.now) c.args.unit.now s (key_item c.args.schema.now s c.args.rtype c.args.items.now) in
     let sets = c.automatic_sets-set-items.result.now in
     let i = c.loop-set.set-index in
-    let is : c.in_ok-cause.cause ≡ first_cause (f c.set-item.result) = c.in_ok-cause.ensures in
+    let is : c.place_refusal-cause.result ≡ first_cause (f c.set-item.result) =
+    c.place_refusal-cause.ensures ∙ ap (λ v. first_cause (place_checks c.args.schema.now (in_hand c.args.held.now) c.args.unit.now c.set-item.result v)) c.in_ok-sort_key.ensures in
     is
     ∙ sym (cause_here (f c.set-item.result) (flat_map f (drop (i + 1) sets)) (ap is_some (sym is) ∙ sym c.is_some.ensures ∙ c.if-is_some.true))
     ∙ ap (λ (ss : List ℕ). first_cause (flat_map f ss)) (sym (left_next sets i c.set-item.result c.loop-set-test.true c.set-item.is))
@@ -25,7 +26,8 @@ loop-set-preserved c =
     let f : ℕ → List (Bool × Cause) = λ s. place_checks c.args.schema.now (in_hand c.args.held.now) c.args.unit.now s (key_item c.args.schema.now s c.args.rtype c.args.items.now) in
     let sets = c.automatic_sets-set-items.result.now in
     let i = c.loop-set.set-index in
-    let is : c.in_ok-cause.cause ≡ first_cause (f c.set-item.result) = c.in_ok-cause.ensures in
+    let is : c.place_refusal-cause.result ≡ first_cause (f c.set-item.result) =
+    c.place_refusal-cause.ensures ∙ ap (λ v. first_cause (place_checks c.args.schema.now (in_hand c.args.held.now) c.args.unit.now c.set-item.result v)) c.in_ok-sort_key.ensures in
     sym (cause_behind (f c.set-item.result) (flat_map f (drop (i + 1) sets)) (ap is_some (sym is) ∙ sym c.is_some.ensures ∙ c.if-is_some.false))
     ∙ ap (λ (ss : List ℕ). first_cause (flat_map f ss)) (sym (left_next sets i c.set-item.result c.loop-set-test.true c.set-item.is))
     ∙ c.loop-set.invariant

@@ -6,8 +6,20 @@ use Rattle.dbtg_script.specs.declared.line_cache.Seen.{Seen}
 use Rattle.dbtg_trace.specs.declared.traced.Traced.{Traced}
 use Rattle.dbtg_trace.specs.Inside.AnswerCache.{AreSaid, IsSaid}
 use Rattle.dbtg_trace.proofs.CachedAnswers.{said_next, still_said}
-use Rattle.dbtg_trace.proofs.EntrySteps.{all_said, entry_refused, no_answer}
+use Rattle.dbtg_trace.proofs.EntrySteps.{all_said, entry_refused, no_answer, no_arrow, no_unit}
 use Rattle.dbtg_trace.proofs.reader.read_entry.Goals as goal
+
+pub returns-in_default-clause-refused : goal.returns-in_default-clause-refused
+returns-in_default-clause-refused c =
+    let none : unit_named c.args.units c.args.line.text.now ≡ None = search rules in
+    no_unit c.args.schema.now c.args.units c.args.line.text.now none
+
+pub returns-in_default-halves-clause-refused : goal.returns-in_default-halves-clause-refused
+returns-in_default-halves-clause-refused c =
+    let line = c.args.line.text.now in
+    let unit : unit_named c.args.units line ≡ Some c.in-Some.unit = search rules in
+    let none : halves line ≡ None = search rules in
+    no_arrow c.args.schema.now c.args.units c.in-Some.unit line unit none
 
 pub returns-in_err-statement-clause-refused : goal.returns-in_err-statement-clause-refused
 returns-in_err-statement-clause-refused c =

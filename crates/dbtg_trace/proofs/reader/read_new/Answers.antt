@@ -1,12 +1,24 @@
-use Rattle.std.proofs.Common.{rules, ◌≡◌, ◌∷◌, ◌++◌, [], List, Some, arith, length, subst, sym, true, ℕ}
+use Rattle.std.proofs.Common.{rules, ◌≡◌, ◌∷◌, ◌++◌, ◌∙◌, [], List, Some, ap, arith, false, length, subst, sym, true, ℕ}
+use Rattle.std.specs.Prelude.{option_map}
 use Rattle.dbtg_script.specs.Lines.{is_statement, trimmed}
 use Rattle.dbtg_script.specs.LineCache.{IsRead}
 use Rattle.dbtg_script.specs.Statements.{line_statement}
 use Rattle.dbtg_script.proofs.Public.{still_cached}
+use Rattle.dbtg_trace.specs.declared.fault.TraceCause.TheVariants.{AsInScript}
 use Rattle.dbtg_trace.specs.Inside.Reading.{statements_in}
 use Rattle.dbtg_trace.proofs.CachedSteps.{read_alone, read_next}
-use Rattle.dbtg_trace.proofs.EntrySteps.{at_once_of_line, part_refused, part_told}
+use Rattle.dbtg_trace.proofs.EntrySteps.{at_once_of_line, no_statement, of_line, part_refused, part_told}
 use Rattle.dbtg_trace.proofs.reader.read_new.Goals as goal
+
+pub returns-then-not-is_statement-clause-refused : goal.returns-then-not-is_statement-clause-refused
+returns-then-not-is_statement-clause-refused c =
+    let none : is_statement (trimmed c.args.part.now) ≡ false = search rules in
+    no_statement c.args.schema.now c.args.part.now none
+
+pub returns-in-Ok-Some-clause-accepted : goal.returns-in-Ok-Some-clause-accepted
+returns-in-Ok-Some-clause-accepted c =
+    let one : is_statement (trimmed c.args.part.now) ≡ true = search rules in
+    of_line c.args.schema.now c.args.part.now one ∙ ap (option_map AsInScript) c.in-Ok-Some.ensures.accepted
 
 pub returns-in-Err-clause-refused : goal.returns-in-Err-clause-refused
 returns-in-Err-clause-refused c =

@@ -2,7 +2,7 @@ use Rattle.std.proofs.Common.{◌≡◌, drop}
 use Rattle.std.specs.List.{flat_map}
 use Rattle.dbtg_erase.specs.NextCell.{first_missing}
 use Rattle.dbtg_erase.specs.WorkList.{cells_of_gone}
-use Rattle.dbtg_erase.proofs.records.first_of_all.Given as goal
+use Rattle.dbtg_erase.proofs.course.first_of_all.Given as goal
 
 abbrev pub invariant-loop-key : goal.invariant-loop-key
 invariant-loop-key l =

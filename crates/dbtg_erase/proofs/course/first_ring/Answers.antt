@@ -4,7 +4,7 @@ use Rattle.dbtg_schema.specs.Structure.{owns}
 use Rattle.dbtg_erase.specs.NextCell.{is_missing}
 use Rattle.dbtg_erase.specs.Inside.NextCell.{ring_of}
 use Rattle.dbtg_erase.proofs.FirstNames.{first_end, first_found, first_further, splits_map}
-use Rattle.dbtg_erase.proofs.records.first_ring.Goals as goal
+use Rattle.dbtg_erase.proofs.course.first_ring.Goals as goal
 
 pub returns-in-Some : goal.returns-in-Some
 returns-in-Some c =

@@ -4,7 +4,7 @@ use Rattle.dbtg_schema.specs.Structure.{owns, set_numbers}
 use Rattle.dbtg_unit.specs.Hands.Erasing.{own_rings}
 use Rattle.dbtg_erase.specs.NextCell.{first_missing}
 use Rattle.dbtg_erase.specs.Inside.NextCell.{ring_of}
-use Rattle.dbtg_erase.proofs.records.first_ring.Given as goal
+use Rattle.dbtg_erase.proofs.course.first_ring.Given as goal
 
 abbrev pub invariant-loop-s : goal.invariant-loop-s
 invariant-loop-s l =
