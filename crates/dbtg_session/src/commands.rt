@@ -283,10 +283,10 @@ impl<'a> Shell<'a> {
     fn reply_to<'b>(&self, command: &'b str) -> Result<Reply<'b>, AllocError> {
         let (name, rest) = command_of(command);
         match name.as_bytes() {
+            b"explain" if rest.is_empty() => self.explain_last(),
             b"explain" => self.explain(rest),
-            b"load" if rest.is_empty() => self.text(NO_FILE),
+            b"load" | b"run" if rest.is_empty() => self.text(NO_FILE),
             b"load" => Ok(Reply::Load(rest)),
-            b"run" if rest.is_empty() => self.text(NO_FILE),
             b"run" => Ok(Reply::Run(rest)),
             b"save" if rest.is_empty() => self.text(NO_DIRECTORY),
             b"save" => Ok(Reply::Save(rest)),
@@ -341,9 +341,6 @@ impl<'a> Shell<'a> {
 
     fn explain<'b>(&self, rest: &str) -> Result<Reply<'b>, AllocError> {
         let words = words_of(self.alloc, rest)?;
-        if words.is_empty() {
-            return self.explain_last();
-        }
         match topic_of(words.as_slice()) {
             Some(topic) => Ok(Reply::Text(explained(self.alloc, &topic)?)),
             None => self.text(NO_TOPIC),
