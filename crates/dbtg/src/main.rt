@@ -5,6 +5,8 @@ ghost use Rattle.std.specs.Prelude.{◌≡◌, ◌<◌, IfErr, true};
 ghost use Rattle.std.specs.Process.{exit_status};
 ghost use Rattle.dbtg_schema.specs.Sound.{IsSound};
 ghost use Rattle.dbtg_command.specs.Refusals.{is_count, status_of};
+ghost use Rattle.dbtg_command.specs.Sources.{kind_of};
+ghost use Rattle.dbtg_command.specs.declared.order.OrderKind.TheVariants.{Serial};
 
 mod progress;
 mod replay;
@@ -34,7 +36,7 @@ use dbtg_session::Session;
 use dbtg_shell::{Broken, converse, write_file};
 use dbtg_unit::LAST_UNIT;
 use progress::Progress;
-use std::alloc::Global;
+use std::alloc::{AllocError, Global};
 use std::env;
 use std::io::{self, IsTerminal, Write};
 use std::process::ExitCode;
@@ -63,12 +65,8 @@ fn told(rt: &HostRuntime, fault: &Fault) -> ExitCode
     ExitCode::from(status_of(fault))
 }
 
-fn print_text(rt: &HostRuntime, text: &[u8]) -> ExitCode {
-    print_with(rt, text, ExitCode::SUCCESS)
-}
-
 // The text, and this status if it could be written.
-fn print_with(rt: &HostRuntime, text: &[u8], status: ExitCode) -> ExitCode {
+fn print_text(rt: &HostRuntime, text: &[u8], status: ExitCode) -> ExitCode {
     let mut out = io::writer(rt);
     match out.write_all(text) {
         Ok(()) => status,
@@ -100,7 +98,7 @@ fn print_or_tell(
     ensures { IfErr given (λ fault. exit_status result ≡ status_of fault) }
 {
     match given {
-        Ok(text) => print_text(rt, text.as_slice()),
+        Ok(text) => print_text(rt, text.as_slice(), ExitCode::SUCCESS),
         Err(fault) => told_of(rt, &fault, paths, explains),
     }
 }
@@ -186,32 +184,39 @@ fn tell_each(rt: &HostRuntime, files: &Files<HostRuntime>, call: &Call) -> ExitC
     }
 }
 
-fn print_files(rt: &HostRuntime, call: &Call) -> ExitCode {
-    let paths = paths_of(call.schema, call.scripts.as_slice(), call.order);
-    let files = Files {
-        reader: rt,
-        paths: &paths,
-    };
+fn print_files(rt: &HostRuntime, files: &Files<HostRuntime>, call: &Call) -> ExitCode {
     if call.all {
-        return tell_each(rt, &files, call);
+        return tell_each(rt, files, call);
     }
-    let given = printed(rt, &files, call);
-    print_run(rt, given, &files, call)
+    let given = printed(rt, files, call);
+    print_run(rt, given, files, call)
 }
 
-// The text of a run, or its fault; beside the text, which statements of the script that is made first were refused.
+// The text of a run, or its fault.
 fn print_run(
     rt: &HostRuntime,
     given: Result<Vec<u8>, Fault>,
     files: &Files<HostRuntime>,
     call: &Call,
 ) -> ExitCode {
-    if given.is_ok() {
-        if let Err(fault) = tell_refusals(rt, files, call) {
-            return told(rt, &fault);
-        }
+    match given {
+        Ok(text) => print_ran(rt, text.as_slice(), ExitCode::SUCCESS, files, call),
+        Err(fault) => told_of(rt, &fault, files.paths, explains(rt, call)),
     }
-    print_or_tell(rt, given, files.paths, explains(rt, call))
+}
+
+// The text of a run, with this status; beside it, which statements of the script that is made first were refused.
+fn print_ran(
+    rt: &HostRuntime,
+    text: &[u8],
+    status: ExitCode,
+    files: &Files<HostRuntime>,
+    call: &Call,
+) -> ExitCode {
+    match tell_refusals(rt, files, call) {
+        Ok(()) => print_text(rt, text, status),
+        Err(fault) => told(rt, &fault),
+    }
 }
 
 // Does a run begin with a script that can be read again? Standard input cannot.
@@ -235,29 +240,25 @@ fn tell_refusals(rt: &HostRuntime, files: &Files<HostRuntime>, call: &Call) -> R
         return Ok(());
     }
     match refusals_of_first(rt.alloc(), files, call.capacity) {
-        Ok(told) => {
-            let lines = String::from_utf8_lossy(rt.alloc(), told.as_slice())?;
-            let _ = eprint!(rt; "{lines}");
-            Ok(())
-        }
+        Ok(told) => Ok(tell_text(rt, told.as_slice())?),
         Err(Fault::Memory) => Err(Fault::Memory),
         Err(_) => Ok(()),
     }
 }
 
-fn print_threads<R: Threads + Wait + Sync>(rt: &HostRuntime, threads: &R, call: &Call) -> ExitCode {
-    let paths = paths_of(call.schema, call.scripts.as_slice(), Order::Serial);
-    let files = Files {
-        reader: rt,
-        paths: &paths,
-    };
+fn print_threads<R: Threads + Wait + Sync>(
+    rt: &HostRuntime,
+    threads: &R,
+    files: &Files<HostRuntime>,
+    call: &Call,
+) -> ExitCode {
     let form = answer_form(call);
-    match run_on_threads(threads, rt.alloc(), &files, call.capacity, form, call.first) {
-        Ok(said) => match tell_refusals(rt, &files, call) {
+    match run_on_threads(threads, rt.alloc(), files, call.capacity, form, call.first) {
+        Ok(said) => match tell_refusals(rt, files, call) {
             Ok(()) => print_saved(rt, &said, call.saved),
             Err(fault) => told(rt, &fault),
         },
-        Err(fault) => told_of(rt, &fault, &paths, explains(rt, call)),
+        Err(fault) => told_of(rt, &fault, files.paths, explains(rt, call)),
     }
 }
 
@@ -275,7 +276,7 @@ fn are_saved(rt: &HostRuntime, turns: &[u8], saved: Option<&str>) -> bool {
 // The turns, and then what is printed.
 fn print_saved(rt: &HostRuntime, said: &OnThreads, saved: Option<&str>) -> ExitCode {
     if are_saved(rt, said.turns.as_slice(), saved) {
-        print_text(rt, said.printed.as_slice())
+        print_text(rt, said.printed.as_slice(), ExitCode::SUCCESS)
     } else {
         ExitCode::FAILURE
     }
@@ -300,20 +301,16 @@ fn run_options(call: &Call) -> RunOptions {
 fn print_programs<R: Threads + Wait + Sync>(
     rt: &HostRuntime,
     threads: &R,
+    files: &Files<HostRuntime>,
     call: &Call,
 ) -> ExitCode {
-    let paths = paths_of(call.schema, call.scripts.as_slice(), call.order);
-    let files = Files {
-        reader: rt,
-        paths: &paths,
-    };
     let options = run_options(call);
     if !call.threads {
-        return print_said(rt, run(rt.alloc(), &files, options), &paths, call);
+        return print_said(rt, run(rt.alloc(), files, options), files.paths, call);
     }
-    match run_programs_on_threads(threads, rt.alloc(), &files, options) {
+    match run_programs_on_threads(threads, rt.alloc(), files, options) {
         Ok(said) => print_programs_saved(rt, &said, call.saved),
-        Err(fault) => told_of(rt, &fault, &paths, call.explains),
+        Err(fault) => told_of(rt, &fault, files.paths, call.explains),
     }
 }
 
@@ -325,28 +322,23 @@ fn print_programs_saved(
 ) -> ExitCode {
     if are_saved(rt, said.turns.as_slice(), saved) {
         let printed = &said.printed;
-        print_with(rt, printed.text.as_slice(), status_of_programs(printed))
+        print_text(rt, printed.text.as_slice(), status_of_programs(printed))
     } else {
         ExitCode::FAILURE
     }
 }
 
-fn tell_explored(rt: &HostRuntime, call: &Call) -> ExitCode {
-    let paths = paths_of(call.schema, call.scripts.as_slice(), call.order);
+fn tell_explored(rt: &HostRuntime, files: &Files<HostRuntime>, call: &Call) -> ExitCode {
     let asked = Exploring {
         capacity: call.capacity,
         around: around_of(call),
         brief: call.brief,
         limit: call.limit,
     };
-    let files = Files {
-        reader: rt,
-        paths: &paths,
-    };
     let progress = Progress::begin(rt);
-    let said = explore_programs(rt.alloc(), &progress, &files, asked);
+    let said = explore_programs(rt.alloc(), &progress, files, asked);
     progress.end();
-    print_said(rt, said, &paths, call)
+    print_said(rt, said, files.paths, call)
 }
 
 // What a command prints of programs, or its fault.
@@ -357,7 +349,7 @@ fn print_said(
     call: &Call,
 ) -> ExitCode {
     match said {
-        Ok(said) => print_with(rt, said.text.as_slice(), status_of_programs(&said)),
+        Ok(said) => print_text(rt, said.text.as_slice(), status_of_programs(&said)),
         Err(fault) => told_of(rt, &fault, paths, call.explains),
     }
 }
@@ -375,11 +367,7 @@ fn print_turns(rt: &HostRuntime, call: &Call) -> ExitCode {
         Order::Turns(path) => path,
         _ => "",
     };
-    let paths = Paths {
-        schema: call.schema,
-        scripts: call.scripts.as_slice(),
-        order: Order::Turns(turns),
-    };
+    let paths = paths_of(call, Order::Turns(turns));
     let files = Files {
         reader: rt,
         paths: &paths,
@@ -388,39 +376,34 @@ fn print_turns(rt: &HostRuntime, call: &Call) -> ExitCode {
     print_or_tell(rt, given, &paths, explains(rt, call))
 }
 
-fn print_audit(rt: &HostRuntime, call: &Call) -> ExitCode {
+fn print_audit(rt: &HostRuntime, files: &Files<HostRuntime>, call: &Call) -> ExitCode {
     match check_count(call.units as usize) {
-        Ok(()) => audit_files(rt, call),
+        Ok(()) => audit_files(rt, files, call),
         Err(fault) => told(rt, &fault),
     }
 }
 
-fn audit_files(rt: &HostRuntime, call: &Call) -> ExitCode
+fn audit_files(rt: &HostRuntime, files: &Files<HostRuntime>, call: &Call) -> ExitCode
     requires { is_count call.now.units ≡ true }
 {
-    let paths = paths_of(call.schema, call.scripts.as_slice(), Order::Serial);
-    let files = Files {
-        reader: rt,
-        paths: &paths,
-    };
     let options = AuditOptions {
         capacity: call.capacity,
         units: call.units as u8,
         statuses: call.statuses,
         all: call.all,
     };
-    match audit(rt.alloc(), &files, options) {
-        Ok(said) => match tell_refusals(rt, &files, call) {
+    match audit(rt.alloc(), files, options) {
+        Ok(said) => match tell_refusals(rt, files, call) {
             Ok(()) => print_verdict(rt, &said, call.explains),
             Err(fault) => told(rt, &fault),
         },
-        Err(fault) => told_of(rt, &fault, &paths, call.explains),
+        Err(fault) => told_of(rt, &fault, files.paths, call.explains),
     }
 }
 
 fn print_verdict(rt: &HostRuntime, said: &Verdict, explains: bool) -> ExitCode {
     match said {
-        Verdict::Equal(text) => print_text(rt, text.as_slice()),
+        Verdict::Equal(text) => print_text(rt, text.as_slice(), ExitCode::SUCCESS),
         Verdict::Differs { told, status } => {
             tell_difference(rt, told.as_slice(), *status, explains)
         }
@@ -428,10 +411,10 @@ fn print_verdict(rt: &HostRuntime, said: &Verdict, explains: bool) -> ExitCode {
     }
 }
 
-fn tell_text(rt: &HostRuntime, text: &[u8]) {
-    if let Ok(lines) = String::from_utf8_lossy(rt.alloc(), text) {
-        let _ = eprint!(rt; "{lines}");
-    }
+fn tell_text(rt: &HostRuntime, text: &[u8]) -> Result<(), AllocError> {
+    let lines = String::from_utf8_lossy(rt.alloc(), text)?;
+    let _ = eprint!(rt; "{lines}");
+    Ok(())
 }
 
 // The line of a trace that differs; with `--explain` what its status means.
@@ -445,28 +428,23 @@ fn tell_difference(rt: &HostRuntime, line: &[u8], status: u16, explains: bool) -
 
 // The lines of a trace that differ.
 fn tell_lines(rt: &HostRuntime, lines: &[u8]) -> ExitCode {
-    let Ok(lines) = String::from_utf8_lossy(rt.alloc(), lines) else {
-        return told(rt, &Fault::Memory);
-    };
-    let _ = eprint!(rt; "{lines}");
-    ExitCode::FAILURE
+    match tell_text(rt, lines) {
+        Ok(()) => ExitCode::FAILURE,
+        Err(_) => told(rt, &Fault::Memory),
+    }
 }
 
 // What `explain` says of a status.
 fn tell_status(rt: &HostRuntime, status: u16) {
     if let Some(topic) = status_topic(status) {
         if let Ok(text) = explained(rt.alloc(), &topic) {
-            tell_text(rt, text.as_slice());
+            let _ = tell_text(rt, text.as_slice());
         }
     }
 }
 
 fn tell_outcomes(rt: &HostRuntime, call: &Call) -> ExitCode {
-    let paths = Paths {
-        schema: call.schema,
-        scripts: call.scripts.as_slice(),
-        order: Order::Serial,
-    };
+    let paths = paths_of(call, Order::Serial);
     let files = Files {
         reader: rt,
         paths: &paths,
@@ -479,7 +457,7 @@ fn tell_outcomes(rt: &HostRuntime, call: &Call) -> ExitCode {
         limit: call.limit,
     };
     if let Some(wished) = call.wish {
-        return tell_judged(rt, call, options, wished);
+        return tell_judged(rt, &files, call, options, wished);
     }
     let progress = Progress::begin(rt);
     let given = print_outcomes(rt.alloc(), &progress, &files, options);
@@ -499,40 +477,31 @@ fn wish_of(wished: Wished) -> Wish
 }
 
 // The result of a wish, with a status of its own if some order breaks it.
-fn tell_judged(rt: &HostRuntime, call: &Call, options: ListingOptions, wished: Wished) -> ExitCode {
-    let paths = Paths {
-        schema: call.schema,
-        scripts: call.scripts.as_slice(),
-        order: Order::Serial,
-    };
-    let files = Files {
-        reader: rt,
-        paths: &paths,
-    };
-    let progress = Progress::begin(rt);
-    let judged = judge_outcomes(rt.alloc(), &progress, &files, options, wish_of(wished));
-    progress.end();
-    match judged {
-        Ok(Judged::Kept(text)) => print_run(rt, Ok(text), &files, call),
-        Ok(Judged::Broken(text)) => print_broken(rt, text, &files, call),
-        Ok(Judged::NoStatement) => no_statement(rt, wished),
-        Err(fault) => print_run(rt, Err(fault), &files, call),
-    }
-}
-
-fn print_broken(
+fn tell_judged(
     rt: &HostRuntime,
-    text: Vec<u8>,
     files: &Files<HostRuntime>,
     call: &Call,
-) -> ExitCode {
-    if let Err(fault) = tell_refusals(rt, files, call) {
-        return told(rt, &fault);
-    }
-    let mut out = io::writer(rt);
-    match out.write_all(text.as_slice()) {
-        Ok(()) => ExitCode::from(WISH_BROKEN),
-        Err(error) => not_written(rt, &error),
+    options: ListingOptions,
+    wished: Wished,
+) -> ExitCode
+    requires { kind_of files.now.paths.now.order ≡ Serial }
+{
+    let progress = Progress::begin(rt);
+    let judged = judge_outcomes(rt.alloc(), &progress, files, options, wish_of(wished));
+    progress.end();
+    match judged {
+        Ok(Judged::Kept(text)) => print_ran(rt, text.as_slice(), ExitCode::SUCCESS, files, call),
+        Ok(Judged::Broken(text)) => {
+            print_ran(
+                rt,
+                text.as_slice(),
+                ExitCode::from(WISH_BROKEN),
+                files,
+                call,
+            )
+        }
+        Ok(Judged::NoStatement) => no_statement(rt, wished),
+        Err(fault) => told_of(rt, &fault, files.paths, explains(rt, call)),
     }
 }
 
@@ -542,10 +511,13 @@ fn no_statement(rt: &HostRuntime, wished: Wished) -> ExitCode {
     ExitCode::from(WRONG_WORDS)
 }
 
-fn paths_of<'a>(schema: &'a str, scripts: &'a [&'a str], order: Order<&'a str>) -> Paths<'a> {
+// What a call names, with this order.
+fn paths_of<'a>(call: &'a Call<'a>, order: Order<&'a str>) -> Paths<'a>
+    ensures { result.order ≡ order.entry }
+{
     Paths {
-        schema,
-        scripts,
+        schema: call.schema,
+        scripts: call.scripts.as_slice(),
         order,
     }
 }
@@ -554,27 +526,37 @@ fn carry_out<R: Threads + Wait + Sync>(rt: &HostRuntime, threads: &R, call: &Cal
     match call.named {
         Named::Turns => print_turns(rt, call),
         Named::Outcomes => tell_outcomes(rt, call),
-        Named::Threads => print_threads(rt, threads, call),
-        Named::Run => print_programs(rt, threads, call),
-        Named::Explore => tell_explored(rt, call),
-        Named::Audit => print_audit(rt, call),
         Named::Explain => print_topic(rt, &call.topic),
-        Named::Shell => run_shell(rt, call),
-        _ => print_files(rt, call),
+        _ => carry_out_with_files(rt, threads, call),
     }
 }
 
-fn run_shell(rt: &HostRuntime, call: &Call) -> ExitCode {
-    let paths = paths_of(call.schema, call.scripts.as_slice(), Order::Serial);
-    open_shell(rt, &paths, call)
+// What takes its texts from the files that are named, in whatever order is given.
+fn carry_out_with_files<R: Threads + Wait + Sync>(
+    rt: &HostRuntime,
+    threads: &R,
+    call: &Call,
+) -> ExitCode {
+    let paths = paths_of(call, call.order);
+    let files = Files {
+        reader: rt,
+        paths: &paths,
+    };
+    match call.named {
+        Named::Threads => print_threads(rt, threads, &files, call),
+        Named::Run => print_programs(rt, threads, &files, call),
+        Named::Explore => tell_explored(rt, &files, call),
+        Named::Audit => print_audit(rt, &files, call),
+        Named::Shell => open_shell(rt, &files, call),
+        _ => print_files(rt, &files, call),
+    }
 }
 
 // A fault of the schema is printed with its word.
-fn open_shell(rt: &HostRuntime, paths: &Paths, call: &Call) -> ExitCode {
-    let files = Files { reader: rt, paths };
-    match read_schema(rt.alloc(), &files) {
+fn open_shell(rt: &HostRuntime, files: &Files<HostRuntime>, call: &Call) -> ExitCode {
+    match read_schema(rt.alloc(), files) {
         Ok(known) => { open_units(rt, &known, call) }
-        Err(fault) => told_of(rt, &fault, paths, true),
+        Err(fault) => told_of(rt, &fault, files.paths, true),
     }
 }
 
@@ -611,7 +593,7 @@ fn end_of(rt: &HostRuntime, ended: Result<(), Broken>) -> ExitCode {
 
 fn print_topic(rt: &HostRuntime, topic: &Topic) -> ExitCode {
     match explained(rt.alloc(), topic) {
-        Ok(text) => print_text(rt, text.as_slice()),
+        Ok(text) => print_text(rt, text.as_slice(), ExitCode::SUCCESS),
         Err(_) => told(rt, &Fault::Memory),
     }
 }

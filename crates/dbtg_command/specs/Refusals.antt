@@ -1,6 +1,6 @@
 -- What the texts say that the program is given; their first fault, in the order number of scripts, schema, scripts, moves or turns;
 -- and the status with which it ends. text is a text's bytes, n the number of a script, from 1.
-use Rattle.std.specs.Prelude.{◌≡◌, ℕ, ◌+◌, ◌≤◌, Bool, true, false, ◌&&◌, nat_le, List, [], ◌∷◌, Option, Some, None, ◌⊎◌, length}
+use Rattle.std.specs.Prelude.{◌≡◌, ℕ, ◌+◌, ◌≤◌, true, false, List, [], ◌∷◌, Option, Some, None, ◌⊎◌, length}
 use Rattle.dbtg_schema.specs.Texts.Forms.{labels}
 use Rattle.dbtg_schema.specs.Lists.{Lists}
 use Rattle.dbtg_schema.specs.Lookups.{first}
@@ -15,6 +15,8 @@ use Rattle.dbtg_script.specs.Moves.{RefusedAtOnce, moves_of, refusal as moves_re
 use Rattle.dbtg_script.specs.Reading.{script_faults_at_once}
 use Rattle.dbtg_script.specs.StatementFaults.{refusal as script_refusal}
 use Rattle.dbtg_script.specs.Turns.{turns_of, turns_refusal}
+-- 1 to 8 scripts, one for each unit
+pub use Rattle.dbtg_explain.specs.Units.{is_count}
 use Rattle.dbtg_program.specs.declared.fault.Fault.{Fault as ProgramRefusal}
 use Rattle.dbtg_script.specs.declared.fault.Fault.{Fault as ScriptRefusal}
 use Rattle.dbtg_script.specs.declared.moves.MovesCause.{MovesCause}
@@ -181,10 +183,6 @@ abbrev pub RefusesOrder : Fault → Order (List ℕ) → Type 0
 RefusesOrder fault by.Serial = fault ≡ Memory
 RefusesOrder fault (by.Moves text) = RefusesMoves fault (moves_refusal text)
 RefusesOrder fault (by.Turns text) = RefusesTurns fault (turns_refusal text)
-
--- 1 to 8 scripts, one for each unit
-abbrev pub is_count : ℕ → Bool
-is_count n = nat_le 1 n && nat_le n 8
 
 -- a wrong number of scripts, or else the first fault of schema, scripts and moves or turns, unless memory ran out
 abbrev pub RefusesReplay : Fault → List ℕ → List (List ℕ) → Order (List ℕ) → Type 0

@@ -16,24 +16,6 @@ use clap::error::ErrorKind;
 use clap::{Command, Error};
 use std::alloc::{AllocError, Global};
 
-// The command, with this word added to those that it can be given.
-fn taking<'a>(
-    alloc: Global,
-    command: Command<'a>,
-    word: Word<'a>,
-) -> Result<Command<'a>, AllocError>
-    ensures app { IfOk result (λ r. app_of r ≡ with_rule (app_of command.entry) (rule_for word.entry)) }
-    ensures local { IfOk result (λ r. (fields_of r).has_globals ≡ (fields_of command.entry).has_globals) }
-{
-    match arg_of(alloc, word) {
-        Ok(arg) => command.arg(arg),
-        Err(refused) => {
-            drop(command);
-            Err(refused)
-        }
-    }
-}
-
 // What a command does, an example, and its arguments, in the order of its help; its usage shows it by this name.
 fn described<'a>(
     alloc: Global,
@@ -46,7 +28,7 @@ fn described<'a>(
 {
     let mut command = Command::new(alloc, name).about(about).after_help(example);
     for word in words {
-        command = taking(alloc, command, *word)?;
+        command = command.arg(arg_of(alloc, *word)?)?;
     }
     Ok(command)
 }
@@ -393,23 +375,6 @@ fn command_of<'a>(alloc: Global, named: Named, name: &'a str) -> Result<Command<
     }
 }
 
-// The command, with this one added to those that it can be asked for.
-fn asked_also<'a>(
-    alloc: Global,
-    command: Command<'a>,
-    named: Named,
-) -> Result<Command<'a>, AllocError>
-    ensures { IfOk result (λ r. app_of r ≡ with_command (app_of command.entry) named) }
-{
-    match command_of(alloc, named, name_of(named)) {
-        Ok(subcommand) => command.subcommand(subcommand),
-        Err(refused) => {
-            drop(command);
-            Err(refused)
-        }
-    }
-}
-
 /// The command with everything that it can be asked for.
 pub fn command<'a>(alloc: Global) -> Result<Command<'a>, AllocError>
     ensures { IfOk result (λ r. app_of r ≡ program) }
@@ -424,7 +389,7 @@ pub fn command<'a>(alloc: Global) -> Result<Command<'a>, AllocError>
         .arg_required_else_help(true)
         .after_help("Example: dbtg replay card.schema unit1.script");
     for named in &ALL {
-        command = asked_also(alloc, command, *named)?;
+        command = command.subcommand(command_of(alloc, *named, name_of(*named))?)?;
     }
     Ok(command)
 }

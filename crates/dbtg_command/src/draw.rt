@@ -1,9 +1,7 @@
 //! The diagram of a schema.
 ghost use Rattle.std.specs.Prelude.{◌≡◌, IfErr, IfOk};
 ghost use Rattle.dbtg_schema.specs.Texts.SchemaFaults.{refusal as schema_refusal};
-ghost use Rattle.dbtg_command.specs.declared.fault.Fault.TheVariants.{Memory};
 ghost use Rattle.dbtg_command.specs.Drawing.{DrawsHeld, IsDrawing};
-ghost use Rattle.dbtg_draw.specs.Dot.{dot_text};
 ghost use Rattle.dbtg_command.specs.Refusals.{RefusesSchema};
 ghost use Rattle.dbtg_command.specs.Sources.{ToldOfSchema};
 
@@ -13,25 +11,15 @@ use crate::order::Order;
 use crate::source::Source;
 use crate::texts::read_schema;
 use dbtg_draw::dot_text;
-use dbtg_schema::Schema;
 use std::alloc::Global;
-
-fn draw_known(alloc: Global, known: &Schema) -> Result<Vec<u8>, Fault>
-    ensures done { IfOk result (λ out. out.items ≡ dot_text known.now) }
-    ensures refused { IfErr result (λ fault. fault ≡ Memory) }
-{
-    Ok(dot_text(alloc, known)?)
-}
 
 /// What `draw` prints of the schema that a source gives, or its fault.
 pub fn draw<S: Source>(alloc: Global, source: &S) -> Result<Vec<u8>, Fault>
     ensures done { IfOk result (λ out. DrawsHeld (S.holds source.now) out.items) }
     ensures refused { IfErr result (λ fault. ToldOfSchema (S.holds source.now) (S.fails source.now) fault) }
 {
-    match read_schema(alloc, source) {
-        Ok(known) => { draw_known(alloc, &known) }
-        Err(fault) => Err(fault),
-    }
+    let known = read_schema(alloc, source)?;
+    Ok(dot_text(alloc, &known)?)
 }
 
 /// What `draw` prints of a schema in memory, or its fault.

@@ -4,3 +4,4 @@ pub mod Hints
 pub mod Offered
 pub mod Saying
 pub mod Misfits
+pub mod Units

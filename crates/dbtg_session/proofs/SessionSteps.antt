@@ -18,12 +18,13 @@ use Rattle.dbtg_script.specs.StatementFaults.{line_faults, refusal as script_ref
 use Rattle.dbtg_script.specs.Statements.{line_statement, prepend, script}
 use Rattle.dbtg_script.proofs.Public.{is_read_behind, nothing_read}
 use Rattle.dbtg_session.specs.Inside.Sessions.{HasGrown, HasMadeLine, IsAsBefore, IsOwnScript, IsScriptOf, IsSession, MakesLine}
-use Rattle.dbtg_session.specs.Sessions.{HasScripts, RefusesBehind, RefusesLine, Takes, Typed, is_unit_count, text_of}
+use Rattle.dbtg_explain.specs.Units.{is_count}
+use Rattle.dbtg_session.specs.Sessions.{HasScripts, RefusesBehind, RefusesLine, Takes, Typed, text_of}
 use Rattle.dbtg_session.specs.declared.session.Refusal.{Refusal}
 use Rattle.dbtg_session.specs.declared.session.Script.{Script}
 
 -- at most 8 units
-pub few_units : (n : ℕ) → is_unit_count n ≡ true → n ≤ 8
+pub few_units : (n : ℕ) → is_count n ≡ true → n ≤ 8
 few_units n h = leb-true n 8 (and_parts (nat_le 1 n) (nat_le n 8) h).1
 
 -- SCRIPTS
@@ -199,7 +200,7 @@ module _ (schema : Lists) (capacity : ℕ) (old new : Making) (scripts : List Sc
       schema_is = ap (λ (x : Making). x.schema) m.made.new_is ∙ session.schema_is;
       capacity_is = ap (λ (x : Making). x.capacity) m.made.new_is ∙ session.capacity_is;
       many = length-set scripts (u - 1) next ∙ session.many ∙ ap (λ (x : Making). x.units) (sym m.made.new_is);
-      counted = ap (λ (x : Making). is_unit_count x.units) m.made.new_is ∙ session.counted;
+      counted = ap (λ (x : Making). is_count x.units) m.made.new_is ∙ session.counted;
       each = λ j other found. subst (λ (es : List Entry). IsOwnScript schema other (entries_of (j + 1) es)) (ap (λ (x : Making). x.history) (sym m.made.new_is)) (each_then j other found);
     }
 
@@ -255,14 +256,14 @@ no_script schema = record { accepted = read.0; says = read.1; closed = refl; sho
     read : (script_refusal schema [] ≡ None) × (script schema [] ≡ [])
     read = nothing_read schema
 
-pub opening_session : (schema : Lists) (making : Making) (scripts : List Script) (capacity n : ℕ) → IsSound schema → making ≡ record { schema = schema; capacity = capacity; units = n; history = [] } → is_unit_count n ≡ true
+pub opening_session : (schema : Lists) (making : Making) (scripts : List Script) (capacity n : ℕ) → IsSound schema → making ≡ record { schema = schema; capacity = capacity; units = n; history = [] } → is_count n ≡ true
     → length scripts ≡ n → texts_in scripts ≡ replicate n [] → map (λ (x : Script). x.begins.items) scripts ≡ replicate n [] → IsSession schema capacity making scripts
 opening_session schema making scripts capacity n sound is counted many texts counts = record {
   sound = sound;
   schema_is = ap (λ (m : Making). m.schema) is;
   capacity_is = ap (λ (m : Making). m.capacity) is;
   many = many ∙ ap (λ (m : Making). m.units) (sym is);
-  counted = ap (λ (m : Making). is_unit_count m.units) is ∙ counted;
+  counted = ap (λ (m : Making). is_count m.units) is ∙ counted;
   each = λ k one at.
       let nothing = emptied scripts n k one texts counts at in
       subst (λ (es : List Entry). IsOwnScript schema one (entries_of (k + 1) es)) (ap (λ (m : Making). m.history) (sym is)) (record {

@@ -1,6 +1,6 @@
 -- A session of the shell: what was typed, and what each line does to it and prints. Each statement is made whole on one database, and its
 -- line is appended to the script of its unit.
-use Rattle.std.specs.Prelude.{ℕ, ◌≡◌, ◌+◌, ◌-◌, ◌≤◌, ◌<◌, ◌∷◌, ◌++◌, ◌⊎◌, ◌&&◌, Bool, true, false, nat_le, IfOk, OnErr, List, [], length, map, Option, None, Some, Result, Ok, Err, slice_get, slice_set, unwrap_or}
+use Rattle.std.specs.Prelude.{ℕ, ◌≡◌, ◌+◌, ◌-◌, ◌≤◌, ◌<◌, ◌∷◌, ◌++◌, ◌⊎◌, Bool, true, false, IfOk, OnErr, List, [], length, map, Option, None, Some, Result, Ok, Err, slice_get, slice_set, unwrap_or}
 use Rattle.dbtg_schema.specs.Lists.{Lists}
 use Rattle.dbtg_schema.specs.Lookups.{first}
 use Rattle.dbtg_unit.specs.Database.Laws.Replay.{entries_of}
@@ -22,6 +22,7 @@ use Rattle.dbtg_session.specs.declared.commands.Reply.TheVariants as reply
 use Rattle.dbtg_session.specs.Asking.{asked_of, asks_undo, bare_command, behind_spaces, is_unit, turn_after}
 use Rattle.dbtg_session.specs.Replies.{IsFaultText, answer_reply, no_unit_text, shown_by, undone_text}
 use Rattle.dbtg_refusal.specs.Said.{said_in}
+use Rattle.dbtg_explain.specs.Units.{is_count}
 
 -- WHAT WAS TYPED
 
@@ -64,13 +65,9 @@ abbrev pub RefusesLine : Refusal → Typed → ℕ → List ℕ → Type 0
 RefusesLine refusal typed u line =
     RefusesBehind refusal typed.making.schema (length (entries_of u typed.making.history)) (length (text_of typed u)) line
 
--- 1 to 8 units
-abbrev pub is_unit_count : ℕ → Bool
-is_unit_count n = nat_le 1 n && nat_le n 8
-
 -- a script for each of 1 to 8 units, which is accepted and says the statements that the unit made
 pub record HasScripts (typed : Typed) : Type 0 where
-  pub counted : is_unit_count typed.making.units ≡ true
+  pub counted : is_count typed.making.units ≡ true
   pub many : length typed.texts ≡ typed.making.units
   pub each : (k : ℕ) (text : List ℕ) → slice_get typed.texts k ≡ Some text
       → (script_refusal typed.making.schema text ≡ None) × (script typed.making.schema text ≡ map (λ e. e.statement) (entries_of (k + 1) typed.making.history))

@@ -284,16 +284,26 @@ impl<'a> Shell<'a> {
         let (name, rest) = command_of(command);
         match name.as_bytes() {
             b"explain" => self.explain(rest),
-            b"load" if rest.is_empty() => self.text(NO_FILE),
-            b"load" => Ok(Reply::Load(rest)),
-            b"run" if rest.is_empty() => self.text(NO_FILE),
-            b"run" => Ok(Reply::Run(rest)),
-            b"save" if rest.is_empty() => self.text(NO_DIRECTORY),
-            b"save" => Ok(Reply::Save(rest)),
+            b"load" => self.named(rest, NO_FILE, Reply::Load(rest)),
+            b"run" => self.named(rest, NO_FILE, Reply::Run(rest)),
+            b"save" => self.named(rest, NO_DIRECTORY, Reply::Save(rest)),
             b"help" if rest.is_empty() => self.text(HELP),
             b"quit" if rest.is_empty() => Ok(Reply::Quit),
             _ => self.text(NO_COMMAND),
         }
+    }
+
+    // What is left to be done with what is named; a text if nothing is.
+    fn named<'b>(
+        &self,
+        rest: &str,
+        wanted: &str,
+        reply: Reply<'b>,
+    ) -> Result<Reply<'b>, AllocError> {
+        if rest.is_empty() {
+            return self.text(wanted);
+        }
+        Ok(reply)
     }
 
     // The unit that `.unit` names, or the unit whose turn it is if it names none.
@@ -340,10 +350,10 @@ impl<'a> Shell<'a> {
     }
 
     fn explain<'b>(&self, rest: &str) -> Result<Reply<'b>, AllocError> {
-        let words = words_of(self.alloc, rest)?;
-        if words.is_empty() {
+        if rest.is_empty() {
             return self.explain_last();
         }
+        let words = words_of(self.alloc, rest)?;
         match topic_of(words.as_slice()) {
             Some(topic) => Ok(Reply::Text(explained(self.alloc, &topic)?)),
             None => self.text(NO_TOPIC),

@@ -5,7 +5,8 @@ ghost use Rattle.dbtg_unit.specs.Database.Statements.Fits.{fits};
 ghost use Rattle.dbtg_unit.specs.Database.State.Image.{image_of};
 ghost use Rattle.dbtg_unit.specs.Database.Laws.Replay.{IsHistoryOf, entries_of};
 ghost use Rattle.dbtg_step.specs.Core.Whole.{HasMade, state_now};
-ghost use Rattle.dbtg_session.specs.Sessions.{HasScripts, IsLastSaid, RefusesBehind, RefusesLine, Takes, Undoes, is_unit_count, last_made};
+ghost use Rattle.dbtg_explain.specs.Units.{is_count};
+ghost use Rattle.dbtg_session.specs.Sessions.{HasScripts, IsLastSaid, RefusesBehind, RefusesLine, Takes, Undoes, last_made};
 ghost use Rattle.dbtg_session.specs.Inside.Sessions.{BeginsHistory, HasEntered, HasNoRoom, IsAsBefore, MakesLine};
 ghost use Rattle.dbtg_session.specs.declared.session.Refusal.TheVariants.{Fault, Memory};
 
@@ -16,7 +17,6 @@ use dbtg_step::WholeDatabase;
 use dbtg_unit::{Entry, Image, Statement, Unit};
 use std::alloc::{AllocError, Global};
 use std::marker::Model;
-use std::mem;
 
 /// Why a line is not made.
 #[derive(Drop)]
@@ -234,7 +234,7 @@ impl<'a> Session<'a> {
         units: u8,
     ) -> Result<Self, AllocError>
         requires sound { IsSound schema.now }
-        requires counted { is_unit_count units ≡ true }
+        requires counted { is_count units ≡ true }
         ensures { IfOk result (λ session. session ≡ record { making = record { schema = schema.now; capacity = capacity; units = units; history = [] }; texts = replicate units [] }) }
     {
         let scripts = empty_scripts(alloc, units)?;
@@ -277,8 +277,7 @@ impl<'a> Session<'a> {
         let unit = last.unit;
         let units = self.scripts.len() as u8;
         let before = made_again(self.alloc, self.schema, self.capacity, units, earlier)?;
-        let gone = mem::replace(&mut self.database, before);
-        drop(gone);
+        self.database = before;
         self.scripts[unit as usize - 1].drop_line();
         Ok(true)
     }

@@ -347,13 +347,6 @@ impl<'a> SchemaAndImage<'a> {
     }
 }
 
-fn push_number_of(out: &mut Vec<u8>, unit: &Unit) -> Result<(), AllocError>
-    ensures { OnOk result (out.new.items ≡ out.old.items ++ codes "UNIT " ++ decimal unit.now.number ++ 10 ∷ []) }
-{
-    push_with_number(out, b"UNIT ", unit.number as u64)?;
-    out.extend_from_slice(b"\n")
-}
-
 /// What is current of a unit, and what it keeps, given the image of the database on which it works.
 pub fn unit_words(
     alloc: Global,
@@ -365,7 +358,8 @@ pub fn unit_words(
 {
     let view = SchemaAndImage { schema, image };
     let mut out = Vec::new(alloc);
-    push_number_of(&mut out, unit)?;
+    push_with_number(&mut out, b"UNIT ", unit.number as u64)?;
+    out.extend_from_slice(b"\n")?;
     view.push_current_line(&mut out, b"run-unit", b"", unit.currency.run_unit)?;
     view.push_types(&mut out, unit, schema.types())?;
     view.push_sets(&mut out, unit, schema.sets())?;

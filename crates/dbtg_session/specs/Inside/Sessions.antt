@@ -16,7 +16,7 @@ use Rattle.dbtg_script.specs.declared.fault.Cause.TheVariants.{TooMuch}
 use Rattle.dbtg_session.specs.declared.session.Refusal.{Refusal}
 use Rattle.dbtg_session.specs.declared.session.Refusal.TheVariants.{Fault, Memory}
 use Rattle.dbtg_session.specs.declared.session.Script.{Script}
-use Rattle.dbtg_session.specs.Sessions.{is_unit_count}
+use Rattle.dbtg_explain.specs.Units.{is_count}
 
 -- the script is accepted, and says the statements of these entries, each on a line of its own
 pub record IsScriptOf (schema : Lists) (text : List ℕ) (count : ℕ) (entries : List Entry) : Type 0 where
@@ -52,7 +52,7 @@ pub record IsSession (schema : Lists) (capacity : ℕ) (making : Making) (script
   pub schema_is : making.schema ≡ schema
   pub capacity_is : making.capacity ≡ capacity
   pub many : length scripts ≡ making.units
-  pub counted : is_unit_count making.units ≡ true
+  pub counted : is_count making.units ≡ true
   pub each : (k : ℕ) (one : Script) → slice_get scripts k ≡ Some one → IsOwnScript schema one (entries_of (k + 1) making.history)
 
 -- a history begins with these entries

@@ -52,8 +52,8 @@ invariant_of-self c =
     let back = taken schema capacity old scripts c.self.invariant earlier last is one next stands.low at in
     let left = c.drop_line.ensures back.0 (back.1 ++ 10 ∷ []) back.2 (back.3.text_is ∙ append_assoc back.0 back.1 (10 ∷ [])) back.3.begins_are in
     let units : c.in_ok-before.before.units ≡ old.units = ap (λ (m : Making). m.units) c.in_ok-before.ensures ∙ omega (arith, c.len-units.ensures, c.self.invariant.many, c.self.inside.scripts.ok.0) in
-    let before : c.replace-gone.new.dest ≡ record { schema = schema; capacity = capacity; units = old.units; history = earlier } =
-    c.replace-gone.ensures.after ∙ c.in_ok-before.ensures ∙ ap (λ (n : ℕ). record { schema = schema; capacity = capacity; units = n; history = earlier }) (sym (ap (λ (m : Making). m.units) c.in_ok-before.ensures) ∙ units) in
+    let before : c.in_ok-before.before ≡ record { schema = schema; capacity = capacity; units = old.units; history = earlier } =
+    c.in_ok-before.ensures ∙ ap (λ (n : ℕ). record { schema = schema; capacity = capacity; units = n; history = earlier }) (sym (ap (λ (m : Making). m.units) c.in_ok-before.ensures) ∙ units) in
     subst (λ (m : Making). IsSession schema capacity m (slice_set scripts (last.unit - 1) next)) (sym before)
     (session_left schema capacity old scripts c.self.invariant earlier last is one next stands.low at left.0 left.1)
 
@@ -75,11 +75,11 @@ returns-clause-undone c =
     let back = taken schema capacity old scripts c.self.invariant earlier last is one next stands.low at in
     let left = c.drop_line.ensures back.0 (back.1 ++ 10 ∷ []) back.2 (back.3.text_is ∙ append_assoc back.0 back.1 (10 ∷ [])) back.3.begins_are in
     let units : c.in_ok-before.before.units ≡ old.units = ap (λ (m : Making). m.units) c.in_ok-before.ensures ∙ omega (arith, c.len-units.ensures, c.self.invariant.many, c.self.inside.scripts.ok.0) in
-    let before : c.replace-gone.new.dest ≡ record { schema = schema; capacity = capacity; units = old.units; history = earlier } =
-    c.replace-gone.ensures.after ∙ c.in_ok-before.ensures ∙ ap (λ (n : ℕ). record { schema = schema; capacity = capacity; units = n; history = earlier }) (sym (ap (λ (m : Making). m.units) c.in_ok-before.ensures) ∙ units) in
+    let before : c.in_ok-before.before ≡ record { schema = schema; capacity = capacity; units = old.units; history = earlier } =
+    c.in_ok-before.ensures ∙ ap (λ (n : ℕ). record { schema = schema; capacity = capacity; units = n; history = earlier }) (sym (ap (λ (m : Making). m.units) c.in_ok-before.ensures) ∙ units) in
     let again = typed_again schema capacity old scripts c.self.invariant earlier last is one next stands.low at left.0 left.1 of in (
       last.unit,
       back.1,
-      subst (λ (t : Typed). HasTyped (typed c.replace-gone.new.dest (slice_set scripts (last.unit - 1) next)) last.unit back.1 t) c.self.view_is
+      subst (λ (t : Typed). HasTyped (typed c.in_ok-before.before (slice_set scripts (last.unit - 1) next)) last.unit back.1 t) c.self.view_is
           (subst (λ (m : Making). HasTyped (typed m (slice_set scripts (last.unit - 1) next)) last.unit back.1 (typed old scripts)) (sym before) again),
     )
