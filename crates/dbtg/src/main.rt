@@ -28,8 +28,8 @@ use dbtg_outcomes::Wish;
 use dbtg_replay::replay::{AnswerForm, check_count, replay};
 use dbtg_replay::{moves_for_turns, refusals_of_first};
 use dbtg_running::{
-    OnThreads, Printed, PrintedOnThreads, RunOptions, check_programs, run, run_on_threads,
-    run_programs_on_threads,
+    Printed, PrintedOnThreads, RunOptions, ScriptsOnThreads, check_programs, run,
+    run_programs_on_threads, run_scripts_on_threads,
 };
 use dbtg_schema::Schema;
 use dbtg_session::Session;
@@ -253,7 +253,7 @@ fn print_threads<R: Threads + Wait + Sync>(
     call: &Call,
 ) -> ExitCode {
     let form = answer_form(call);
-    match run_on_threads(threads, rt.alloc(), files, call.capacity, form, call.first) {
+    match run_scripts_on_threads(threads, rt.alloc(), files, call.capacity, form, call.first) {
         Ok(said) => match tell_refusals(rt, files, call) {
             Ok(()) => print_saved(rt, &said, call.saved),
             Err(fault) => told(rt, &fault),
@@ -274,7 +274,7 @@ fn are_saved(rt: &HostRuntime, turns: &[u8], saved: Option<&str>) -> bool {
 }
 
 // The turns, and then what is printed.
-fn print_saved(rt: &HostRuntime, said: &OnThreads, saved: Option<&str>) -> ExitCode {
+fn print_saved(rt: &HostRuntime, said: &ScriptsOnThreads, saved: Option<&str>) -> ExitCode {
     if are_saved(rt, said.turns.as_slice(), saved) {
         print_text(rt, said.printed.as_slice(), ExitCode::SUCCESS)
     } else {

@@ -1,5 +1,5 @@
 //! A statement of a unit at work: what it needs is taken, the ticket is drawn, and everything is given back.
-ghost use Rattle.std.specs.Prelude.{◌≡◌, ◌≢◌, ◌↔◌, ◌<◌, ◌≤◌, ◌∷◌, [], true, length, vec_len, vec_capacity, IfOk, IfNone, IfSome, IsSome, OnErr};
+ghost use Rattle.std.specs.Prelude.{◌≡◌, ◌≢◌, ◌↔◌, ◌<◌, ◌≤◌, ◌∷◌, [], true, length, IfOk, IfNone, IfSome, IsSome, OnErr};
 ghost use Rattle.dbtg_unit.specs.Database.Statements.Fits.{fits};
 ghost use Rattle.dbtg_unit.specs.Hands.Making.{CanFinish, IsReady};
 ghost use Rattle.dbtg_unit.specs.Hands.EditsOf.{is_delete};
@@ -56,27 +56,27 @@ impl Work {
         )
     }
 
-    // Makes the statement on what is held, and enters the given copy of it.
+    // Makes the statement on what is held, and enters a copy of it. All memory is taken before the ticket is drawn.
     fn make_in_hand<G: Gate>(
         &mut self,
         alloc: Global,
         db: &Database,
         statement: &Statement,
-        copy: Statement,
         gate: &G,
     ) -> Result<Answer, AllocError>
         requires belongs { Belongs db.now self.old }
         requires work { IsAtWork self.old }
         requires fits { fits self.old.about.schema.value statement.now ≡ true }
-        requires room { (vec_len self.old.journal < vec_capacity self.old.journal) × (length self.old.journal.items < MOST_STATEMENTS) }
+        requires room { length self.old.journal.items < MOST_STATEMENTS }
         requires ready { IsReady self.old.about.schema.value self.old.about.capacity self.old.unit self.old.held statement.now }
         requires so { HoldsSo (is_delete statement.now) self.old.exclusive self.old.held }
-        requires copied { copy ≡ statement.now }
         ensures same { (self.new.about ≡ self.old.about) × (self.new.seat.table_id ≡ self.old.seat.table_id) × (self.new.unit.number ≡ self.old.unit.number) }
         ensures work { IsAtWork self.new }
         ensures done { IfOk result (λ a. IsDone self.old.about self.old.journal.items self.new.journal.items self.new.unit statement.now a) }
         ensures err { OnErr result ((self.new.unit ≡ self.old.unit) × (self.new.journal.items ≡ self.old.journal.items)) }
     {
+        self.journal.reserve(1)?;
+        let copy = statement.copy()?;
         let ready = self.prepare_in_hand(alloc, db, statement)?;
         let (prepared, noted) = with_answer(ready)?;
         Ok(self.commit::<Brand, G>(db, copy, noted, prepared, gate))
@@ -107,12 +107,10 @@ impl Work {
         ensures free { NeedsNoLatch self.old.about self.old.unit statement.now → IfOk result (λ o. IsSome o) }
         ensures alone { self.old.about.units ≡ 1 → 0 < tries.old.given → IfOk result (λ o. IsSome o) }
     {
-        self.journal.reserve(1)?;
         if !self.gather(alloc, db, statement, tries)? {
             return Ok(None);
         }
-        let copy = statement.copy()?;
-        let answer = self.make_in_hand(alloc, db, statement, copy, gate)?;
+        let answer = self.make_in_hand(alloc, db, statement, gate)?;
         Ok(Some(answer))
     }
 

@@ -31,7 +31,7 @@ use std::thread::Threads;
 
 /// What is printed of a run of scripts on threads, and the text of turns that says whose statement drew which ticket.
 #[derive(Drop)]
-pub struct OnThreads {
+pub struct ScriptsOnThreads {
     pub printed: Vec<u8>,
     pub turns: Vec<u8>,
 }
@@ -82,7 +82,7 @@ fn said_of(
     shown: Shown,
     given: &Run,
     first: &[u8],
-) -> Result<Option<OnThreads>, AllocError>
+) -> Result<Option<ScriptsOnThreads>, AllocError>
     ensures printed { IfOk result (λ found. IfSome found (λ said. said.printed.items ≡ shown_text schema.now shown.entry.form shown.entry.texts.now given.now ++ audit_line)) }
     ensures turns { IfOk result (λ found. IfSome found (λ said. (behind : List ℕ) × (map (λ e. e.unit) given.now.history ≡ first.now ++ behind) × (said.turns.items ≡ turns_text behind))) }
 {
@@ -90,7 +90,7 @@ fn said_of(
     let Some(behind) = units.as_slice().strip_prefix(first) else {
         return Ok(None);
     };
-    Ok(Some(OnThreads {
+    Ok(Some(ScriptsOnThreads {
         printed: audited_text(alloc, schema, shown, given)?,
         turns: turns_text(alloc, behind)?,
     }))
@@ -201,7 +201,7 @@ fn threads_text<R: Threads + Wait + Sync>(
     scripts: &[Row<Statement>],
     shown: Shown,
     first: bool,
-) -> Result<OnThreads, AllocError>
+) -> Result<ScriptsOnThreads, AllocError>
     requires sound { IsSound schema.now }
     requires count { is_count (length scripts.now) ≡ true }
     requires fit { scripts_fit schema.now scripts.now ≡ true }
@@ -226,7 +226,7 @@ fn threads_known<R: Threads + Wait + Sync, S: Source>(
     capacity: u16,
     form: AnswerForm,
     first: bool,
-) -> Result<OnThreads, Fault>
+) -> Result<ScriptsOnThreads, Fault>
     requires counted { is_count (S.count source.now) ≡ true }
     requires read { ReadSchema (S.holds source.now) known.now }
     requires sound { IsSound known.now }
@@ -245,14 +245,14 @@ fn threads_known<R: Threads + Wait + Sync, S: Source>(
 /// What `threads` prints of the schema and the scripts that a source gives, with the turns by which `replay` prints the same, or
 /// the first fault. The last script is made before all others, if it is made first. Refusals on threads are not explained: a form
 /// that asks for it ends with the fault of memory.
-pub fn run_on_threads<R: Threads + Wait + Sync, S: Source>(
+pub fn run_scripts_on_threads<R: Threads + Wait + Sync, S: Source>(
     rt: &R,
     alloc: Global,
     source: &S,
     capacity: u16,
     form: AnswerForm,
     first: bool,
-) -> Result<OnThreads, Fault>
+) -> Result<ScriptsOnThreads, Fault>
     ensures done { IfOk result (λ said. ThreadsHeld (S.holds source.now) (S.count source.now) first form capacity said.printed.items said.turns.items) }
     ensures refused { IfErr result (λ fault. ToldOfRun (S.holds source.now) (S.fails source.now) fault (S.count source.now) Serial) }
 {
@@ -277,7 +277,7 @@ pub fn threads_bytes<'a, R: Threads + Wait + Sync>(
         scripts,
         order: Order::Serial,
     };
-    match run_on_threads(rt, alloc, &texts, capacity, AnswerForm::Plain, false) {
+    match run_scripts_on_threads(rt, alloc, &texts, capacity, AnswerForm::Plain, false) {
         Ok(said) => Ok((said.printed, true)),
         Err(fault) => Err(fault),
     }

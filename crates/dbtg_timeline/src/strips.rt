@@ -1,9 +1,10 @@
 //! A line is printed in strips, one below another: the letters are folded, and so is the text of the statement.
 ghost use Rattle.std.specs.Prelude.{◌≡◌, ◌++◌, IfOk, OnOk};
+ghost use Rattle.dbtg_timeline.specs.Lines.{lines};
 ghost use Rattle.dbtg_timeline.specs.Strips.{ends, folded, front_of, larger, part_at, strip_at, strips, strips_by, strips_of, word_length, words_of};
 
-use crate::event::is_begin;
-use crate::lines::{Drawn, Line, label};
+use crate::event::{Event, is_begin};
+use crate::lines::{Drawn, Line, label, lines_of};
 use dbtg_schema::Row;
 use std::alloc::{AllocError, Global};
 
@@ -162,16 +163,17 @@ fn push_strips_of(
     push_strips_by(alloc, strips, line, letters.as_slice(), words.as_slice())
 }
 
-/// The strips of these lines.
+/// The strips of the lines of these events.
 pub fn strips_of(
     alloc: Global,
     scripts: &[Row<Row<u8>>],
-    lines: &[Line],
+    events: &[Event],
 ) -> Result<Vec<Strip>, AllocError>
-    ensures { IfOk result (λ all. all.items ≡ strips scripts.now lines.now) }
+    ensures { IfOk result (λ all. all.items ≡ strips scripts.now (lines events.now)) }
 {
+    let lines = lines_of(alloc, events)?;
     let mut all = Vec::new(alloc);
-    for line in lines {
+    for line in &lines {
         push_strips_of(alloc, &mut all, scripts, line)?;
     }
     Ok(all)

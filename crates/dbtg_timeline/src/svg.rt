@@ -1,14 +1,14 @@
 //! The picture as SVG, with the same strips as the plain text.
-ghost use Rattle.std.specs.Prelude.{◌≡◌, ◌++◌, ◌+◌, ◌*◌, ◌^◌, ◌<◌, IfOk, OnOk, decimal, length};
+ghost use Rattle.std.specs.Prelude.{◌≡◌, ◌++◌, ◌+◌, ◌*◌, ◌^◌, ◌<◌, IfOk, OnOk, decimal, false, length, replicate};
 ghost use Rattle.std.specs.List.{flat_map};
-ghost use Rattle.dbtg_timeline.specs.Svg.{back_heads, begun_lane, dark_text, drawn_strips, drawn_text, end_text, escaped, front_heads, front_text, lane_heads, lane_text, lanes_text, letters_left, letters_text, measures, open_lane, open_text, own_lane, place_text, size_text, strip_text, strips_text, style_text, timeline_svg, title_text, top_text, words_text};
+ghost use Rattle.dbtg_timeline.specs.Svg.{back_heads, dark_text, drawn_text, end_text, escaped, front_heads, front_text, lane_heads, lane_text, lanes_text, letters_left, letters_text, measures, open_text, place_text, size_text, strip_text, strips_text, style_text, timeline_svg, title_text, top_text, words_text};
 
 use crate::columns::{push_all, push_number, push_right_number};
 use crate::event::{Event, ticket_letter};
-use crate::lanes::{opening_lanes, pass};
-use crate::lines::{Drawn, lines_of};
+use crate::lanes::pass;
+use crate::lines::Drawn;
 use crate::strips::{Strip, strips_of};
-use crate::text::{push_legend, push_second_legend};
+use crate::text::{legend, second_legend};
 use dbtg_schema::Row;
 use itoa::Buffer;
 use std::alloc::{AllocError, Global};
@@ -118,22 +118,14 @@ fn push_size(out: &mut Vec<u8>, width: u128, height: u128) -> Result<(), AllocEr
     push_title(out)
 }
 
-#[tactic(auto, unfolding(crate::specs::Svg::style_text))]
-fn push_style(out: &mut Vec<u8>) -> Result<(), AllocError>
-    ensures { OnOk result (out.new.items ≡ out.old.items ++ style_text) }
+// Letters, lanes and the kinds of letters, on a light background, and on a dark one if the reader asks for that.
+#[tactic(auto, unfolding(crate::specs::Svg::style_text, crate::specs::Svg::dark_text))]
+fn style() -> &'static [u8]
+    ensures { result.now ≡ style_text ++ dark_text }
 {
-    out.extend_from_slice(
-        b"<style>text{font:13px monospace;fill:#222}.ground{fill:#fff}.head,.T,.X,.B,.Q{font-weight:bold}.number{text-anchor:end}.own{fill:#2f65a7}.open{fill:#7f9cc0}.T{fill:#067a06}.X{fill:#c00;text-decoration:underline}.B{fill:#a85400}.R,.r{fill:#7a4b9a}.Q{fill:#a0a}.I{fill:#666}\n",
-    )
-}
-
-#[tactic(auto, unfolding(crate::specs::Svg::dark_text))]
-fn push_dark(out: &mut Vec<u8>) -> Result<(), AllocError>
-    ensures { OnOk result (out.new.items ≡ out.old.items ++ dark_text) }
-{
-    out.extend_from_slice(
-        b"@media(prefers-color-scheme:dark){text{fill:#ddd}.ground{fill:#161b22}.own{fill:#6ea8ff}.open{fill:#4f78b0}.T{fill:#5fd35f}.X{fill:#ff7b72}.B{fill:#f0a050}.R,.r{fill:#c9a0f0}.Q{fill:#f080f0}.I{fill:#999}}</style>\n",
-    )
+    b"<style>text{font:13px monospace;fill:#222}.ground{fill:#fff}.head,.T,.X,.B,.Q{font-weight:bold}.number{text-anchor:end}.own{fill:#2f65a7}.open{fill:#7f9cc0}.T{fill:#067a06}.X{fill:#c00;text-decoration:underline}.B{fill:#a85400}.R,.r{fill:#7a4b9a}.Q{fill:#a0a}.I{fill:#666}
+@media(prefers-color-scheme:dark){text{fill:#ddd}.ground{fill:#161b22}.own{fill:#6ea8ff}.open{fill:#4f78b0}.T{fill:#5fd35f}.X{fill:#ff7b72}.B{fill:#f0a050}.R,.r{fill:#c9a0f0}.Q{fill:#f080f0}.I{fill:#999}}</style>
+"
 }
 
 fn push_lane_heads(out: &mut Vec<u8>, scripts: &[Row<Row<u8>>]) -> Result<(), AllocError>
@@ -168,35 +160,15 @@ fn push_back_heads(out: &mut Vec<u8>, left: u128) -> Result<(), AllocError>
     Ok(())
 }
 
-#[tactic(auto, unfolding(crate::specs::Svg::own_lane))]
-fn push_own_lane(out: &mut Vec<u8>, x: u128, y: u128) -> Result<(), AllocError>
-    ensures { OnOk result (out.new.items ≡ out.old.items ++ own_lane x y) }
+fn push_bar(out: &mut Vec<u8>, kind: &[u8], x: u128, y: u128, size: &[u8]) -> Result<(), AllocError>
+    ensures { OnOk result (out.new.items ≡ out.old.items ++ (kind.now ++ place_text x y ++ size.now)) }
 {
-    out.extend_from_slice(b"<rect class='own'")?;
+    out.extend_from_slice(kind)?;
     push_place(out, x, y)?;
-    out.extend_from_slice(b" width='8' height='18'/>\n")
+    out.extend_from_slice(size)
 }
 
-#[tactic(auto, unfolding(crate::specs::Svg::begun_lane))]
-fn push_begun_lane(out: &mut Vec<u8>, x: u128, y: u128) -> Result<(), AllocError>
-    requires { y < 2 ^ 90 }
-    ensures { OnOk result (out.new.items ≡ out.old.items ++ begun_lane x y) }
-{
-    out.extend_from_slice(b"<rect class='own'")?;
-    push_place(out, x, y + 3)?;
-    out.extend_from_slice(b" width='8' height='15'/>\n")
-}
-
-#[tactic(auto, unfolding(crate::specs::Svg::open_lane))]
-fn push_open_lane(out: &mut Vec<u8>, x: u128, y: u128) -> Result<(), AllocError>
-    requires { x < 2 ^ 90 }
-    ensures { OnOk result (out.new.items ≡ out.old.items ++ open_lane x y) }
-{
-    out.extend_from_slice(b"<rect class='open'")?;
-    push_place(out, x + 3, y)?;
-    out.extend_from_slice(b" width='2' height='18'/>\n")
-}
-
+#[tactic(auto, unfolding(crate::specs::Svg::begun_lane, crate::specs::Svg::own_lane, crate::specs::Svg::open_lane))]
 fn push_lane(
     out: &mut Vec<u8>,
     begins: bool,
@@ -209,14 +181,30 @@ fn push_lane(
     requires top { y < 2 ^ 90 }
     ensures { OnOk result (out.new.items ≡ out.old.items ++ lane_text begins is_own midway x y) }
 {
-    if is_own {
-        if begins {
-            push_begun_lane(out, x, y)
-        } else {
-            push_own_lane(out, x, y)
-        }
+    if is_own && begins {
+        push_bar(
+            out,
+            b"<rect class='own'",
+            x,
+            y + 3,
+            b" width='8' height='15'/>\n",
+        )
+    } else if is_own {
+        push_bar(
+            out,
+            b"<rect class='own'",
+            x,
+            y,
+            b" width='8' height='18'/>\n",
+        )
     } else if midway {
-        push_open_lane(out, x, y)
+        push_bar(
+            out,
+            b"<rect class='open'",
+            x + 3,
+            y,
+            b" width='2' height='18'/>\n",
+        )
     } else {
         Ok(())
     }
@@ -332,14 +320,13 @@ fn push_strip(
 fn push_each_strip(
     alloc: Global,
     out: &mut Vec<u8>,
-    left: u128,
-    opening: Vec<bool>,
+    units: usize,
     strips: &[Strip],
 ) -> Result<(), AllocError>
-    requires { left < 2 ^ 90 }
-    ensures { OnOk result (out.new.items ≡ out.old.items ++ strips_text left opening.items 32 strips.now) }
+    ensures { OnOk result (out.new.items ≡ out.old.items ++ strips_text (letters_left units) (replicate units false) 32 strips.now) }
 {
-    let mut lanes = opening;
+    let left = letters_left(units);
+    let mut lanes = Vec::from_elem(alloc, false, units)?;
     let mut top = 32;
     for strip in strips {
         push_strip(alloc, out, left, lanes.as_slice(), top, strip)?;
@@ -350,16 +337,12 @@ fn push_each_strip(
 }
 
 #[tactic(auto, unfolding(crate::specs::Svg::end_text))]
-fn push_end(alloc: Global, out: &mut Vec<u8>, top: u128) -> Result<(), AllocError>
+fn push_end(out: &mut Vec<u8>, top: u128) -> Result<(), AllocError>
     requires { top < 2 ^ 90 }
     ensures { OnOk result (out.new.items ≡ out.old.items ++ end_text top) }
 {
-    let mut first = Vec::new(alloc);
-    push_legend(&mut first)?;
-    let mut second = Vec::new(alloc);
-    push_second_legend(&mut second)?;
-    push_words(out, b"legend", 16, top + 22, first.as_slice())?;
-    push_words(out, b"legend", 16, top + 40, second.as_slice())?;
+    push_words(out, b"legend", 16, top + 22, legend())?;
+    push_words(out, b"legend", 16, top + 40, second_legend())?;
     out.extend_from_slice(b"</svg>\n")
 }
 
@@ -369,30 +352,14 @@ fn push_top(out: &mut Vec<u8>, scripts: &[Row<Row<u8>>], count: usize) -> Result
 {
     let left = letters_left(scripts.len());
     push_size(out, left + 776, 18 * count as u128 + 84)?;
-    push_style(out)?;
-    push_dark(out)?;
+    out.extend_from_slice(style())?;
     push_each_front_head(out, left)?;
     push_back_heads(out, left)?;
     push_lane_heads(out, scripts)
 }
 
-#[tactic(auto, unfolding(crate::specs::Svg::drawn_strips))]
-fn push_drawn_strips(
-    alloc: Global,
-    out: &mut Vec<u8>,
-    scripts: &[Row<Row<u8>>],
-    strips: &[Strip],
-) -> Result<(), AllocError>
-    ensures { OnOk result (out.new.items ≡ out.old.items ++ drawn_strips scripts.now strips.now) }
-{
-    let lanes = opening_lanes(alloc, scripts.len())?;
-    push_top(out, scripts, strips.len())?;
-    push_each_strip(alloc, out, letters_left(scripts.len()), lanes, strips)?;
-    push_end(alloc, out, 32 + 18 * strips.len() as u128)
-}
-
-#[tactic(auto, unfolding(crate::specs::Svg::timeline_svg))]
 /// The picture of these events as SVG, with a lane for each script. `scripts` has the text of each statement.
+#[tactic(auto, unfolding(crate::specs::Svg::timeline_svg, crate::specs::Svg::drawn_strips))]
 pub fn timeline_svg(
     alloc: Global,
     scripts: &[Row<Row<u8>>],
@@ -400,9 +367,10 @@ pub fn timeline_svg(
 ) -> Result<Vec<u8>, AllocError>
     ensures { IfOk result (λ text. text.items ≡ timeline_svg scripts.now events.now) }
 {
+    let strips = strips_of(alloc, scripts, events)?;
     let mut out = Vec::new(alloc);
-    let lines = lines_of(alloc, events)?;
-    let strips = strips_of(alloc, scripts, lines.as_slice())?;
-    push_drawn_strips(alloc, &mut out, scripts, strips.as_slice())?;
+    push_top(&mut out, scripts, strips.len())?;
+    push_each_strip(alloc, &mut out, scripts.len(), strips.as_slice())?;
+    push_end(&mut out, 32 + 18 * strips.len() as u128)?;
     Ok(out)
 }

@@ -1,11 +1,11 @@
 //! The picture as plain text. Its lines have at most 120 columns as long as moves have no more than 8 digits.
-ghost use Rattle.std.specs.Prelude.{◌≡◌, ◌++◌, ◌+◌, ◌<◌, IfOk, OnOk, codes, false, length, replicate};
-ghost use Rattle.dbtg_timeline.specs.Text.{columns_text, drawn_of, drawn_text, events_head, front_head, front_text, head_text, lane_heads, lane_mark, lanes_text, legend, rest_text, second_legend, strip_text, strips_text, timeline_text};
+ghost use Rattle.std.specs.Prelude.{◌≡◌, ◌++◌, ◌+◌, ◌<◌, IfOk, OnOk, false, replicate};
+ghost use Rattle.dbtg_timeline.specs.Text.{columns_text, drawn_of, drawn_text, front_text, head_text, lane_heads, lane_mark, lanes_text, legend, rest_text, second_legend, strip_text, strips_text, timeline_text};
 
-use crate::columns::{push_left, push_number, push_right_number};
+use crate::columns::{push_all, push_left, push_number, push_right_number};
 use crate::event::Event;
-use crate::lanes::{opening_lanes, pass};
-use crate::lines::{Drawn, lines_of};
+use crate::lanes::pass;
+use crate::lines::Drawn;
 use crate::strips::{Front, Strip, strips_of};
 use dbtg_schema::Row;
 use std::alloc::{AllocError, Global};
@@ -22,29 +22,13 @@ fn push_lane_heads(out: &mut Vec<u8>, scripts: &[Row<Row<u8>>]) -> Result<(), Al
     Ok(())
 }
 
-#[tactic(auto, unfolding(crate::specs::Text::front_head))]
-fn push_front_head(out: &mut Vec<u8>, scripts: &[Row<Row<u8>>]) -> Result<(), AllocError>
-    ensures { OnOk result (out.new.items ≡ out.old.items ++ front_head scripts.now) }
-{
-    out.extend_from_slice(b"    MOVE UNIT")?;
-    push_lane_heads(out, scripts)?;
-    out.push(b' ')?;
-    Ok(())
-}
-
-#[tactic(auto, unfolding(crate::specs::Text::events_head))]
-fn push_events_head(out: &mut Vec<u8>) -> Result<(), AllocError>
-    ensures { OnOk result (out.new.items ≡ out.old.items ++ events_head) }
-{
-    out.extend_from_slice(b"EVENTS                           TICKET  STATUS STATEMENT\n")
-}
-
-#[tactic(auto, unfolding(crate::specs::Text::head_text))]
 fn push_head(out: &mut Vec<u8>, scripts: &[Row<Row<u8>>]) -> Result<(), AllocError>
     ensures { OnOk result (out.new.items ≡ out.old.items ++ head_text scripts.now) }
 {
-    push_front_head(out, scripts)?;
-    push_events_head(out)
+    out.extend_from_slice(b"    MOVE UNIT")?;
+    push_lane_heads(out, scripts)?;
+    out.extend_from_slice(b" EVENTS                           TICKET  STATUS STATEMENT\n")?;
+    Ok(())
 }
 
 fn lane_mark(is_own: bool, midway: bool) -> u8
@@ -127,15 +111,10 @@ fn push_rest(
 ) -> Result<(), AllocError>
     ensures { OnOk result (out.new.items ≡ out.old.items ++ rest_text letters.now front words.now) }
 {
-    match front {
-        Some(_) => push_columns(out, letters, front, words),
-        None => {
-            if words.is_empty() {
-                out.extend_from_slice(letters)
-            } else {
-                push_columns(out, letters, front, words)
-            }
-        }
+    if front.is_none() && words.is_empty() {
+        out.extend_from_slice(letters)
+    } else {
+        push_columns(out, letters, front, words)
     }
 }
 
@@ -156,13 +135,14 @@ fn push_strip(out: &mut Vec<u8>, lanes: &[bool], strip: &Strip) -> Result<(), Al
 }
 
 fn push_each_strip(
+    alloc: Global,
     out: &mut Vec<u8>,
-    opening: Vec<bool>,
+    units: usize,
     strips: &[Strip],
 ) -> Result<(), AllocError>
-    ensures { OnOk result (out.new.items ≡ out.old.items ++ strips_text opening.items strips.now) }
+    ensures { OnOk result (out.new.items ≡ out.old.items ++ strips_text (replicate units false) strips.now) }
 {
-    let mut lanes = opening;
+    let mut lanes = Vec::from_elem(alloc, false, units)?;
     for strip in strips {
         push_strip(out, lanes.as_slice(), strip)?;
         pass(&mut lanes, strip);
@@ -170,47 +150,24 @@ fn push_each_strip(
     Ok(())
 }
 
+/// What the letters mean.
 #[tactic(auto, unfolding(crate::specs::Text::legend))]
-pub fn push_legend(out: &mut Vec<u8>) -> Result<(), AllocError>
-    ensures { OnOk result (out.new.items ≡ out.old.items ++ legend) }
+pub fn legend() -> &'static [u8]
+    ensures { result.now ≡ legend }
 {
-    out.extend_from_slice(
-        b"b begin, a take area, c take cell, T ticket, X ticket of a refusal, l link, p put back, v leave area",
-    )
+    b"b begin, a take area, c take cell, T ticket, X ticket of a refusal, l link, p put back, v leave area"
 }
 
+/// What the other letters mean.
 #[tactic(auto, unfolding(crate::specs::Text::second_legend))]
-pub fn push_second_legend(out: &mut Vec<u8>) -> Result<(), AllocError>
-    ensures { OnOk result (out.new.items ≡ out.old.items ++ second_legend) }
+pub fn second_legend() -> &'static [u8]
+    ensures { result.now ≡ second_legend }
 {
-    out.extend_from_slice(b"R turn back, r put back in turning back, Q quit, B blocked, I idle")
+    b"R turn back, r put back in turning back, Q quit, B blocked, I idle"
 }
 
-fn push_legends(out: &mut Vec<u8>) -> Result<(), AllocError>
-    ensures { OnOk result (out.new.items ≡ out.old.items ++ legend ++ codes "\n" ++ second_legend ++ codes "\n") }
-{
-    push_legend(out)?;
-    out.extend_from_slice(b"\n")?;
-    push_second_legend(out)?;
-    out.extend_from_slice(b"\n")
-}
-
-fn push_drawn_strips(
-    alloc: Global,
-    out: &mut Vec<u8>,
-    scripts: &[Row<Row<u8>>],
-    strips: &[Strip],
-) -> Result<(), AllocError>
-    ensures { OnOk result (out.new.items ≡ out.old.items ++ head_text scripts.now ++ strips_text (replicate (length scripts.now) false) strips.now ++ legend ++ codes "\n" ++ second_legend ++ codes "\n") }
-{
-    let lanes = opening_lanes(alloc, scripts.len())?;
-    push_head(out, scripts)?;
-    push_each_strip(out, lanes, strips)?;
-    push_legends(out)
-}
-
-#[tactic(auto, unfolding(crate::specs::Text::timeline_text))]
 /// The picture of these events as plain text, with a lane for each script. `scripts` has the text of each statement.
+#[tactic(auto, unfolding(crate::specs::Text::timeline_text))]
 pub fn timeline_text(
     alloc: Global,
     scripts: &[Row<Row<u8>>],
@@ -218,9 +175,10 @@ pub fn timeline_text(
 ) -> Result<Vec<u8>, AllocError>
     ensures { IfOk result (λ text. text.items ≡ timeline_text scripts.now events.now) }
 {
+    let strips = strips_of(alloc, scripts, events)?;
     let mut out = Vec::new(alloc);
-    let lines = lines_of(alloc, events)?;
-    let strips = strips_of(alloc, scripts, lines.as_slice())?;
-    push_drawn_strips(alloc, &mut out, scripts, strips.as_slice())?;
+    push_head(&mut out, scripts)?;
+    push_each_strip(alloc, &mut out, scripts.len(), strips.as_slice())?;
+    push_all(&mut out, &[legend(), b"\n", second_legend(), b"\n"])?;
     Ok(out)
 }

@@ -22,29 +22,29 @@ use Rattle.dbtg_run.proofs.work.Work.gather_along.Goals as goal
 
 pub needs-preserved-then-branch : goal.needs-preserved-then-branch
 needs-preserved-then-branch c =
-    let db = c.args.db.now in let old = c.needs.self in let new = c.meet.new.self in record {
-      belongs = search rules;
-      same = search rules;
-      work = search rules;
-      so = search rules;
+    let db = c.args.db.now in let old = c.needs.self in let new = c.meet.new.self in let i = c.needs.invariant in let met = c.meet.ensures in record {
+      belongs = record { about = met.same.about ∙ i.belongs.about; table = met.same.table ∙ i.belongs.table };
+      same = record { about = met.same.about ∙ i.same.about; unit = met.same.unit ∙ i.same.unit; journal = met.same.journal ∙ i.same.journal; table = met.same.table ∙ i.same.table };
+      work = met.work;
+      so = c.in_ok-meet.ensures.so;
       free = search rules;
       known = search rules;
-      given = search rules;
-      tries = search rules;
+      given = i.given;
+      tries = i.tries;
       course = course_goes_on db.schema db.about.capacity old.held new.held old.unit new.unit c.args.statement.now c.wanted.new.course c.meet.ensures.same.unit (c.in_ok-meet.ensures.more c.if-branch.true) c.wanted.ensures.kept;
     }
 
 pub needs-preserved : goal.needs-preserved
 needs-preserved c =
-    let db = c.args.db.now in let new = c.meet.new.self in record {
-      belongs = search rules;
-      same = search rules;
-      work = search rules;
-      so = search rules;
+    let db = c.args.db.now in let new = c.meet.new.self in let i = c.needs.invariant in let met = c.meet.ensures in record {
+      belongs = record { about = met.same.about ∙ i.belongs.about; table = met.same.table ∙ i.belongs.table };
+      same = record { about = met.same.about ∙ i.same.about; unit = met.same.unit ∙ i.same.unit; journal = met.same.journal ∙ i.same.journal; table = met.same.table ∙ i.same.table };
+      work = met.work;
+      so = c.in_ok-meet.ensures.so;
       free = search rules;
       known = search rules;
-      given = search rules;
-      tries = search rules;
+      given = ap (λ (t : Tries). t.given) c.use_one.ensures ∙ i.given;
+      tries = c.if-are_used_up.ensures;
       course = subst (CourseMatches db.schema db.about.capacity new.held new.unit c.args.statement.now) (sym c.forget.ensures) (no_course db.schema db.about.capacity new.held new.unit c.args.statement.now);
     }
 

@@ -1,4 +1,4 @@
-use Rattle.std.proofs.Common.{◌≡◌, ℕ, ◌+◌, ◌*◌, ◌%◌, ◌^◌, ◌<◌, List, arith, sym, ap, ◌∙◌, subst}
+use Rattle.std.proofs.Common.{◌≡◌, ℕ, ◌+◌, ◌*◌, ◌%◌, ◌^◌, ◌<◌, List, arith, sym, ap, ◌∙◌, subst, refl}
 use Rattle.std.specs.Int.{bit_not, w64}
 use Rattle.std.specs.Prelude.{nat_lt}
 use Rattle.std.specs.List.{list_all}
@@ -23,3 +23,12 @@ fetch_and-requires c =
           db.keyed (subst (λ (x : About). w.seat.me ≡ posed x w.unit w.journal.items w.exclusive w.held) c.requires.belongs.about w.tied)
           c.in-Some.ensures.areas c.requires.no_cells here (ap (λ (b : ℕ). bit_not w64 (1 * 2 ^ b % 2 ^ 64)) c.latch_bit-bit.ensures) word,
     )
+
+pub returns-clause-same : goal.returns-clause-same
+returns-clause-same c = record { about = refl; unit = refl; journal = refl; table = c.fetch_and.ensures.0 }
+
+pub returns-clause-exclusive : goal.returns-clause-exclusive
+returns-clause-exclusive c = refl
+
+pub returns-clause-rest : goal.returns-clause-rest
+returns-clause-rest c = c.pop_area.ensures.rest

@@ -94,3 +94,21 @@ returns-in-Stale-clause-alone c one =
       subst (λ (db : Database). is_stale w.about.schema.value w.about.capacity db w.unit c.turn_back.new.self.held.guesses c.args.statement.now ≡ false) (r.alone one)
           (subst (λ (g : List (Option Owner)). is_stale w.about.schema.value w.about.capacity r.db w.unit g c.args.statement.now ≡ false) (sym (c.turn_back.ensures.noted r.db r.agrees)) no),
     )
+
+pub returns-in-Area-clause-same : goal.returns-in-Area-clause-same
+returns-in-Area-clause-same c = c.take_area.ensures.same
+
+pub returns-in-Area-clause-work : goal.returns-in-Area-clause-work
+returns-in-Area-clause-work c = c.take_area.ensures.work
+
+pub returns-in-Some-clause-same : goal.returns-in-Some-clause-same
+returns-in-Some-clause-same c = c.take_cell.ensures.same
+
+pub returns-in-Some-clause-work : goal.returns-in-Some-clause-work
+returns-in-Some-clause-work c = c.take_cell.ensures.work
+
+pub returns-in-Stale-clause-same : goal.returns-in-Stale-clause-same
+returns-in-Stale-clause-same c = c.turn_back.ensures.same
+
+pub returns-in-Stale-clause-work : goal.returns-in-Stale-clause-work
+returns-in-Stale-clause-work c = c.turn_back.ensures.work

@@ -55,3 +55,15 @@ returns-clause-work c =
       real = real_less w.about w.unit w.journal.items w.held c.pop_cell.new.self _ (c.pop_cell.ensures.cells) c.requires.work.real;
       rings = subst (λ (h : Hands). HaveRings w.about.schema.value w.about.capacity h.guesses) (sym c.pop_cell.ensures.rest) c.requires.work.rings;
     }
+
+pub returns-clause-same : goal.returns-clause-same
+returns-clause-same c = record { about = refl; unit = refl; journal = refl; table = c.fetch_and.ensures.0 ∙ c.exchange.ensures.0 }
+
+pub returns-clause-exclusive : goal.returns-clause-exclusive
+returns-clause-exclusive c = refl
+
+pub returns-clause-rest : goal.returns-clause-rest
+returns-clause-rest c = c.pop_cell.ensures.rest
+
+pub returns-clause-held : goal.returns-clause-held
+returns-clause-held c = ((c.in-Some.name, c.in-Some.cell), c.in-Some.ensures.cells)

@@ -24,3 +24,9 @@ returns-then-found-ne0-clause-alone c one =
     let w = c.args.self.now in
     let word : 1 + c.index.result ≡ 1 + c.args.area = ap (λ (n : ℕ). 1 + n) c.index.ensures in
     absurd (c.if-found-ne0.true (free_as w.about c.args.area (1 + c.index.result) c.compare_exchange-found.result w.seat.me (member_of w.unit w.journal.items w.exclusive w.held) (empty_slots w.about w.held.cells) w.tied word c.compare_exchange-found.ensures.2.2 one c.requires.area.1))
+
+pub returns-then-found-ne0-clause-same : goal.returns-then-found-ne0-clause-same
+returns-then-found-ne0-clause-same c = record { about = refl; unit = refl; journal = refl; table = c.compare_exchange-found.ensures.0 }
+
+pub returns-clause-same : goal.returns-clause-same
+returns-clause-same c = record { about = refl; unit = refl; journal = refl; table = c.compare_exchange-found.ensures.0 }

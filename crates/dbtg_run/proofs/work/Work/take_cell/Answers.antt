@@ -143,3 +143,24 @@ push_cell-requires c =
     let w = c.args.self.now in
     let r = c.requires.work.real in
     needed_not_in_hand w.about.schema.value w.about.capacity r.db w.unit w.held c.args.statement.now c.args.name (c.requires.needed r.db r.agrees)
+
+pub returns-then-compare_exchange-ne0-clause-same : goal.returns-then-compare_exchange-ne0-clause-same
+returns-then-compare_exchange-ne0-clause-same c = record { about = refl; unit = refl; journal = refl; table = c.compare_exchange.ensures.0 }
+
+pub returns-then-compare_exchange-ne0-clause-work : goal.returns-then-compare_exchange-ne0-clause-work
+returns-then-compare_exchange-ne0-clause-work c = let work = c.requires.work in record { ours = work.ours; real = work.real; rings = work.rings }
+
+pub returns-then-compare_exchange-ne0-clause-exclusive : goal.returns-then-compare_exchange-ne0-clause-exclusive
+returns-then-compare_exchange-ne0-clause-exclusive c = refl
+
+pub returns-then-compare_exchange-ne0-clause-took : goal.returns-then-compare_exchange-ne0-clause-took
+returns-then-compare_exchange-ne0-clause-took c = refl
+
+pub returns-in-Ok-clause-same : goal.returns-in-Ok-clause-same
+returns-in-Ok-clause-same c = record { about = refl; unit = refl; journal = refl; table = c.exchange.ensures.0 ∙ c.compare_exchange.ensures.0 }
+
+pub returns-in-Ok-clause-exclusive : goal.returns-in-Ok-clause-exclusive
+returns-in-Ok-clause-exclusive c = refl
+
+pub returns-in-Ok-clause-took : goal.returns-in-Ok-clause-took
+returns-in-Ok-clause-took c = (c.in-Some.cell, c.in-Ok.ensures.ok)

@@ -47,3 +47,18 @@ returns-then-found-seen-clause-alone c one =
     let z = free_as w.about c.args.area (1 + c.index.result) c.load-seen.result w.seat.me (member_of w.unit w.journal.items w.exclusive w.held) (empty_slots w.about w.held.cells) w.tied word e.2.2 one c.requires.area.1 in
     let found = free_as w.about c.args.area (1 + c.index.result) c.compare_exchange-found.result c.load-seen.new.seat.me (member_of w.unit w.journal.items w.exclusive w.held) (empty_slots w.about w.held.cells) (e.2.0 ∙ w.tied) word c.compare_exchange-found.ensures.2.2 one c.requires.area.1 in
     absurd (c.if-found-seen.true (found ∙ sym z))
+
+pub returns-then-seen-ge256-clause-same : goal.returns-then-seen-ge256-clause-same
+returns-then-seen-ge256-clause-same c = record { about = refl; unit = refl; journal = refl; table = c.load-seen.ensures.0 }
+
+pub returns-then-seen-ge256-clause-work : goal.returns-then-seen-ge256-clause-work
+returns-then-seen-ge256-clause-work c = let work = c.requires.work in record { ours = work.ours; real = work.real; rings = work.rings }
+
+pub returns-then-seen-ge256-clause-took : goal.returns-then-seen-ge256-clause-took
+returns-then-seen-ge256-clause-took c = (refl, refl)
+
+pub returns-then-found-seen-clause-same : goal.returns-then-found-seen-clause-same
+returns-then-found-seen-clause-same c = record { about = refl; unit = refl; journal = refl; table = c.compare_exchange-found.ensures.0 ∙ c.load-seen.ensures.0 }
+
+pub returns-clause-same : goal.returns-clause-same
+returns-clause-same c = record { about = refl; unit = refl; journal = refl; table = c.compare_exchange-found.ensures.0 ∙ c.load-seen.ensures.0 }

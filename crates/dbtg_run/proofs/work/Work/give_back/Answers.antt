@@ -1,0 +1,12 @@
+use Rattle.std.proofs.Common.{rules, ◌∙◌}
+use Rattle.dbtg_run.proofs.work.Work.give_back.Goals as goal
+
+pub areas-preserved : goal.areas-preserved
+areas-preserved c =
+    let i = c.areas.invariant in let given = c.leave_area.ensures in record {
+      belongs = record { about = given.same.about ∙ i.belongs.about; table = given.same.table ∙ i.belongs.table };
+      same = record { about = given.same.about ∙ i.same.about; unit = given.same.unit ∙ i.same.unit; journal = given.same.journal ∙ i.same.journal; table = given.same.table ∙ i.same.table };
+      work = given.work;
+      exclusive = given.exclusive ∙ i.exclusive;
+      held = search rules;
+    }
