@@ -64,7 +64,7 @@ impl<'a> Meeting<'a> {
         Ok(Walk {
             database: ReversibleDatabase::of(alloc, database),
             turns: Vec::new(alloc),
-            numbers: self.no_numbers(alloc)?,
+            numbers: self.places().no_numbers(alloc)?,
             notes,
             transitions: Transitions::none(alloc),
         })
