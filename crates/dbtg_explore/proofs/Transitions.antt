@@ -168,8 +168,8 @@ module _ (m : Meeting) (determines : LookedAtDetermines) (is : IsMeeting m) (kep
   its_unit : (q : List ℕ) → (unit : Unit) × (slice_get (state_of m q).sequential.units (u - 1) ≡ Some unit)
   its_unit q = let counted = units_count m q in there_is (state_of m q).sequential.units (u - 1) (omega (arith, low, high, counted))
 
-  seen : WasSeen (parts_of m h) (unit_part m h') (cell_part m h') kept passage names t.looks
-  seen = record {
+  was_seen : WasSeen (parts_of m h) (unit_part m h') (cell_part m h') kept passage names t.looks
+  was_seen = record {
     numbered = low;
     within = high;
     before = passed.before.number;
@@ -187,10 +187,10 @@ module _ (m : Meeting) (determines : LookedAtDetermines) (is : IsMeeting m) (kep
     g' = history_of m (q ++ passage.unit ∷ [])
 
     same_part : unit_part m h u ≡ unit_part m g u
-    same_part = same_unit_said _ _ _ _ _ _ _ seen (unit_part m g) (cell_part m g) say
+    same_part = same_unit_said _ _ _ _ _ _ _ was_seen (unit_part m g) (cell_part m g) say
 
     same_cell : (c : CellName) → In c names → cell_part m h c ≡ cell_part m g c
-    same_cell = same_cell_said _ _ _ _ _ _ _ seen (unit_part m g) (cell_part m g) say
+    same_cell = same_cell_said _ _ _ _ _ _ _ was_seen (unit_part m g) (cell_part m g) say
 
     module _ (unit own : Unit) (stands : slice_get (state_of m o).sequential.units (u - 1) ≡ Some unit) (stands' : slice_get (state_of m q).sequential.units (u - 1) ≡ Some own) where
       first_unit : (p : List ℕ) (v : Unit) → slice_get (state_of m p).sequential.units (u - 1) ≡ Some v → unit_at (unversioned (sequential_after m (history_of m p))).units u ≡ Some (unversioned_unit (state_of m p).sequential.database v)
@@ -275,7 +275,7 @@ module _ (m : Meeting) (determines : LookedAtDetermines) (is : IsMeeting m) (kep
       other_cell c apart = cell_then m q u x own low its' stands' due' c ∙ lead.others c (false_from_ne_true (holds once.hands.cells c) (λ held. apart (held_named c held)))
 
       leads : Follow kept.contents (parts_of m g) (parts_of m g') t.looks
-      leads = follows _ _ _ _ _ _ _ seen (unit_part m g) (cell_part m g) say (unit_part m g') (cell_part m g') part_then cell_same_then (λ v _ apart. other_part v apart) other_cell
+      leads = follows _ _ _ _ _ _ _ was_seen (unit_part m g) (cell_part m g) say (unit_part m g') (cell_part m g') part_then cell_same_then (λ v _ apart. other_part v apart) other_cell
 
   -- so it leads wherever the same is looked at
   is_transition : IsTransition m kept.contents changing u t.looks
@@ -285,7 +285,7 @@ module _ (m : Meeting) (determines : LookedAtDetermines) (is : IsMeeting m) (kep
       leads q alone say unit.0 own.0 unit.1 own.1
 
   is_known : IsKnown m kept.contents changing t
-  is_known = record { looks = looks_are _ _ _ _ _ _ _ seen; leads = subst (λ v. IsTransition m kept.contents changing v t.looks) (sym of.unit_is) is_transition }
+  is_known = record { looks = looks_are _ _ _ _ _ _ _ was_seen; leads = subst (λ v. IsTransition m kept.contents changing v t.looks) (sym of.unit_is) is_transition }
 
 -- what is kept of a passage beside what was known is known
 pub known_more : (m : Meeting) → LookedAtDetermines → IsMeeting m → (kept : Numbers) (o : List ℕ) (names : List CellName) (changing : Bool) (passage : Passage) → IsPassage m kept o names changing passage → (old new : List Transition)
