@@ -68,8 +68,8 @@ module _ (m : Meeting) (determines : LookedAtDetermines) (is : IsMeeting m) (kep
   its : IsNextFit m u x
   its = next_fits m is o u x passed.next
 
-  seen : WasSeen (parts_of m o) (unit_part m more) (cell_part m more) kept passage names t.looks
-  seen = record {
+  was_seen : WasSeen (parts_of m o) (unit_part m more) (cell_part m more) kept passage names t.looks
+  was_seen = record {
     numbered = its.numbered;
     within = its.within;
     before = passed.before.number;
@@ -84,7 +84,7 @@ module _ (m : Meeting) (determines : LookedAtDetermines) (is : IsMeeting m) (kep
     further = q ++ (passage.unit, x) ∷ []
 
     same_here : SameUnit m o q u
-    same_here = same_unit m o q u its.numbered its.within (same_unit_said _ _ _ _ _ _ _ seen (unit_part m q) (cell_part m q) say)
+    same_here = same_unit m o q u its.numbered its.within (same_unit_said _ _ _ _ _ _ _ was_seen (unit_part m q) (cell_part m q) say)
 
     module _ (unit : Unit) (stands : slice_get (state_of m o).units (u - 1) ≡ Some unit) where
       stands' : slice_get (state_of m q).units (u - 1) ≡ Some unit
@@ -105,7 +105,7 @@ module _ (m : Meeting) (determines : LookedAtDetermines) (is : IsMeeting m) (kep
           (record { legal = passed.before.legal; count = units_after_order m o; stands = stands })
           (record { legal = legal; count = units_after_order m q; stands = stands' })
           once.holds_all
-          (λ c held. same_cell_said _ _ _ _ _ _ _ seen (unit_part m q) (cell_part m q) say c (held_named c held))
+          (λ c held. same_cell_said _ _ _ _ _ _ _ was_seen (unit_part m q) (cell_part m q) say c (held_named c held))
 
       -- the parts that were looked at say the same after both
       told_then : (b : Bool) → (if b then unit_answers m o u else []) ≡ (if b then unit_answers m q u else []) → (if b then unit_answers m more u else []) ≡ (if b then unit_answers m further u else [])
@@ -134,7 +134,7 @@ module _ (m : Meeting) (determines : LookedAtDetermines) (is : IsMeeting m) (kep
               code_is = of.status_is ∙ passed.has_status.code_is ∙ ap (λ (a : Answer). status_code x a.status) answer;
             };
             follow =
-                follows _ _ _ _ _ _ _ seen (unit_part m q) (cell_part m q) say (unit_part m further) (cell_part m further) unit_part_then
+                follows _ _ _ _ _ _ _ was_seen (unit_part m q) (cell_part m q) say (unit_part m further) (cell_part m further) unit_part_then
                 (λ c there. cell_then m o u x unit its.numbered stands c ∙ alike.held c (named_held c there) ∙ sym (cell_then m q u x unit its.numbered stands' c))
                 (λ v low apart. same_unit_part m q u x v low its.numbered apart)
                 (λ c apart. cell_then m q u x unit its.numbered stands' c ∙ alike.others c (false_from_ne_true (holds once.hands.cells c) (λ held. apart (held_named c held))));
@@ -148,7 +148,7 @@ module _ (m : Meeting) (determines : LookedAtDetermines) (is : IsMeeting m) (kep
       subst (λ (z : Statement). LeadsAs m kept.contents q u z t) same (leads q legal say unit.0 unit.1)
 
   pub is_known : IsKnown m kept.contents t.unit t
-  is_known = subst (λ (v : ℕ). IsKnown m kept.contents v t) (sym of.unit_is) (record { looks = looks_are _ _ _ _ _ _ _ seen; leads = is_transition })
+  is_known = subst (λ (v : ℕ). IsKnown m kept.contents v t) (sym of.unit_is) (record { looks = looks_are _ _ _ _ _ _ _ was_seen; leads = is_transition })
 
 -- a transition that is known still is when more is kept
 pub known_later : (m : Meeting) (old new : List (List ℕ)) → Keeps old new → (u : ℕ) (t : Transition) → IsKnown m old u t → IsKnown m new u t
