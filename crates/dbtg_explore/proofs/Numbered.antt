@@ -9,7 +9,7 @@ use Rattle.dbtg_step.specs.Core.Whole.{Making}
 use Rattle.dbtg_going.specs.declared.member.Going.{Going}
 use Rattle.dbtg_states.specs.Numbers.{AreNumbers, Grow, HasPut, IsNumberBut, Numbers, NumbersState}
 use Rattle.dbtg_states.specs.Parts.{Parts, parts_in}
-use Rattle.dbtg_states.proofs.States.Numbers.{grow_more, grow_none, stays_number, unit_put, with_parts}
+use Rattle.dbtg_states.proofs.States.Numbers.{but_units, stays_number}
 use Rattle.dbtg_states.proofs.States.ShownParts.{unchanged_shown}
 use Rattle.dbtg_explore.specs.Orders.{Meeting, history_of}
 use Rattle.dbtg_explore.specs.States.{sequential_after}
@@ -17,40 +17,6 @@ use Rattle.dbtg_explore.specs.Inside.Parts.{AreNumbered, IsNumberOf, cell_part, 
 use Rattle.dbtg_explore.specs.Inside.Walks.{AreStanding}
 use Rattle.dbtg_explore.proofs.Parts.{shown_first}
 use Rattle.dbtg_explore.proofs.Searched.{contains_behind, contains_cases, contains_here, contains_none}
-
--- ONE MORE STATE
-
--- the array of a state says what is so of the next, but for the units and the cells that are named
-pub but_units : (p : Parts) (unit : ℕ → List ℕ) (cell : CellName → List ℕ) (kept : Numbers) (names : List CellName) (n : ℕ) → NumbersState p kept n → ((c : CellName) → is_named names c ≡ false → cell c ≡ p.cell c) → IsNumberBut (with_parts p unit cell) kept 0 names n
-but_units p unit cell kept names n h same = record {
-  kept_once = h.kept_once;
-  room = h.room;
-  is_array = h.is_array;
-  units_are = λ u low high. absurd (omega (arith, low, high));
-  cells_are = λ c k number free. h.cells_are c k number refl ∙ ap Some (sym (same c free));
-  zeros = h.zeros;
-}
-
--- UNITS, ONE AFTER ANOTHER
-
-module _ (p : Parts) where
-  -- this many units are put
-  pub record ArePut (old new : Numbers) (units array n : ℕ) : Type 0 where
-    pub keeps : Grow old new
-    pub but : (names : List CellName) → IsNumberBut p old 0 names array → IsNumberBut p new units names n
-
-  pub none_put : (old : Numbers) (array : ℕ) → ArePut old old 0 array array
-  none_put old array = record { keeps = grow_none old; but = λ names h. h }
-
-  pub one_put : (old mid new : Numbers) (units array n k : ℕ) → units < p.count → ArePut old mid units array n → HasPut mid new n (units + 1 - 1) (p.unit (units + 1)) k → ArePut old new (units + 1) array k
-  one_put old mid new units array n k low so_far put =
-      let next : units + 1 ≡ suc units = omega arith in
-      let place : units + 1 - 1 ≡ units = omega arith in
-      let there : HasPut mid new n units (p.unit (suc units)) k = subst (λ j. HasPut mid new n j (p.unit (suc units)) k) place (subst (λ v. HasPut mid new n (units + 1 - 1) (p.unit v) k) next put) in
-      record {
-        keeps = grow_more old mid new so_far.keeps put.keeps;
-        but = λ names h. subst (λ v. IsNumberBut p new v names k) (sym next) (unit_put p mid new units names n k low (so_far.but names h) there);
-      }
 
 -- STATES
 
@@ -61,19 +27,17 @@ module _ (m : Meeting) where
       ap (λ (k : Making). parts_in false (length m.programs) k (unit_part m d.history)) (same ∙ w.database_is)
       ∙ (λ i. record (parts_of m d.history) { cell = λ c. shown_first m.schema m.capacity (sequential_after m d.history).database (length m.programs) c i })
 
-  module _ (d there : Making) (goings : List Going) (standing : AreStanding m d goings) (same : there ≡ d) (versions : Bool) (units : ℕ) (first : versions ≡ false) (count : units ≡ length m.programs) where
-    pub spelled_but : (kept : Numbers) (names : List CellName) (n : ℕ) → IsNumberBut (parts_of m d.history) kept (length m.programs) names n → IsNumberBut (parts_in versions units there (unit_part m d.history)) kept units names n
+  module _ (d there : Making) (goings : List Going) (standing : AreStanding m d goings) (same : there ≡ d) (units : ℕ) (count : units ≡ length m.programs) where
+    pub spelled_but : (kept : Numbers) (names : List CellName) (n : ℕ) → IsNumberBut (parts_of m d.history) kept (length m.programs) names n → IsNumberBut (parts_in false units there (unit_part m d.history)) kept units names n
     spelled_but kept names n h =
-        subst (λ b. IsNumberBut (parts_in b units there (unit_part m d.history)) kept units names n) (sym first)
-        (subst (λ j. IsNumberBut (parts_in false j there (unit_part m d.history)) kept j names n) (sym count)
-        (subst (λ (p : Parts). IsNumberBut p kept (length m.programs) names n) (sym (parts_there d there goings standing same)) h))
+        subst (λ j. IsNumberBut (parts_in false j there (unit_part m d.history)) kept j names n) (sym count)
+        (subst (λ (p : Parts). IsNumberBut p kept (length m.programs) names n) (sym (parts_there d there goings standing same)) h)
 
-    pub spelled_state : (kept : Numbers) (n : ℕ) → NumbersState (parts_in versions units there (unit_part m d.history)) kept n → IsNumberOf m kept d.history n
+    pub spelled_state : (kept : Numbers) (n : ℕ) → NumbersState (parts_in false units there (unit_part m d.history)) kept n → IsNumberOf m kept d.history n
     spelled_state kept n h = record {
       number =
           subst (λ (p : Parts). IsNumberBut p kept (length m.programs) [] n) (parts_there d there goings standing same)
-          (subst (λ j. IsNumberBut (parts_in false j there (unit_part m d.history)) kept j [] n) count
-          (subst (λ b. IsNumberBut (parts_in b units there (unit_part m d.history)) kept units [] n) first h));
+          (subst (λ j. IsNumberBut (parts_in false j there (unit_part m d.history)) kept j [] n) count h);
     }
 
   -- the array of the state before says what is so of all cells but those that changed

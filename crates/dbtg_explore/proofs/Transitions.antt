@@ -1,19 +1,15 @@
 -- What was seen once of a turn is so wherever the same is looked at.
--- m is a meeting, h and g are histories, o and q orders, u and v units, x is a statement, l is a look, i a place in an array, c the name of a
--- cell, n and k are numbers of states.
+-- m is a meeting, h and g are histories, o and q orders, u and v units, x is a statement, t a transition, c the name of a cell.
 use Rattle.std.proofs.Common.{◌≡◌, refl, sym, ◌∙◌, ap, subst, ℕ, zero, suc, ◌+◌, ◌-◌, ◌<◌, ◌≤◌, Bool, true, false, List, [], ◌∷◌, ◌++◌, length, Option, Some, None, inl, inr, ⊎_elim, arith, map, slice_get}
-use Rattle.std.specs.Prelude.{◌≢◌, All, is_some, option_and_then, option_map, slice_set, unwrap_or}
-use Rattle.std.proofs.lemmas.Bool.{cases_Bool, cases_lt, false≢true, false_from_ne_true}
-use Rattle.std.proofs.lemmas.List.{length-append}
-use Rattle.std.proofs.lemmas.List.Elements.{All-weaker}
+use Rattle.std.specs.Prelude.{◌≢◌, is_some, option_and_then, option_map, slice_set}
+use Rattle.std.proofs.lemmas.Bool.{cases_Bool, false_from_ne_true}
 use Rattle.std.proofs.lemmas.Option.{same_Some, slice_get_within}
 use Rattle.dbtg_interned.specs.Kept.{Keeps}
-use Rattle.dbtg_interned.specs.Arrays.{elements}
-use Rattle.dbtg_cells.specs.CellNumbers.{cell_count, cell_number, cells_in_order}
+use Rattle.dbtg_cells.specs.CellNumbers.{cell_count}
 use Rattle.dbtg_cells.specs.declared.key.DbKey.{DbKey}
 use Rattle.dbtg_cells.specs.declared.name.CellName.{CellName}
 use Rattle.dbtg_cells.specs.declared.name.CellName.TheVariants.{Slot}
-use Rattle.dbtg_cells.proofs.Public.{get_set_other, get_set_same, numbered_at, stands_at, there_is}
+use Rattle.dbtg_cells.proofs.Public.{get_set_other, get_set_same, there_is}
 use Rattle.dbtg_unit.specs.declared.statement.Statement.{Statement}
 use Rattle.dbtg_unit.specs.declared.unit.Entry.{Entry}
 use Rattle.dbtg_unit.specs.declared.unit.Unit.{Unit}
@@ -23,27 +19,26 @@ use Rattle.dbtg_unit.specs.Database.Statements.Effect.{StatementEffect, effect}
 use Rattle.dbtg_unit.specs.Database.Statements.Fits.{fits}
 use Rattle.dbtg_unit.specs.Database.Laws.Replay.{State, after, effect_of_unit}
 use Rattle.dbtg_unit.specs.Hands.Local.{holds}
-use Rattle.dbtg_unit.proofs.Public.{In, in_map, of_map}
+use Rattle.dbtg_unit.proofs.Public.{In}
 use Rattle.dbtg_program.specs.declared.program.Program.{Program}
 use Rattle.dbtg_program.specs.Going.{Due}
 use Rattle.dbtg_step.specs.Machine.SequentialDatabase.{unit_at, with_unit_at}
 use Rattle.dbtg_going.specs.Turns.{comes, statement_due}
-use Rattle.dbtg_states.specs.declared.transitions.Look.{Look}
 use Rattle.dbtg_states.specs.declared.transitions.Passage.{Passage}
 use Rattle.dbtg_states.specs.declared.transitions.Transition.{Transition}
 use Rattle.dbtg_states.specs.Looked.{IsReadyWith, LookedAtDetermines}
 use Rattle.dbtg_states.specs.Numbers.{Numbers}
-use Rattle.dbtg_states.specs.Transitions.{AreLooks, cell_place}
-use Rattle.dbtg_states.specs.Inside.Transitions.{Follow, IsLook, SayBefore, is_looked_at, part_at}
+use Rattle.dbtg_states.specs.Transitions.{AddsPassage, IsOfPassage}
+use Rattle.dbtg_states.specs.Inside.Transitions.{Follow, SayBefore}
 use Rattle.dbtg_states.proofs.States.Units.{unit_is}
-use Rattle.dbtg_states.proofs.States.Places.{at_cell, at_unit, behind_units, each_in, each_of, is_looked, its_number, number_says, place_by, places, says_some, stays_there}
+use Rattle.dbtg_states.proofs.States.Leads.{WasSeen, follow_later, follows, looks_are, looks_later, said_before, same_cell_said, same_unit_said}
 use Rattle.dbtg_states.proofs.States.InHand.{held_in, in_held}
 use Rattle.dbtg_explore.specs.declared.next_state.Seen as given
 use Rattle.dbtg_explore.specs.Orders.{IsMeeting, Meeting, due_of, history_of}
 use Rattle.dbtg_explore.specs.States.{MeetingState, sequential_after, state_of}
 use Rattle.dbtg_explore.specs.Versions.{unversioned, unversioned_entry, unversioned_unit}
 use Rattle.dbtg_explore.specs.Inside.Parts.{cell_part, kept_count, parts_of, unit_part}
-use Rattle.dbtg_explore.specs.Inside.Transitions.{AreSeen, IsKnown, IsPassage, IsTransition, KeepsAlone, SlotsStay}
+use Rattle.dbtg_explore.specs.Inside.Transitions.{AreKnown, AreSeen, IsKnown, IsPassage, IsTransition, KeepsAlone, SlotsStay}
 use Rattle.dbtg_explore.proofs.Alike.{IsDueOf, comes_at, comes_then, due_is, due_there, programs_then, state_of_on, with_made, with_outcome}
 use Rattle.dbtg_explore.proofs.Keyed.{due_fits, legal, of_due, units_count}
 use Rattle.dbtg_explore.proofs.Parts.{part_said, part_tells, said_of}
@@ -144,14 +139,8 @@ module _ (m : Meeting) (p : List ℕ) (u : ℕ) (x : Statement) (unit : Unit) (l
 
 -- THE SAME AS ONCE
 
-module _ (m : Meeting) (determines : LookedAtDetermines) (is : IsMeeting m) (kept : Numbers) (o : List ℕ) (names : List CellName) (changing : Bool) (passage : Passage) (looks : List Look)
-    (passed : IsPassage m kept o names changing passage) (seen : AreLooks m.schema m.capacity (length m.programs) kept passage names looks) where
-  abbrev contents : List (List ℕ)
-  contents = kept.contents
-
-  abbrev all_places : ℕ
-  all_places = length m.programs + cell_count m.schema m.capacity
-
+module _ (m : Meeting) (determines : LookedAtDetermines) (is : IsMeeting m) (kept : Numbers) (o : List ℕ) (names : List CellName) (changing : Bool) (passage : Passage) (t : Transition)
+    (passed : IsPassage m kept o names changing passage) (of : IsOfPassage m.schema m.capacity (length m.programs) kept passage names t) where
   abbrev u : ℕ
   u = passage.unit
 
@@ -179,67 +168,29 @@ module _ (m : Meeting) (determines : LookedAtDetermines) (is : IsMeeting m) (kep
   its_unit : (q : List ℕ) → (unit : Unit) × (slice_get (state_of m q).sequential.units (u - 1) ≡ Some unit)
   its_unit q = let counted = units_count m q in there_is (state_of m q).sequential.units (u - 1) (omega (arith, low, high, counted))
 
-  -- a place that was looked at is the unit's or a cell's
-  looked_by : (P : ℕ → Type 0) → P (u - 1) → ((c : CellName) (i : ℕ) → In c names → cell_number m.schema m.capacity c ≡ Some i → P (length m.programs + i)) → (i : ℕ) → In i (places looks) → P i
-  looked_by P of_unit of_cell i there = place_by m.schema m.capacity (length m.programs) (u - 1) names passed.looks_at.are_cells P of_unit of_cell i (subst (λ (is : List ℕ). In i is) seen.places_are there)
-
-  place_within : (i : ℕ) → In i (places looks) → i < all_places
-  place_within =
-      looked_by (λ i. i < all_places)
-      (omega (arith, low, high))
-      (λ c i there number. let within = slice_get_within (cells_in_order m.schema m.capacity) i c (stands_at c (cells_in_order m.schema m.capacity) i number) in omega (arith, within))
-
-  unit_looked : In (u - 1) (places looks)
-  unit_looked = subst (λ (is : List ℕ). In (u - 1) is) (sym seen.places_are) (inl refl)
-
-  cell_looked : (c : CellName) (i : ℕ) → In c names → cell_number m.schema m.capacity c ≡ Some i → In (length m.programs + i) (places looks)
-  cell_looked c i there number =
-      let is : cell_place m.schema m.capacity (length m.programs) c ≡ length m.programs + i = ap (λ (r : Option ℕ). length m.programs + unwrap_or r 0) number in
-      subst (λ (ps : List ℕ). In (length m.programs + i) ps) (sym seen.places_are) (inr (subst (λ j. In j (map (cell_place m.schema m.capacity (length m.programs)) names)) is (in_map (cell_place m.schema m.capacity (length m.programs)) c names there)))
-
-  -- what was looked at said this before, and says this after
-  had_before : (l : Look) → In l looks → slice_get contents l.before ≡ part_at (parts_of m h) l.place
-  had_before l i =
-      sym (ap (option_and_then (slice_get contents)) (each_in (λ l. slice_get (elements kept.arrays passage.before) l.place ≡ Some l.before) looks seen.had l i))
-      ∙ number_says (parts_of m h) kept passage.before passed.before.number l.place (place_within l.place (in_map (λ (l : Look). l.place) l looks i))
-
-  has_after : (l : Look) → In l looks → slice_get contents l.after ≡ part_at (parts_of m h') l.place
-  has_after l i =
-      sym (ap (option_and_then (slice_get contents)) (each_in (λ l. slice_get (elements kept.arrays passage.after) l.place ≡ Some l.after) looks seen.has l i))
-      ∙ number_says (parts_of m h') kept passage.after passed.after.number l.place (place_within l.place (in_map (λ (l : Look). l.place) l looks i))
-
-  looks_are : All (IsLook (length m.programs + cell_count m.schema m.capacity) contents) looks
-  looks_are =
-      each_of (IsLook (length m.programs + cell_count m.schema m.capacity) contents) looks (λ l i.
-      let within = place_within l.place (in_map (λ (l : Look). l.place) l looks i) in
-      let before = says_some (parts_of m h) l.place within in
-      let after = says_some (parts_of m h') l.place within in
-      record {
-        place = within;
-        before = slice_get_within contents l.before before.0 (had_before l i ∙ before.1);
-        after = slice_get_within contents l.after after.0 (has_after l i ∙ after.1);
-      })
+  was_seen : WasSeen (parts_of m h) (unit_part m h') (cell_part m h') kept passage names t.looks
+  was_seen = record {
+    numbered = low;
+    within = high;
+    before = passed.before.number;
+    after = passed.after.number;
+    are_cells = passed.looks_at.looks_at.are_cells;
+    are_looks = of.are_looks;
+  }
 
   -- another order after which the parts that were looked at say what they said
-  module _ (q : List ℕ) (alone : changing ≡ true → KeepsAlone m (history_of m q) u) (say : SayBefore contents (parts_of m (history_of m q)) looks) where
+  module _ (q : List ℕ) (alone : changing ≡ true → KeepsAlone m (history_of m q) u) (say : SayBefore kept.contents (parts_of m (history_of m q)) t.looks) where
     abbrev g : List Entry
     g = history_of m q
 
     abbrev g' : List Entry
     g' = history_of m (q ++ passage.unit ∷ [])
 
-    same_there : (i : ℕ) → In i (places looks) → part_at (parts_of m h) i ≡ part_at (parts_of m g) i
-    same_there i there =
-        let at = of_map (λ (l : Look). l.place) i looks there in
-        subst (λ j. part_at (parts_of m h) j ≡ part_at (parts_of m g) j) at.2 (sym (had_before at.0 at.1) ∙ each_in (λ l. slice_get contents l.before ≡ part_at (parts_of m g) l.place) looks say at.0 at.1)
-
     same_part : unit_part m h u ≡ unit_part m g u
-    same_part = same_Some (unit_part m h u) (unit_part m g u) (sym (at_unit (parts_of m h) u low high) ∙ same_there (u - 1) unit_looked ∙ at_unit (parts_of m g) u low high)
+    same_part = same_unit_said _ _ _ _ _ _ _ was_seen (unit_part m g) (cell_part m g) say
 
     same_cell : (c : CellName) → In c names → cell_part m h c ≡ cell_part m g c
-    same_cell c there =
-        let number = its_number m.schema m.capacity names passed.looks_at.are_cells c there in
-        same_Some (cell_part m h c) (cell_part m g c) (sym (at_cell (parts_of m h) c number.0 number.1) ∙ same_there (length m.programs + number.0) (cell_looked c number.0 there number.1) ∙ at_cell (parts_of m g) c number.0 number.1)
+    same_cell = same_cell_said _ _ _ _ _ _ _ was_seen (unit_part m g) (cell_part m g) say
 
     module _ (unit own : Unit) (stands : slice_get (state_of m o).sequential.units (u - 1) ≡ Some unit) (stands' : slice_get (state_of m q).sequential.units (u - 1) ≡ Some own) where
       first_unit : (p : List ℕ) (v : Unit) → slice_get (state_of m p).sequential.units (u - 1) ≡ Some v → unit_at (unversioned (sequential_after m (history_of m p))).units u ≡ Some (unversioned_unit (state_of m p).sequential.database v)
@@ -261,7 +212,7 @@ module _ (m : Meeting) (determines : LookedAtDetermines) (is : IsMeeting m) (kep
       its' = record { program = its.program; found = its.found; at = its.at; comes_is = sym told.0 ∙ its.comes_is }
 
       once : IsReadyWith m.schema m.capacity (sequential_after m h).database unit x names
-      once = passed.looks_at.ready unit (at_number (state_of m o).sequential.units u low ∙ stands)
+      once = passed.looks_at.looks_at.ready unit stands
 
       held_named : (c : CellName) → holds once.hands.cells c ≡ true → In c names
       held_named c held = subst (λ (ns : List CellName). In c ns) once.names_are (held_in once.hands.cells c held)
@@ -295,12 +246,6 @@ module _ (m : Meeting) (determines : LookedAtDetermines) (is : IsMeeting m) (kep
       cell_same_then : (c : CellName) → In c names → cell_part m h' c ≡ cell_part m g' c
       cell_same_then c there = cell_then m o u x unit low its stands passed.looks_at.due c ∙ lead.held c (named_held c there) ∙ sym (cell_then m q u x own low its' stands' due' c)
 
-      same_then : (i : ℕ) → In i (places looks) → part_at (parts_of m h') i ≡ part_at (parts_of m g') i
-      same_then =
-          looked_by (λ i. part_at (parts_of m h') i ≡ part_at (parts_of m g') i)
-          (at_unit (parts_of m h') u low high ∙ ap Some part_then ∙ sym (at_unit (parts_of m g') u low high))
-          (λ c i there number. at_cell (parts_of m h') c i number ∙ ap Some (cell_same_then c there) ∙ sym (at_cell (parts_of m g') c i number))
-
       -- the others say what they said
       slots_stay : changing ≡ false → SlotsStay m (sequential_after m h).database done.database
       slots_stay plain t k =
@@ -329,71 +274,38 @@ module _ (m : Meeting) (determines : LookedAtDetermines) (is : IsMeeting m) (kep
       other_cell : (c : CellName) → (In c names → ⊥) → cell_part m g' c ≡ cell_part m g c
       other_cell c apart = cell_then m q u x own low its' stands' due' c ∙ lead.others c (false_from_ne_true (holds once.hands.cells c) (λ held. apart (held_named c held)))
 
-      other_then : (i : ℕ) → is_looked_at looks i ≡ false → part_at (parts_of m g') i ≡ part_at (parts_of m g) i
-      other_then i free =
-          ⊎_elim
-          (λ front.
-          let place : i + 1 - 1 ≡ i = omega arith in
-          let apart : i + 1 ≢ u = λ e. unseen (subst (λ j. In j (places looks)) (sym (sym place ∙ ap (λ v. v - 1) e)) unit_looked) in
-          subst (λ j. part_at (parts_of m g') j ≡ part_at (parts_of m g) j) place
-          (at_unit (parts_of m g') (i + 1) (omega arith) (omega (arith, front)) ∙ ap Some (other_part (i + 1) apart) ∙ sym (at_unit (parts_of m g) (i + 1) (omega arith) (omega (arith, front)))))
-          (λ past.
-          let place : length m.programs + (i - length m.programs) ≡ i = omega (arith, past) in
-          behind_units (parts_of m g') i past ∙ by_cell place (slice_get (cells_in_order m.schema m.capacity) (i - length m.programs)) refl ∙ sym (behind_units (parts_of m g) i past))
-          (cases_lt i (length m.programs)) where
-            unseen : In i (places looks) → ⊥
-            unseen there = false≢true (sym free ∙ is_looked looks i there)
-
-            by_cell : length m.programs + (i - length m.programs) ≡ i → (c : Option CellName) → slice_get (cells_in_order m.schema m.capacity) (i - length m.programs) ≡ c → option_map (cell_part m g') c ≡ option_map (cell_part m g) c
-            by_cell place None e = refl
-            by_cell place (Some c) e = ap Some (other_cell c (λ there. unseen (subst (λ j. In j (places looks)) place (cell_looked c (i - length m.programs) there (numbered_at m.schema m.capacity (i - length m.programs) c e)))))
-
-      leads : Follow contents (parts_of m g) (parts_of m g') looks
-      leads = record {
-        seen = each_of (λ l. slice_get contents l.after ≡ part_at (parts_of m g') l.place) looks (λ l i. has_after l i ∙ same_then l.place (in_map (λ (l : Look). l.place) l looks i));
-        unseen = other_then;
-      }
+      leads : Follow kept.contents (parts_of m g) (parts_of m g') t.looks
+      leads = follows _ _ _ _ _ _ _ was_seen (unit_part m g) (cell_part m g) say (unit_part m g') (cell_part m g') part_then cell_same_then (λ v _ apart. other_part v apart) other_cell
 
   -- so it leads wherever the same is looked at
-  is_transition : IsTransition m contents changing u looks
+  is_transition : IsTransition m kept.contents changing u t.looks
   is_transition q alone say =
       let unit = its_unit o in
       let own = its_unit q in
       leads q alone say unit.0 own.0 unit.1 own.1
 
-  pub is_known : (status : ℕ) → IsKnown m contents changing (record { unit = passage.unit; looks = looks; status = status })
-  is_known status = record { looks = looks_are; leads = is_transition }
+  is_known : IsKnown m kept.contents changing t
+  is_known = record { looks = looks_are _ _ _ _ _ _ _ was_seen; leads = subst (λ v. IsTransition m kept.contents changing v t.looks) (sym of.unit_is) is_transition }
+
+-- what is kept of a passage beside what was known is known
+pub known_more : (m : Meeting) → LookedAtDetermines → IsMeeting m → (kept : Numbers) (o : List ℕ) (names : List CellName) (changing : Bool) (passage : Passage) → IsPassage m kept o names changing passage → (old new : List Transition)
+    → AreKnown m kept.contents changing old → AddsPassage m.schema m.capacity (length m.programs) kept passage names old new → AreKnown m kept.contents changing new
+known_more m determines is kept o names changing passage passed old new known adds t there =
+    ⊎_elim (λ before. known t before) (λ of. is_known m determines is kept o names changing passage t passed of) (adds t there)
 
 -- LATER
 
 module _ (m : Meeting) (old new : List (List ℕ)) (keeps : Keeps old new) where
-  longer : length old ≤ length new
-  longer = let is : length new ≡ length (old ++ keeps.rest) = ap length keeps.new_is in let all = length-append old keeps.rest in omega (arith, is, all)
-
-  looks_later : (looks : List Look) → All (IsLook (length m.programs + cell_count m.schema m.capacity) old) looks → All (IsLook (length m.programs + cell_count m.schema m.capacity) new) looks
-  looks_later looks =
-      All-weaker (IsLook (length m.programs + cell_count m.schema m.capacity) old) (IsLook (length m.programs + cell_count m.schema m.capacity) new) (λ l h.
-      let more = longer in
-      let before = h.before in
-      let after = h.after in
-      record { place = h.place; before = omega (arith, before, more); after = omega (arith, after, more) })
-      looks
-
   -- a transition leads where it led when more is kept
   pub known_later : (changing : Bool) (t : Transition) → IsKnown m old changing t → IsKnown m new changing t
-  known_later changing t known = record {
-    looks = looks_later t.looks known.looks;
-    leads = λ q alone say.
-        let said : SayBefore old (parts_of m (history_of m q)) t.looks
-        = each_of (λ l. slice_get old l.before ≡ part_at (parts_of m (history_of m q)) l.place) t.looks (λ l i.
-        sym (stays_there old new keeps l.before (each_in (IsLook (length m.programs + cell_count m.schema m.capacity) old) t.looks known.looks l i).before) ∙ each_in (λ l. slice_get new l.before ≡ part_at (parts_of m (history_of m q)) l.place) t.looks say l i) in
-        let lead = known.leads q alone said in
-        record {
-          seen = each_of (λ l. slice_get new l.after ≡ part_at (parts_of m (history_of m (q ++ t.unit ∷ []))) l.place) t.looks (λ l i.
-              stays_there old new keeps l.after (each_in (IsLook (length m.programs + cell_count m.schema m.capacity) old) t.looks known.looks l i).after ∙ each_in (λ l. slice_get old l.after ≡ part_at (parts_of m (history_of m (q ++ t.unit ∷ []))) l.place) t.looks lead.seen l i);
-          unseen = lead.unseen;
-        };
-  }
+  known_later changing t known =
+      let count : ℕ = length m.programs + cell_count m.schema m.capacity in
+      record {
+        looks = looks_later old new keeps count t.looks known.looks;
+        leads = λ q alone say.
+            let lead = known.leads q alone (said_before old new keeps count t.looks known.looks (parts_of m (history_of m q)) say) in
+            follow_later old new keeps count t.looks known.looks (parts_of m (history_of m q)) (parts_of m (history_of m (q ++ t.unit ∷ []))) lead;
+      }
 
   pub seen_later : (seen : given.Seen) → AreSeen m old seen → AreSeen m new seen
   seen_later seen h = record { plain = λ t c. known_later false t (h.plain t c); changing = λ t c. known_later true t (h.changing t c) }

@@ -20,7 +20,7 @@ use dbtg_states::{Stop, Watch};
 use std::alloc::{AllocError, Global};
 
 /// A unit whose program fails, and how.
-#[derive(Clone, Copy, PartialEq, Eq)]
+#[derive(Clone, Copy)]
 pub struct Failure {
     pub unit: u8,
     pub how: End,

@@ -7,6 +7,7 @@ ghost use Rattle.std.specs.Prelude.{◌≡◌, length, option_map};
 use crate::walk::Walk;
 use dbtg_program::Program;
 use dbtg_schema::Schema;
+use dbtg_states::Places;
 use dbtg_unit::Statement;
 use std::marker::Model;
 
@@ -37,6 +38,20 @@ impl<'a> Meeting<'a> {
         ensures { result ≡ length self.now.programs }
     {
         self.programs.len() as u8
+    }
+
+    /// Where the parts of a state stand.
+    pub(crate) fn places(&self) -> Places<'a>
+        requires { IsMeeting self.now }
+        ensures schema { result.schema.now ≡ self.now.schema }
+        ensures capacity { result.capacity ≡ self.now.capacity }
+        ensures units { result.units ≡ length self.now.programs }
+    {
+        Places {
+            schema: self.schema,
+            capacity: self.capacity,
+            units: self.units(),
+        }
     }
 
     /// The statement that is due in the program of the unit.

@@ -3,7 +3,7 @@
 ghost use Rattle.dbtg_cells.specs.declared.name.CellName.TheVariants.{Slot};
 ghost use Rattle.dbtg_explore.specs.Inside.Next.{IsFound, Reaches, RecordsStay, is_slot};
 ghost use Rattle.dbtg_explore.specs.Inside.Steps.{IsAt};
-ghost use Rattle.dbtg_explore.specs.Inside.Transitions.{AreLookedAt, AreSeen, IsPassage};
+ghost use Rattle.dbtg_explore.specs.Inside.Transitions.{AreSeen, DueLooksAt, IsPassage};
 ghost use Rattle.dbtg_explore.specs.Inside.Walks.{Stands};
 ghost use Rattle.dbtg_explore.specs.Orders.{IsMeeting, Meeting as MeetingOfPrograms, can_turn, history_of};
 ghost use Rattle.dbtg_interned.specs.Arrays.{IsArray};
@@ -14,9 +14,7 @@ use crate::meeting::Meeting;
 use crate::search::Search;
 use crate::walk::Walk;
 use dbtg_cells::CellName;
-use dbtg_states::{
-    Numbers, Passage, Places, Transition, Transitions, needed_cells, what_is_looked_at_determines,
-};
+use dbtg_states::{Numbers, Passage, Transition, Transitions, what_is_looked_at_determines};
 use std::alloc::{AllocError, Global};
 
 /// Transitions of statements that were made. What a statement did that changed no record it does wherever it looks at the same. One that
@@ -101,16 +99,12 @@ impl<'a> Meeting<'a> {
     ) -> Result<Option<Vec<CellName>>, AllocError>
         requires meeting { IsMeeting self.now }
         requires stands { Stands self.now walk.now }
-        ensures { IfOk result (λ found. IfSome found (λ names. AreLookedAt self.now walk.now.database.making.history unit names.items)) }
+        ensures { IfOk result (λ found. IfSome found (λ names. DueLooksAt self.now walk.now.database.making.history unit names.items)) }
     {
         match self.due(walk, unit) {
             Some(statement) => {
                 let database = walk.database.database();
-                // Its history says that its units are of the schema.
-                let _history = database.history();
-                let own = &database.units()[unit as usize - 1];
-                let (schema, capacity) = (self.schema, self.capacity);
-                needed_cells(alloc, schema, capacity, database, (own, statement))
+                self.places().needed_cells(alloc, database, unit, statement)
             }
             None => Ok(None),
         }
@@ -118,7 +112,7 @@ impl<'a> Meeting<'a> {
 }
 
 impl Search {
-    // Enters the transition of a passage, which looks at these cells; a record was changed, or none was.
+    // Remembers a passage on which these cells were looked at; a record was changed, or none was.
     fn remember(
         &mut self,
         alloc: Global,
@@ -135,24 +129,12 @@ impl Search {
         ensures rest { OnOk result (self.new ≡ record self.old { seen = self.new.seen }) }
     {
         what_is_looked_at_determines();
-        let places = Places {
-            schema: meeting.schema,
-            capacity: meeting.capacity,
-            units: meeting.units(),
-        };
-        let Some(looks) = places.looks_at(alloc, &self.numbers, passage, names)? else {
-            return Ok(());
-        };
-        let transition = Transition {
-            unit: passage.unit,
-            looks,
-            // Not asked for.
-            status: 0,
-        };
+        let places = meeting.places();
+        let (numbers, seen) = (&self.numbers, &mut self.seen);
         if changing {
-            self.seen.changing.enter(transition)
+            places.remember(alloc, &mut seen.changing, numbers, passage, names)
         } else {
-            self.seen.plain.enter(transition)
+            places.remember(alloc, &mut seen.plain, numbers, passage, names)
         }
     }
 
@@ -184,6 +166,8 @@ impl Search {
                 unit,
                 before,
                 after,
+                // Not asked for.
+                status: 0,
             };
             self.remember(alloc, meeting, passage, names.as_slice(), changing)?;
         }

@@ -9,39 +9,15 @@ ghost use Rattle.dbtg_explore.specs.Orders.{IsMeeting, can_turn};
 ghost use Rattle.dbtg_interned.specs.Arrays.{IsArray, size};
 ghost use Rattle.dbtg_states.specs.Numbers.{AreNumbers, Grow, HasPut, IsNumberBut};
 ghost use Rattle.std.specs.List.{list_all};
-ghost use Rattle.std.specs.Prelude.{◌≡◌, ◌+◌, ◌-◌, ◌<◌, ◌≤◌, ◌++◌, ◌∷◌, [], List, true, false, length, take, IfOk, OnOk};
+ghost use Rattle.std.specs.Prelude.{◌≡◌, ◌+◌, ◌-◌, ◌<◌, ◌≤◌, ◌++◌, ◌∷◌, [], List, true, length, IfOk, OnOk};
 
 use crate::meeting::Meeting;
 use crate::walk::Walk;
-use dbtg_cells::{CellName, cell_count};
+use dbtg_cells::CellName;
 use dbtg_states::{Numbers, Spelling};
 use std::alloc::{AllocError, Global};
 
 impl<'a> Meeting<'a> {
-    /// Numbers of states, none of which is kept yet.
-    pub(crate) fn no_numbers(&self, alloc: Global) -> Result<Numbers, AllocError>
-        requires { IsMeeting self.now }
-        ensures kept { IfOk result AreNumbers }
-        ensures room { IfOk result (λ numbers. length self.now.programs + cell_count self.now.schema self.now.capacity ≤ size numbers.arrays) }
-    {
-        let cells = cell_count(self.schema, self.capacity);
-        Numbers::with_room(alloc, self.units() as usize + cells)
-    }
-
-    // Cells are spelled without versions.
-    fn spelling(&self) -> Spelling<'a>
-        requires { IsMeeting self.now }
-        ensures schema { result.schema.now ≡ self.now.schema }
-        ensures units { result.units ≡ length self.now.programs }
-        ensures versions { result.versions ≡ false }
-    {
-        Spelling {
-            schema: self.schema,
-            units: self.units(),
-            versions: false,
-        }
-    }
-
     // The number of the array that says of this unit what is so where the walk stands.
     fn put_unit(
         &self,
@@ -84,7 +60,8 @@ impl<'a> Meeting<'a> {
         Ok(number)
     }
 
-    // The number of the state where the walk stands, by an array that says what is so there of all cells but these.
+    // The number of the state where the walk stands, by an array that says what is so there of all cells but these. Cells are spelled without
+    // versions.
     fn put_all(
         &self,
         alloc: Global,
@@ -102,7 +79,12 @@ impl<'a> Meeting<'a> {
     {
         let number = self.put_units(alloc, numbers, walk, array)?;
         let database = walk.database.database();
-        numbers.put_cells(alloc, &self.spelling(), database, number, names)
+        let spelling = Spelling {
+            schema: self.schema,
+            units: self.units(),
+            versions: false,
+        };
+        numbers.put_cells(alloc, &spelling, database, number, names)
     }
 
     /// The number of the first state, where the walk stands.
@@ -120,25 +102,6 @@ impl<'a> Meeting<'a> {
     {
         let names = walk.database.database().cell_names()?;
         self.put_all(alloc, numbers, walk, 0, names.as_slice())
-    }
-
-    // The number of the state where the walk stands, by that of the state before its last statement.
-    fn next_number(
-        &self,
-        alloc: Global,
-        numbers: &mut Numbers,
-        walk: &Walk,
-        before: u32,
-    ) -> Result<u32, AllocError>
-        requires meeting { IsMeeting self.now }
-        requires place { IsPlace self.now walk.now }
-        requires above { walk.now.database.stays < length walk.now.database.making.history }
-        requires before { IsNumberOf self.now numbers.old (take (length walk.now.database.making.history - 1) walk.now.database.making.history) before }
-        ensures keeps { IfOk result (λ n. Grow numbers.old numbers.new) }
-        ensures number { IfOk result (IsNumberOf self.now numbers.new walk.now.database.making.history) }
-    {
-        let names = walk.database.changed();
-        self.put_all(alloc, numbers, walk, before, names)
     }
 
     /// The unit has its turn. Gives the number of the state to which it leads, by that of the state before it. Two places have one number
@@ -162,6 +125,7 @@ impl<'a> Meeting<'a> {
         ensures number { IfOk result (IsNumberOf self.now numbers.new walk.new.database.making.history) }
     {
         self.take_turn(alloc, walk, unit)?;
-        self.next_number(alloc, numbers, walk, before)
+        let names = walk.database.changed();
+        self.put_all(alloc, numbers, walk, before, names)
     }
 }

@@ -40,7 +40,7 @@ impl Search {
         ensures limit { IfOk result (λ search. search.limit ≡ limit) }
         ensures stopped { IfErr result (λ stop. stop ≡ States → HasMoreStates meeting.now limit) }
     {
-        let mut numbers = meeting.no_numbers(alloc)?;
+        let mut numbers = meeting.places().no_numbers(alloc)?;
         let number = meeting.first_number(alloc, &mut numbers, walk)?;
         let found = Known::first(alloc, number)?;
         if limit < found.len() {

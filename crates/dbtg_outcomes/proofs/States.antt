@@ -4,7 +4,6 @@
 -- the turns that break a wish are found, if there are any; `Transitions`, `MadeAgain`: a statement is not made again where the same is
 -- looked at.
 pub mod Alone
-pub mod AtTurn
 pub mod Broken
 pub mod ComesOut
 pub mod Entered

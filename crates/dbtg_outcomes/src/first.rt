@@ -9,7 +9,7 @@ ghost use Rattle.dbtg_outcomes.specs.Inside.Outcomes.{MakesNoted, MakesScript};
 ghost use Rattle.dbtg_outcomes.specs.Inside.Walks.{IsMaking, LeadTo};
 ghost use Rattle.dbtg_outcomes.specs.Inside.Search.{AreNotedOf, order_alone};
 
-use crate::meeting::{Meeting, make_copy};
+use crate::meeting::Meeting;
 use crate::notes::Note;
 use crate::turns::push_turns;
 use dbtg_schema::Row;
@@ -66,7 +66,7 @@ impl<'a> Meeting<'a> {
         ensures { OnOk result (MakesNoted self.now unit statement.now database.old database.new notes.old.items notes.new.items) }
     {
         let before = database.history().len();
-        make_copy(database, unit, statement)?;
+        database.make(unit, statement.copy()?)?;
         let made = &database.history()[before];
         let status = made.answer.status.code(&made.statement);
         let note = Note {

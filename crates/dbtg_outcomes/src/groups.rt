@@ -10,11 +10,20 @@ use std::alloc::{AllocError, Global};
 use std::marker::Model;
 
 /// The number that stands for the key of a group, the turns of its first order, and how many orders the group has.
-#[derive(Drop)]
 pub struct Group {
     pub number: u32,
     pub turns: Row<u8>,
     pub orders: Option<u64>,
+}
+
+impl Drop for Group {
+    fn drop(self) {
+        let Self {
+            number: _,
+            turns: _,
+            orders: _,
+        } = self;
+    }
 }
 
 /// Groups by their numbers, in the order in which their first orders came.

@@ -11,7 +11,7 @@ ghost use Rattle.dbtg_outcomes.specs.Results.{answers_told, placed_told, result_
 use crate::told::{answers_by_unit, placed_by_unit, result_text};
 use dbtg_schema::{Row, Schema};
 use dbtg_script::push_run;
-use dbtg_states::{Told, named, usage_by_unit};
+use dbtg_states::{Places, Told, named, usage_by_unit};
 use dbtg_step::{Run, WholeDatabase};
 use dbtg_unit::{Entry, Statement};
 use std::alloc::{AllocError, Global};
@@ -44,20 +44,6 @@ pub(crate) fn made_by(history: &[Entry], unit: u8) -> usize
     history.iter().filter(|entry| entry.unit == unit).count()
 }
 
-// Has a unit of the database make a copy of the statement.
-pub(crate) fn make_copy(
-    database: &mut WholeDatabase,
-    unit: u8,
-    statement: &Statement,
-) -> Result<(), AllocError>
-    requires numbered { 0 < unit }
-    requires within { unit ≤ database.old.units }
-    requires fitting { fits database.old.schema statement.now ≡ true }
-    ensures { OnOk result (HasMade database.old unit statement.now database.new) }
-{
-    database.make(unit, statement.copy()?)
-}
-
 impl<'a> Meeting<'a> {
     /// How many units there are.
     pub(crate) fn units(&self) -> u8
@@ -65,6 +51,20 @@ impl<'a> Meeting<'a> {
         ensures { result ≡ length self.now.scripts }
     {
         self.scripts.len() as u8
+    }
+
+    /// Where the parts of a state stand.
+    pub(crate) fn places(&self) -> Places<'a>
+        requires { IsMeeting self.now }
+        ensures schema { result.schema.now ≡ self.now.schema }
+        ensures capacity { result.capacity ≡ self.now.capacity }
+        ensures units { result.units ≡ length self.now.scripts }
+    {
+        Places {
+            schema: self.schema,
+            capacity: self.capacity,
+            units: self.units(),
+        }
     }
 
     /// The answers so far, if they tell results apart.

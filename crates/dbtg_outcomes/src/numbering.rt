@@ -11,22 +11,12 @@ ghost use Rattle.dbtg_outcomes.specs.Inside.Parts.{parts_of, unit_part};
 ghost use Rattle.dbtg_outcomes.specs.Inside.Walks.{IsMaking, LeadsTo};
 
 use crate::meeting::Meeting;
-use dbtg_cells::{CellName, cell_count};
+use dbtg_cells::CellName;
 use dbtg_states::{Numbers, Spelling, USUAL_LENGTH};
 use dbtg_step::{ReversibleDatabase, WholeDatabase};
 use std::alloc::{AllocError, Global};
 
 impl<'a> Meeting<'a> {
-    /// Numbers of states, none of which is kept yet.
-    pub(crate) fn no_numbers(&self, alloc: Global) -> Result<Numbers, AllocError>
-        requires { IsMeeting self.now }
-        ensures kept { IfOk result AreNumbers }
-        ensures room { IfOk result (λ numbers. length self.now.scripts + cell_count self.now.schema self.now.capacity ≤ size numbers.arrays) }
-    {
-        let cells = cell_count(self.schema, self.capacity);
-        Numbers::with_room(alloc, self.units() as usize + cells)
-    }
-
     // The number of the array that says of this unit what is so now.
     fn put_unit(
         &self,

@@ -2,12 +2,12 @@
 //! with the first order that leads there and the number of all orders that do.
 ghost use Rattle.std.specs.Prelude.{◌≡◌, ◌≤◌, ◌<◌, ◌∷◌, [], length, All, IfErr, IfOk, MatchResult, OnOk};
 ghost use Rattle.dbtg_states.specs.declared.stop.Stop.TheVariants.{States};
-ghost use Rattle.dbtg_outcomes.specs.Orders.{count_statements, made_first, others};
+ghost use Rattle.dbtg_outcomes.specs.Orders.{count_statements, others};
 ghost use Rattle.dbtg_outcomes.specs.Outcomes.{IsMeeting, count_states, states_within};
 ghost use Rattle.dbtg_outcomes.specs.Results.{units_of};
-ghost use Rattle.dbtg_outcomes.specs.Inside.Search.{AreNotedOf, IsAt};
+ghost use Rattle.dbtg_outcomes.specs.Inside.Search.{IsAt};
 ghost use Rattle.dbtg_outcomes.specs.Inside.Steps.{Advances, Extends, ExtendsAll, GoesOn, HasNumber, HaveStatements, IsAtState, IsOver, IsUnderWay, LeadToMore};
-ghost use Rattle.dbtg_outcomes.specs.Inside.Walks.{LeadTo, Stands};
+ghost use Rattle.dbtg_outcomes.specs.Inside.Walks.{Stands};
 
 use crate::groups::{Group, Groups};
 use crate::meeting::Meeting;
@@ -149,22 +149,21 @@ impl<'a> Search<'a> {
         })
     }
 
-    // The state to which the turns of the script that is made first lead.
+    // The state to which the script that is made first leads.
     fn at_first(
         alloc: Global,
         meeting: &Meeting<'a>,
-        turns: Row<u8>,
-        notes: Vec<Note>,
         limit: usize,
     ) -> Result<Search<'a>, AllocError>
         requires meeting { IsMeeting meeting.now }
         requires allowed { 0 < limit }
-        requires turns { LeadTo meeting.now turns (made_first meeting.now.first meeting.now.scripts) }
-        requires notes { AreNotedOf meeting.now (made_first meeting.now.first meeting.now.scripts) notes.items }
         ensures at { IfOk result (GoesOn meeting.now 0) }
         ensures limit { IfOk result (λ search. search.limit ≡ limit) }
     {
+        let mut notes = Vec::new(alloc);
+        meeting.note_first(alloc, &mut notes)?;
         let mut walk = meeting.walk(alloc, notes)?;
+        let turns = Row::of(meeting.first_turns(alloc)?);
         meeting.go_to(&mut walk, turns.as_slice())?;
         let number = meeting.state_number(alloc, &mut walk)?;
         let orders = Some(1);
@@ -187,10 +186,7 @@ impl<'a> Search<'a> {
         if limit == 0 {
             return Err(Stop::States);
         }
-        let mut notes = Vec::new(alloc);
-        meeting.note_first(alloc, &mut notes)?;
-        let turns = Row::of(meeting.first_turns(alloc)?);
-        Ok(Search::at_first(alloc, meeting, turns, notes, limit)?)
+        Ok(Search::at_first(alloc, meeting, limit)?)
     }
 
     /// If there is one script beside the one that is made first, there is one order. No state has to be told from others then, so the
@@ -214,13 +210,13 @@ impl<'a> Search<'a> {
         }
         let mut notes = Vec::new(alloc);
         meeting.note_alone(alloc, script, &mut notes)?;
+        let walk = meeting.walk(alloc, notes)?;
         let last = Group {
             // No other state has to be told from it.
             number: 0,
             turns: Row::of(meeting.turns_alone(alloc, script)?),
             orders: Some(1),
         };
-        let walk = meeting.walk(alloc, notes)?;
         let mut search = Search::at_state(alloc, last, limit, walk)?;
         search.states = script.len() + 1;
         watch.seen(search.states);

@@ -60,11 +60,12 @@ impl<'a> Meeting<'a> {
         ensures turns { IfOk result (λ walk. walk.turns.items ≡ []) }
         ensures notes { IfOk result (λ walk. walk.notes.items ≡ notes.items) }
     {
+        let numbers = self.places().no_numbers(alloc)?;
         let database = WholeDatabase::opening(alloc, self.schema, self.capacity, self.units())?;
         Ok(Walk {
             database: ReversibleDatabase::of(alloc, database),
             turns: Vec::new(alloc),
-            numbers: self.no_numbers(alloc)?,
+            numbers,
             notes,
             transitions: Transitions::none(alloc),
         })

@@ -6,7 +6,7 @@ ghost use Rattle.dbtg_outcomes.specs.Outcomes.{IsMeeting, count_states};
 ghost use Rattle.dbtg_outcomes.specs.Wishes.{IsJudged, breaks, is_there};
 ghost use Rattle.dbtg_outcomes.specs.Inside.Steps.{HaveStatements};
 ghost use Rattle.dbtg_outcomes.specs.Inside.Walks.{Stands, have_statements, order_of};
-ghost use Rattle.dbtg_outcomes.specs.Inside.Wishes.{Hunts, HuntsOn, IsBroken, IsBrokenIn, IsHuntOver, IsHunting};
+ghost use Rattle.dbtg_outcomes.specs.Inside.Wishes.{HuntsOn, IsBroken, IsBrokenIn, IsHuntOver, IsHunting};
 
 use crate::groups::Group;
 use crate::meeting::Meeting;
@@ -186,32 +186,6 @@ impl<'a> Hunt<'a> {
         }
         Ok(())
     }
-
-    fn begin(
-        alloc: Global,
-        meeting: &Meeting<'a>,
-        wish: Wish,
-        limit: usize,
-    ) -> Result<Hunt<'a>, Stop>
-        requires meeting { IsMeeting meeting.now }
-        ensures hunts { IfOk result (λ hunt. Hunts meeting.now wish 0 hunt) }
-        ensures limit { IfOk result (λ hunt. hunt.search.limit ≡ limit) }
-        ensures stopped { IfErr result (λ stop. stop ≡ States → limit < count_states meeting.now) }
-    {
-        let search = Search::begin(alloc, meeting, limit)?;
-        Ok(Hunt {
-            search,
-            broken: None,
-        })
-    }
-
-    // What it found.
-    fn into_broken(self) -> Option<Row<u8>>
-        ensures { result ≡ self.entry.broken }
-    {
-        let Self { search: _, broken } = self;
-        broken
-    }
 }
 
 /// Is there such a statement, in a script that is not made first?
@@ -244,9 +218,11 @@ pub fn broken_turns<W: Watch>(
     ensures stopped { IfErr result (λ stop. stop ≡ States → limit < count_states meeting.now) }
 {
     let left = meeting.others();
-    let mut hunt = Hunt::begin(alloc, meeting, wish, limit)?;
-    let passed = hunt.pass(alloc, watch, meeting, wish, left);
-    let broken = hunt.into_broken();
-    passed?;
-    Ok(broken)
+    let search = Search::begin(alloc, meeting, limit)?;
+    let mut hunt = Hunt {
+        search,
+        broken: None,
+    };
+    hunt.pass(alloc, watch, meeting, wish, left)?;
+    Ok(hunt.broken.take())
 }

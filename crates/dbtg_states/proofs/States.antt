@@ -4,6 +4,7 @@
 -- number just where their parts are the same; `Looked`: what is looked at determines what a statement does.
 pub mod Alike
 pub mod InHand
+pub mod Leads
 pub mod Looked
 pub mod Looks
 pub mod Numbers

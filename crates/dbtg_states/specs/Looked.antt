@@ -1,8 +1,10 @@
 -- A statement looks at its unit and at the cells that it holds: where these are alike, it does the same.
--- n is the number of units, i the place of a unit among them from 0, c the name of a cell; db and eb are databases.
-use Rattle.std.specs.Prelude.{◌≡◌, ℕ, true, false, List, Some, length, slice_get}
+-- n is the number of units, u one of them, i the place of a unit among them from 0, c the name of a cell; db and eb are databases.
+use Rattle.std.specs.Prelude.{◌≡◌, ℕ, ◌-◌, true, false, List, Some, length, slice_get}
+use Rattle.std.specs.List.{list_all}
 use Rattle.dbtg_schema.specs.Lists.{Lists}
 use Rattle.dbtg_schema.specs.Sound.{IsSound}
+use Rattle.dbtg_cells.specs.CellNumbers.{is_cell}
 use Rattle.dbtg_cells.specs.declared.name.CellName.{CellName}
 use Rattle.dbtg_unit.specs.declared.held.Need.TheVariants.{Ready}
 use Rattle.dbtg_unit.specs.declared.statement.Statement.{Statement}
@@ -42,6 +44,11 @@ pub record IsReadyWith (schema : Lists) (capacity : ℕ) (db : Database) (unit :
   pub hands : Hands
   pub names_are : names_of hands.cells ≡ names
   pub holds_all : HoldsAll schema capacity db hands unit x
+
+-- unit u's statement x, where it is made in this state, looks at these cells of the schema beside its unit
+pub record AreLookedAt (schema : Lists) (capacity : ℕ) (state : State) (u : ℕ) (x : Statement) (names : List CellName) : Type 0 where
+  pub are_cells : list_all (is_cell schema capacity) names ≡ true
+  pub ready : (unit : Unit) → slice_get state.units (u - 1) ≡ Some unit → IsReadyWith schema capacity state.database unit x names
 
 -- two outcomes have one answer and one unit, and say the same in the held cells; and one of them says in all other cells what its
 -- database said before

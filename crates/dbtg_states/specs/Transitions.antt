@@ -15,10 +15,6 @@ use Rattle.dbtg_states.specs.Numbers.{Numbers}
 abbrev pub has_at : Numbers → ℕ → ℕ → ℕ → Bool
 has_at kept n i number = some_and (λ k. k == number) (slice_get (elements kept.arrays n) i)
 
--- each of the new ones is an old one, or this one
-abbrev pub AddsAtMost : List Transition → Transition → List Transition → Type 0
-AddsAtMost old t new = (s : Transition) → Contains new s → Contains old s ⊎ (s ≡ t)
-
 -- numbers with what the looks say, after, at their places
 abbrev pub written : List Look → List ℕ → List ℕ
 written [] numbers = numbers
@@ -43,3 +39,15 @@ pub record AreLooks (schema : Lists) (capacity units : ℕ) (kept : Numbers) (pa
   pub had : HasBefore kept passage.before looks
   pub has : HasAfter kept passage.after looks
   pub places_are : map (λ l. l.place) looks ≡ (passage.unit - 1) ∷ map (cell_place schema capacity units) names
+
+-- PASSAGES
+
+-- what is kept of a passage whose statement looked at its unit and at these cells
+pub record IsOfPassage (schema : Lists) (capacity units : ℕ) (kept : Numbers) (passage : Passage) (names : List CellName) (t : Transition) : Type 0 where
+  pub unit_is : t.unit ≡ passage.unit
+  pub status_is : t.status ≡ passage.status
+  pub are_looks : AreLooks schema capacity units kept passage names t.looks
+
+-- each of the new transitions is an old one, or is of the passage
+abbrev pub AddsPassage : Lists → ℕ → ℕ → Numbers → Passage → List CellName → List Transition → List Transition → Type 0
+AddsPassage schema capacity units kept passage names old new = (t : Transition) → Contains new t → Contains old t ⊎ IsOfPassage schema capacity units kept passage names t

@@ -25,7 +25,6 @@ pub use laws::{
     names_tell_records_apart, order_of_opening_is_no_state, what_is_looked_at_determines,
 };
 pub use looks::Places;
-pub use needing::needed_cells;
 pub use numbers::{Numbers, USUAL_LENGTH};
 pub use spelled::{Spelled, as_numbers, spell_list};
 pub use stop::Stop;

@@ -1,11 +1,13 @@
 //! Looks at the parts of a state, which stand in its array: the units first, then the cells of the schema in their order.
-ghost use Rattle.std.specs.Prelude.{◌≡◌, ◌<◌, Some, slice_get, IfOk, IfSome};
-ghost use Rattle.dbtg_interned.specs.Arrays.{IsArray, elements};
-ghost use Rattle.dbtg_states.specs.Transitions.{AreLooks, cell_place};
+ghost use Rattle.std.specs.Prelude.{◌≡◌, ◌+◌, ◌<◌, ◌≤◌, Some, slice_get, IfOk, IfSome, OnOk};
+ghost use Rattle.dbtg_cells.specs.CellNumbers.{cell_count};
+ghost use Rattle.dbtg_interned.specs.Arrays.{IsArray, elements, size};
+ghost use Rattle.dbtg_states.specs.Numbers.{AreNumbers};
+ghost use Rattle.dbtg_states.specs.Transitions.{AddsPassage, AreLooks, cell_place};
 
 use crate::numbers::Numbers;
-use crate::transitions::{Look, Passage};
-use dbtg_cells::{CellName, cell_number};
+use crate::transitions::{Look, Passage, Transition, Transitions};
+use dbtg_cells::{CellName, cell_count, cell_number};
 use dbtg_schema::{Row, Schema};
 use std::alloc::{AllocError, Global};
 
@@ -18,6 +20,15 @@ pub struct Places<'a> {
 }
 
 impl<'a> Places<'a> {
+    /// Numbers of states with these places, none of which is kept yet.
+    pub fn no_numbers(&self, alloc: Global) -> Result<Numbers, AllocError>
+        ensures kept { IfOk result AreNumbers }
+        ensures room { IfOk result (λ numbers. self.now.units + cell_count self.now.schema.now self.now.capacity ≤ size numbers.arrays) }
+    {
+        let cells = cell_count(self.schema, self.capacity);
+        Numbers::with_room(alloc, self.units as usize + cells)
+    }
+
     // The look of a passage at a cell, if the schema has it.
     fn look_at_cell(&self, numbers: &Numbers, passage: Passage, name: &CellName) -> Option<Look>
         requires before { IsArray numbers.now.arrays passage.before }
@@ -31,8 +42,8 @@ impl<'a> Places<'a> {
         numbers.look_at(place, passage.before, passage.after)
     }
 
-    /// The looks of a passage at its unit and at these cells; none where the schema lacks one of them.
-    pub fn looks_at(
+    // The looks of a passage at its unit and at these cells; none where the schema lacks one of them.
+    fn looks_at(
         &self,
         alloc: Global,
         numbers: &Numbers,
@@ -57,5 +68,29 @@ impl<'a> Places<'a> {
             looks.push(look)?;
         }
         Ok(Some(looks))
+    }
+    /// Remembers what a statement did on a passage on which it looked at its unit and at these cells.
+    pub fn remember(
+        &self,
+        alloc: Global,
+        transitions: &mut Transitions,
+        numbers: &Numbers,
+        passage: Passage,
+        names: &[CellName],
+    ) -> Result<(), AllocError>
+        requires numbered { 0 < passage.unit }
+        requires before { IsArray numbers.now.arrays passage.before }
+        requires after { IsArray numbers.now.arrays passage.after }
+        ensures { OnOk result (AddsPassage self.now.schema.now self.now.capacity self.now.units numbers.now passage names.now transitions.old transitions.new) }
+    {
+        let Some(looks) = self.looks_at(alloc, numbers, passage, names)? else {
+            return Ok(());
+        };
+        let Passage { unit, status, .. } = passage;
+        transitions.enter(Transition {
+            unit,
+            looks,
+            status,
+        })
     }
 }

@@ -1,14 +1,16 @@
 //! What a statement looks at in a database: the cells that it needs, one after another, until it needs no more.
-ghost use Rattle.std.specs.Prelude.{◌≡◌, ℕ, true, IfOk, IfSome, OnOk};
+ghost use Rattle.std.specs.Prelude.{◌≡◌, ◌<◌, ◌≤◌, ℕ, true, IfOk, IfSome, OnOk};
 ghost use Rattle.std.specs.List.{list_all};
+ghost use Rattle.dbtg_schema.specs.Sound.{IsSound};
 ghost use Rattle.dbtg_cells.specs.CellNumbers.{is_cell};
 ghost use Rattle.dbtg_unit.specs.Database.State.Base.{Database};
 ghost use Rattle.dbtg_unit.specs.Database.State.Belongs.{IsUnitOf, IsWithin};
 ghost use Rattle.dbtg_unit.specs.Database.Statements.Fits.{fits};
 ghost use Rattle.dbtg_step.specs.Core.Whole.{state_now};
 ghost use Rattle.dbtg_states.specs.Inside.InHand.{AreInHand};
-ghost use Rattle.dbtg_states.specs.Looked.{IsReadyWith};
+ghost use Rattle.dbtg_states.specs.Looked.{AreLookedAt, IsReadyWith};
 
+use crate::looks::Places;
 use dbtg_cells::{CellName, Owners};
 use dbtg_schema::{AreaNo, Schema};
 use dbtg_step::{WholeDatabase, next_need, true_guesses};
@@ -73,8 +75,8 @@ fn guess_owners(schema: &Schema, maker: (&Unit, &Statement), hands: &mut InHand)
     true
 }
 
-/// The names of the cells that the statement of a unit needs, in the order in which it needs them; none if they are too many.
-pub fn needed_cells(
+// The names of the cells that the statement of a unit needs, in the order in which it needs them; none if they are too many.
+fn needed_by(
     alloc: Global,
     schema: &Schema,
     capacity: u16,
@@ -107,4 +109,30 @@ pub fn needed_cells(
         }
     }
     Ok(None)
+}
+
+impl<'a> Places<'a> {
+    /// The cells that the statement of this unit looks at in a database beside its unit, in the order in which it needs them; none if they
+    /// are too many.
+    pub fn needed_cells(
+        &self,
+        alloc: Global,
+        database: &WholeDatabase,
+        unit: u8,
+        statement: &Statement,
+    ) -> Result<Option<Vec<CellName>>, AllocError>
+        requires sound { IsSound database.now.schema }
+        requires schema { database.now.schema ≡ self.now.schema.now }
+        requires capacity { database.now.capacity ≡ self.now.capacity }
+        requires fitting { fits database.now.schema statement.now ≡ true }
+        requires numbered { 0 < unit }
+        requires within { unit ≤ database.now.units }
+        ensures { IfOk result (λ found. IfSome found (λ names. AreLookedAt database.now.schema database.now.capacity (state_now database.now) unit statement.now names.items)) }
+    {
+        // Its history says that its units are of the schema.
+        let _history = database.history();
+        let maker = &database.units()[unit as usize - 1];
+        let (schema, capacity) = (self.schema, self.capacity);
+        needed_by(alloc, schema, capacity, database, (maker, statement))
+    }
 }

@@ -43,8 +43,8 @@ impl Model for Numbers {
 }
 
 impl Numbers {
-    /// Numbers of states with this many parts; none is kept yet but the array 0, of which no part says anything.
-    pub fn with_room(alloc: Global, parts: usize) -> Result<Self, AllocError>
+    // Numbers of states with this many parts; none is kept yet but the array 0, of which no part says anything.
+    pub(crate) fn with_room(alloc: Global, parts: usize) -> Result<Self, AllocError>
         requires { parts ≤ 2 ^ 24 }
         ensures kept { IfOk result AreNumbers }
         ensures room { IfOk result (λ numbers. parts ≤ size numbers.arrays) }

@@ -5,7 +5,7 @@ ghost use Rattle.dbtg_states.specs.declared.stop.Stop.TheVariants.{Memory};
 use std::alloc::{AllocError, AllocFailed};
 
 /// Why there are no outcomes: memory was refused, or there are more states than allowed.
-#[derive(Debug, Drop, PartialEq, Eq)]
+#[derive(Drop)]
 pub enum Stop {
     Memory,
     States,

@@ -3,7 +3,8 @@
 ghost use Rattle.std.specs.Prelude.{◌≡◌, ◌-◌, ◌<◌, ◌⊎◌, [], true, Contains, IfOk, IfSome, OnOk};
 ghost use Rattle.std.specs.List.{list_all};
 ghost use Rattle.dbtg_interned.specs.Arrays.{IsArray};
-ghost use Rattle.dbtg_states.specs.Transitions.{AddsAtMost, has_at};
+ghost use Rattle.dbtg_states.specs.Inside.Transitions.{AddsAtMost};
+ghost use Rattle.dbtg_states.specs.Transitions.{has_at};
 
 use crate::numbers::Numbers;
 use dbtg_schema::Row;
@@ -27,12 +28,13 @@ pub struct Transition {
     pub status: u16,
 }
 
-/// The way of a unit's statement from the state of one number to that of another.
+/// The way of a unit's statement, which gets this status, from the state of one number to that of another.
 #[derive(Clone, Copy)]
 pub struct Passage {
     pub unit: u8,
     pub before: u32,
     pub after: u32,
+    pub status: u16,
 }
 
 // What comes next on the way to a transition: a part to be looked at, and the junction of what it can say; or the transition at this place.
@@ -158,8 +160,8 @@ impl Transitions {
         Ok(way)
     }
 
-    /// Enters a transition, whose first look is at its unit. One that looks at something else than those that began like it is not kept.
-    pub fn enter(&mut self, transition: Transition) -> Result<(), AllocError>
+    // Enters a transition, whose first look is at its unit. One that looks at something else than those that began like it is not kept.
+    pub(crate) fn enter(&mut self, transition: Transition) -> Result<(), AllocError>
         ensures { OnOk result (AddsAtMost self.old transition self.new) }
     {
         if let Some(way) = self.way_by(transition.looks.as_slice())? {

@@ -2,20 +2,18 @@
 -- m is a meeting, o and q are orders, u and v are units, x is a statement, l is a look, n the number of a state. If a statement changed a
 -- record it is `changing`.
 use Rattle.std.specs.Prelude.{ℕ, ◌≡◌, ◌≢◌, ◌+◌, Bool, true, false, List, [], ◌∷◌, ◌++◌, Some, All, Contains, length}
-use Rattle.std.specs.List.{list_all}
-use Rattle.dbtg_cells.specs.CellNumbers.{cell_count, is_cell}
+use Rattle.dbtg_cells.specs.CellNumbers.{cell_count}
 use Rattle.dbtg_cells.specs.declared.name.CellName.{CellName}
 use Rattle.dbtg_cells.specs.declared.name.CellName.TheVariants.{Slot}
 use Rattle.dbtg_unit.specs.declared.statement.Statement.{Statement}
 use Rattle.dbtg_unit.specs.declared.unit.Entry.{Entry}
-use Rattle.dbtg_unit.specs.declared.unit.Unit.{Unit}
 use Rattle.dbtg_unit.specs.Database.State.Base.{Database}
 use Rattle.dbtg_unit.specs.Database.State.Cells.{cell}
 use Rattle.dbtg_step.specs.Machine.SequentialDatabase.{unit_at}
 use Rattle.dbtg_states.specs.declared.transitions.Look.{Look}
 use Rattle.dbtg_states.specs.declared.transitions.Passage.{Passage}
 use Rattle.dbtg_states.specs.declared.transitions.Transition.{Transition}
-use Rattle.dbtg_states.specs.Looked.{IsReadyWith}
+use Rattle.dbtg_states.specs.Looked.{AreLookedAt}
 use Rattle.dbtg_states.specs.Numbers.{Numbers}
 use Rattle.dbtg_states.specs.Inside.Transitions.{Follow, IsLook, SayBefore}
 use Rattle.dbtg_explore.specs.declared.next_state.Seen as given
@@ -52,17 +50,16 @@ pub record AreSeen (m : Meeting) (contents : List (List ℕ)) (seen : given.Seen
 
 -- ONCE
 
--- the unit's statement, which is due after the history, looks at these cells of the schema beside its unit's part
-pub record AreLookedAt (m : Meeting) (history : List Entry) (u : ℕ) (names : List CellName) : Type 0 where
-  pub are_cells : list_all (is_cell m.schema m.capacity) names ≡ true
+-- a statement of the unit is due after the history, and looks at these cells of the schema beside its unit
+pub record DueLooksAt (m : Meeting) (history : List Entry) (u : ℕ) (names : List CellName) : Type 0 where
   pub statement : Statement
   pub due : due_of m history u ≡ Some statement
-  pub ready : (unit : Unit) → unit_at (sequential_after m history).units u ≡ Some unit → IsReadyWith m.schema m.capacity (sequential_after m history).database unit statement names
+  pub looks_at : AreLookedAt m.schema m.capacity (sequential_after m history) u statement names
 
 -- a turn of a unit after order o, from the state of one number to that of another; its statement looks at the unit's part and at those of
 -- these cells
 pub record IsPassage (m : Meeting) (kept : Numbers) (o : List ℕ) (names : List CellName) (changing : Bool) (passage : Passage) : Type 0 where
   pub before : IsNumberOf m kept (history_of m o) passage.before
   pub after : IsNumberOf m kept (history_of m (o ++ passage.unit ∷ [])) passage.after
-  pub looks_at : AreLookedAt m (history_of m o) passage.unit names
+  pub looks_at : DueLooksAt m (history_of m o) passage.unit names
   pub stay : changing ≡ false → SlotsStay m (sequential_after m (history_of m o)).database (sequential_after m (history_of m (o ++ passage.unit ∷ []))).database

@@ -1,7 +1,7 @@
 -- Looks that are found in an array.
 -- l is a look, n the number of an array.
 use Rattle.std.proofs.Common.{◌≡◌, refl, sym, ◌∙◌, ap, subst, ℕ, true, List, [], ◌∷◌, ◌++◌, Option, Some, None, ⊎_elim, slice_get}
-use Rattle.std.specs.Prelude.{◌==◌, ◌-◌, All, map, slice_set}
+use Rattle.std.specs.Prelude.{◌==◌, ◌-◌, All, OnOk, Result, map, slice_set}
 use Rattle.std.proofs.lemmas.List.{map-append}
 use Rattle.std.proofs.lemmas.List.Elements.{All-append, All-cons, All-nil}
 use Rattle.std.specs.List.{list_all}
@@ -13,8 +13,9 @@ use Rattle.dbtg_unit.proofs.Public.{In}
 use Rattle.dbtg_cells.specs.declared.name.CellName.{CellName}
 use Rattle.dbtg_states.specs.declared.transitions.Look.{Look}
 use Rattle.dbtg_states.specs.declared.transitions.Passage.{Passage}
+use Rattle.dbtg_states.specs.declared.transitions.Transition.{Transition}
 use Rattle.dbtg_states.specs.Numbers.{Numbers}
-use Rattle.dbtg_states.specs.Transitions.{AreLooks, HasBefore, cell_place, has_at, written}
+use Rattle.dbtg_states.specs.Transitions.{AddsPassage, AreLooks, HasBefore, cell_place, has_at, written}
 use Rattle.dbtg_states.proofs.States.Places.{each_of}
 
 -- FOUND
@@ -67,3 +68,13 @@ own_look schema capacity units kept passage l place before after = record {
   has = All-cons (λ k. slice_get (elements kept.arrays passage.after) k.place ≡ Some k.after) l [] after (All-nil (λ k. slice_get (elements kept.arrays passage.after) k.place ≡ Some k.after));
   places_are = ap (λ i. i ∷ []) place;
 }
+
+-- PASSAGES
+
+-- what is added for places of a schema is added for those of a schema that is the same
+pub adds_there : {T E : Type 0} (r : Result T E) (one other : Lists) (capacity capacity' units units' : ℕ) (kept : Numbers) (passage : Passage) (names : List CellName) (old new : List Transition) → one ≡ other → capacity ≡ capacity' → units ≡ units'
+    → OnOk r (AddsPassage one capacity units kept passage names old new) → OnOk r (AddsPassage other capacity' units' kept passage names old new)
+adds_there r one other capacity capacity' units units' kept passage names old new s k n h =
+    subst (λ (z : Lists). OnOk r (AddsPassage z capacity' units' kept passage names old new)) s
+    (subst (λ (z : ℕ). OnOk r (AddsPassage one z units' kept passage names old new)) k
+    (subst (λ (z : ℕ). OnOk r (AddsPassage one capacity z kept passage names old new)) n h))

@@ -254,3 +254,35 @@ grow_none numbers = record { contents = keeps_refl numbers.contents; arrays = gr
 
 pub grow_more : (a b c : Numbers) → Grow a b → Grow b c → Grow a c
 grow_more a b c h g = record { contents = keeps_trans a.contents b.contents c.contents h.contents g.contents; arrays = grows_trans a.arrays b.arrays c.arrays h.arrays g.arrays }
+
+-- UNITS, ONE AFTER ANOTHER
+
+-- the array of a state says what is so of the next, but for the units and the cells that are named
+pub but_units : (p : Parts) (unit : ℕ → List ℕ) (cell : CellName → List ℕ) (kept : Numbers) (names : List CellName) (n : ℕ) → NumbersState p kept n → ((c : CellName) → is_named names c ≡ false → cell c ≡ p.cell c) → IsNumberBut (with_parts p unit cell) kept 0 names n
+but_units p unit cell kept names n h same = record {
+  kept_once = h.kept_once;
+  room = h.room;
+  is_array = h.is_array;
+  units_are = λ u low high. absurd (omega (arith, low, high));
+  cells_are = λ c k number free. h.cells_are c k number refl ∙ ap Some (sym (same c free));
+  zeros = h.zeros;
+}
+
+module _ (p : Parts) where
+  -- this many units are put
+  pub record ArePut (old new : Numbers) (units array n : ℕ) : Type 0 where
+    pub keeps : Grow old new
+    pub but : (names : List CellName) → IsNumberBut p old 0 names array → IsNumberBut p new units names n
+
+  pub none_put : (old : Numbers) (array : ℕ) → ArePut old old 0 array array
+  none_put old array = record { keeps = grow_none old; but = λ names h. h }
+
+  pub one_put : (old mid new : Numbers) (units array n k : ℕ) → units < p.count → ArePut old mid units array n → HasPut mid new n (units + 1 - 1) (p.unit (units + 1)) k → ArePut old new (units + 1) array k
+  one_put old mid new units array n k low so_far put =
+      let next : units + 1 ≡ suc units = omega arith in
+      let place : units + 1 - 1 ≡ units = omega arith in
+      let there : HasPut mid new n units (p.unit (suc units)) k = subst (λ j. HasPut mid new n j (p.unit (suc units)) k) place (subst (λ v. HasPut mid new n (units + 1 - 1) (p.unit v) k) next put) in
+      record {
+        keeps = grow_more old mid new so_far.keeps put.keeps;
+        but = λ names h. subst (λ v. IsNumberBut p new v names k) (sym next) (unit_put p mid new units names n k low (so_far.but names h) there);
+      }

@@ -23,6 +23,7 @@ use Rattle.dbtg_unit.specs.Database.State.Base.{Database, Record, is_live, is_me
 use Rattle.dbtg_unit.specs.Database.State.Cells.{cell, owner_at, ring_of, slot_of}
 use Rattle.dbtg_unit.specs.Database.State.Legal.{Legal}
 use Rattle.dbtg_unit.specs.Database.Laws.Replay.{IsHistoryOf, opening_state}
+use Rattle.dbtg_unit.specs.Database.Laws.StaysLegal.{IsLegalState}
 use Rattle.dbtg_unit.proofs.Public.{all_members, firsts_pairs, live_is_latest, opening_is_legal, replay_keeps_legal, ring_in}
 use Rattle.dbtg_step.specs.Core.Whole.{Making, state_now}
 use Rattle.dbtg_states.specs.Parts.{number_numbers, occurrence_numbers, up_to_used, was_used}
@@ -114,9 +115,9 @@ module _ (f : DbKey → Option Value) where
 
 -- A LEGAL DATABASE
 
--- a database on which statements were made is legal
-pub legal_making : (d : Making) → IsSound d.schema → IsHistoryOf d.schema d.capacity d.units d.history → Legal d.schema d.capacity (state_now d).database
-legal_making d sound history = (replay_keeps_legal d.schema d.capacity (opening_state d.schema d.units) d.history sound (opening_is_legal d.schema d.capacity d.units) history.fitting).legal
+-- a database on which statements were made is legal, and so are its units
+pub legal_making : (d : Making) → IsSound d.schema → IsHistoryOf d.schema d.capacity d.units d.history → IsLegalState d.schema d.capacity (state_now d)
+legal_making d sound history = replay_keeps_legal d.schema d.capacity (opening_state d.schema d.units) d.history sound (opening_is_legal d.schema d.capacity d.units) history.fitting
 
 module _ (schema : Lists) (capacity : ℕ) (db : Database) (legal : Legal schema capacity db) where
   -- a live record has a slot

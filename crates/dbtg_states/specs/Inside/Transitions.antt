@@ -1,9 +1,10 @@
 -- What looks say of the parts of a state, before and after a statement.
--- p and q are the parts of states, l is a look, i a place in an array.
-use Rattle.std.specs.Prelude.{ℕ, ◌≡◌, ◌==◌, ◌+◌, ◌-◌, ◌<◌, Bool, false, List, Option, Some, option_map, slice_get, All, nat_lt, length, if◌then◌else◌}
+-- p and q are the parts of states, l is a look, i a place in an array, s and t are transitions.
+use Rattle.std.specs.Prelude.{ℕ, ◌≡◌, ◌==◌, ◌+◌, ◌-◌, ◌<◌, Bool, false, List, Option, Some, option_map, slice_get, All, Contains, nat_lt, length, ◌⊎◌, if◌then◌else◌}
 use Rattle.std.specs.List.{list_any}
 use Rattle.dbtg_cells.specs.CellNumbers.{cells_in_order}
 use Rattle.dbtg_states.specs.declared.transitions.Look.{Look}
+use Rattle.dbtg_states.specs.declared.transitions.Transition.{Transition}
 use Rattle.dbtg_states.specs.Parts.{Parts}
 
 -- PLACES
@@ -31,3 +32,9 @@ pub record IsLook (parts : ℕ) (contents : List (List ℕ)) (l : Look) : Type 0
   pub place : l.place < parts
   pub before : l.before < length contents
   pub after : l.after < length contents
+
+-- ENTERED
+
+-- each of the new ones is an old one, or this one
+abbrev pub AddsAtMost : List Transition → Transition → List Transition → Type 0
+AddsAtMost old t new = (s : Transition) → Contains new s → Contains old s ⊎ (s ≡ t)

@@ -6,6 +6,7 @@ use Rattle.dbtg_cells.specs.CellNumbers.{is_cell}
 use Rattle.dbtg_step.specs.Core.Whole.{Making}
 use Rattle.dbtg_states.proofs.States.Numbers.{grow_more}
 use Rattle.dbtg_explore.specs.Inside.Parts.{unit_part}
+use Rattle.dbtg_explore.specs.Orders.{Meeting}
 use Rattle.dbtg_explore.proofs.Numbered.{spelled_but, spelled_state}
 use Rattle.dbtg_explore.proofs.meeting.Meeting.put_all.Goals as goal
 
@@ -19,12 +20,12 @@ pub put_cells-requires-clause-sound : goal.put_cells-requires-clause-sound
 put_cells-requires-clause-sound c = subst (λ (d : Making). IsSound d.schema) (sym (c.database-database.ensures ∙ c.requires.place.database_is)) c.requires.meeting.sound
 
 pub put_cells-requires-clause-schema : goal.put_cells-requires-clause-schema
-put_cells-requires-clause-schema c = ap (λ (d : Making). d.schema) (c.database-database.ensures ∙ c.requires.place.database_is) ∙ sym c.spelling.ensures.schema
+put_cells-requires-clause-schema c = ap (λ (d : Making). d.schema) (c.database-database.ensures ∙ c.requires.place.database_is) ∙ ap (λ (m : Meeting). m.schema) (sym c.self.view_is)
 
 pub put_cells-requires-clause-but : goal.put_cells-requires-clause-but
 put_cells-requires-clause-but c =
     let d = c.args.walk.now.database.making in
-    (unit_part c.args.self.now d.history, spelled_but c.args.self.now d c.database-database.result.now c.args.walk.now.goings.items c.requires.place c.database-database.ensures c.spelling.result.versions c.spelling.result.units c.spelling.ensures.versions c.spelling.ensures.units c.put_units.new.numbers c.args.names.now c.in_ok-number.number (c.in_ok-number.ensures.number c.args.names.now c.requires.but))
+    (unit_part c.args.self.now d.history, spelled_but c.args.self.now d c.database-database.result.now c.args.walk.now.goings.items c.requires.place c.database-database.ensures c.units.result c.units.ensures c.put_units.new.numbers c.args.names.now c.in_ok-number.number (c.in_ok-number.ensures.number c.args.names.now c.requires.but))
 
 pub returns-clause-keeps : goal.returns-clause-keeps
 returns-clause-keeps c =
@@ -37,6 +38,6 @@ returns-clause-number c =
     let there = c.database-database.result.now in
     let goings = c.args.walk.now.goings.items in
     IfOk-weaker c.put_cells.result _ _
-    (λ n is. spelled_state m d there goings c.requires.place c.database-database.ensures c.spelling.result.versions c.spelling.result.units c.spelling.ensures.versions c.spelling.ensures.units c.put_cells.new.self n
-    (is (unit_part m d.history) (spelled_but m d there goings c.requires.place c.database-database.ensures c.spelling.result.versions c.spelling.result.units c.spelling.ensures.versions c.spelling.ensures.units c.put_units.new.numbers c.args.names.now c.in_ok-number.number (c.in_ok-number.ensures.number c.args.names.now c.requires.but))))
+    (λ n is. spelled_state m d there goings c.requires.place c.database-database.ensures c.units.result c.units.ensures c.put_cells.new.self n
+    (is (unit_part m d.history) (spelled_but m d there goings c.requires.place c.database-database.ensures c.units.result c.units.ensures c.put_units.new.numbers c.args.names.now c.in_ok-number.number (c.in_ok-number.ensures.number c.args.names.now c.requires.but))))
     c.put_cells.ensures.number

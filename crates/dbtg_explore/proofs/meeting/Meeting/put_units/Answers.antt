@@ -1,7 +1,7 @@
 use Rattle.std.proofs.Common.{◌≡◌, ℕ, length, subst, arith}
 use Rattle.dbtg_states.specs.Numbers.{IsNumberBut}
 use Rattle.dbtg_explore.specs.Inside.Parts.{parts_of}
-use Rattle.dbtg_explore.proofs.Numbered.{none_put, one_put}
+use Rattle.dbtg_states.proofs.States.Numbers.{none_put, one_put}
 use Rattle.dbtg_explore.proofs.meeting.Meeting.put_units.Goals as goal
 
 pub loop-before-init : goal.loop-before-init

@@ -1,5 +1,5 @@
 use Rattle.dbtg_explore.specs.Inside.Parts.{parts_of}
-use Rattle.dbtg_explore.proofs.Numbered.{ArePut}
+use Rattle.dbtg_states.proofs.States.Numbers.{ArePut}
 use Rattle.dbtg_explore.proofs.meeting.Meeting.put_units.Given as goal
 
 abbrev pub invariant-loop-before : goal.invariant-loop-before

@@ -4,7 +4,7 @@ use Rattle.dbtg_cells.specs.declared.name.CellName.{CellName}
 use Rattle.dbtg_unit.specs.declared.unit.Entry.{Entry}
 use Rattle.dbtg_explore.specs.declared.search.Search.{Search}
 use Rattle.dbtg_explore.specs.Inside.Parts.{IsNumberOf}
-use Rattle.dbtg_explore.specs.Inside.Transitions.{AreLookedAt, AreSeen, SlotsStay}
+use Rattle.dbtg_explore.specs.Inside.Transitions.{AreSeen, DueLooksAt, SlotsStay}
 use Rattle.dbtg_explore.specs.Inside.Walks.{StandsAt, order_of}
 use Rattle.dbtg_explore.specs.Orders.{history_of}
 use Rattle.dbtg_explore.specs.States.{sequential_after}
@@ -46,14 +46,14 @@ remember-requires-clause-passed c =
     let here = subst (λ (o : List ℕ). StandsAt m o w) (c.as_slice.ensures.value ∙ c.in_ok-order.ensures) c.in_ok-go_to.ensures in
     let there = after.stands.history_is ∙ ap (λ (p : List ℕ). history_of m (p ++ u ∷ [])) here.order_is in
     let at = state_at m s.numbers s.found.keys s.found.orders c.args.place c.number-before.result c.requires.at.known c.requires.within c.number-before.ensures in
-    let cells = subst (λ r. IfSome r (λ names. AreLookedAt m w.database.making.history u names.items)) c.in-Some.is c.in_ok-names.ensures in (
+    let cells = subst (λ r. IfSome r (λ names. DueLooksAt m w.database.making.history u names.items)) c.in-Some.is c.in_ok-names.ensures in (
       o,
       record {
         before = number_later m s.numbers kept after.number.number.kept_once after.keeps (history_of m o) c.number-before.result at;
         after = subst (λ (es : List Entry). IsNumberOf m kept es c.in_ok-after.after) there after.number;
         looks_at =
-            subst (λ (ns : List CellName). AreLookedAt m (history_of m o) u ns) (sym c.as_slice-in-Some.ensures.value)
-            (subst (λ (es : List Entry). AreLookedAt m es u c.in-Some.names.items) here.history_is cells);
+            subst (λ (ns : List CellName). DueLooksAt m (history_of m o) u ns) (sym c.as_slice-in-Some.ensures.value)
+            (subst (λ (es : List Entry). DueLooksAt m es u c.in-Some.names.items) here.history_is cells);
         stay = λ none.
             subst (λ (es : List Entry). SlotsStay m (sequential_after m (history_of m o)).database (sequential_after m es).database) there
             (slots_stay m v.database.making v.goings.items after.stands.is_place (history_of m o) (c.has_changed_record-changing.ensures none) (history_before m u w.database.making v.database.making v.goings.items after.turned ∙ here.history_is));

@@ -1,90 +1,62 @@
-use Rattle.std.proofs.Common.{◌≡◌, ◌∙◌, ◌-◌, true, ℕ, List, ap, refl, sym, subst, length, arith}
-use Rattle.std.specs.Prelude.{option_map}
-use Rattle.std.specs.List.{list_all}
-use Rattle.std.proofs.lemmas.Option.{same_Some, slice_get_read}
-use Rattle.std.proofs.lemmas.Result.{IfOk-weaker}
-use Rattle.dbtg_cells.specs.CellNumbers.{is_cell}
+use Rattle.std.proofs.Common.{◌≡◌, ◌∙◌, true, Option, ap, sym, subst, arith}
+use Rattle.std.specs.Prelude.{IfOk, IfSome, option_map}
+use Rattle.dbtg_schema.specs.Sound.{IsSound}
 use Rattle.dbtg_unit.specs.declared.statement.Statement.{Statement}
-use Rattle.dbtg_unit.specs.Database.State.Belongs.{IsUnitOf, IsWithin}
+use Rattle.dbtg_unit.specs.Database.Laws.Replay.{State}
 use Rattle.dbtg_unit.specs.Database.Statements.Fits.{fits}
 use Rattle.dbtg_step.specs.Core.Whole.{Making, state_now}
-use Rattle.dbtg_states.specs.Looked.{IsReadyWith}
-use Rattle.dbtg_outcomes.specs.Inside.Transitions.{AreLookedAt}
-use Rattle.dbtg_outcomes.specs.Results.{Meeting}
-use Rattle.dbtg_outcomes.specs.Inside.Walks.{IsMaking, order_of}
-use Rattle.dbtg_outcomes.proofs.States.AtTurn.{if_some_weaker, looked_at_there, unit_there}
-use Rattle.dbtg_outcomes.proofs.States.Walks.{next_fits}
+use Rattle.dbtg_states.specs.Looked.{AreLookedAt}
+use Rattle.dbtg_outcomes.specs.Inside.Walks.{have_statements, order_of}
+use Rattle.dbtg_outcomes.specs.Results.{state_of}
+use Rattle.dbtg_outcomes.proofs.States.Runs.{run_state_is}
+use Rattle.dbtg_outcomes.proofs.States.Walks.{next_fits, next_found}
 use Rattle.dbtg_outcomes.proofs.meeting.Meeting.cells_at.Goals as goal
 
-pub overflow_sub-its_unit : goal.overflow_sub-its_unit
-overflow_sub-its_unit c =
-    let e = sym c.next_statement.ensures ∙ ap (option_map (λ x. x.now)) c.in-Some.is in
-    (next_fits c.args.self.now c.requires.meeting (order_of c.args.self.now c.args.turns.now) c.args.unit c.in-Some.statement.now e).numbered
+pub next_statement-requires : goal.next_statement-requires
+next_statement-requires c = ap (have_statements c.args.self.now) c.as_slice.ensures.value ∙ c.requires.stands.there
 
-pub bounds-units-unit : goal.bounds-units-unit
-bounds-units-unit c =
-    let m = c.args.self.now in
-    let e = sym c.next_statement.ensures ∙ ap (option_map (λ x. x.now)) c.in-Some.is in
-    let fit = next_fits m c.requires.meeting (order_of m c.args.turns.now) c.args.unit c.in-Some.statement.now e in
-    let numbered = fit.numbered in
-    let within = fit.within in
-    let count : length c.units.result.now ≡ length m.scripts = c.units.ensures.count ∙ ap (λ (k : Making). k.units) (c.database-database.ensures ∙ c.in_ok-go_to.ensures.stands.is_making.same) in
-    omega (arith, numbered, within, count)
+pub needed_cells-requires-clause-sound : goal.needed_cells-requires-clause-sound
+needed_cells-requires-clause-sound c = subst (λ (d : Making). IsSound d.schema) (sym (c.database-database.ensures ∙ c.requires.stands.is_making.same)) c.requires.meeting.sound
+
+pub needed_cells-requires-clause-schema : goal.needed_cells-requires-clause-schema
+needed_cells-requires-clause-schema c = ap (λ (d : Making). d.schema) (c.database-database.ensures ∙ c.requires.stands.is_making.same) ∙ sym c.places.ensures.schema
+
+pub needed_cells-requires-clause-capacity : goal.needed_cells-requires-clause-capacity
+needed_cells-requires-clause-capacity c = ap (λ (d : Making). d.capacity) (c.database-database.ensures ∙ c.requires.stands.is_making.same) ∙ sym c.places.ensures.capacity
 
 pub needed_cells-requires-clause-fitting : goal.needed_cells-requires-clause-fitting
 needed_cells-requires-clause-fitting c =
     let m = c.args.self.now in
-    let e = sym c.next_statement.ensures ∙ ap (option_map (λ x. x.now)) c.in-Some.is in
-    subst (λ (k : Meeting). fits k.schema c.in-Some.statement.now ≡ true) (sym c.self.view_is) (next_fits m c.requires.meeting (order_of m c.args.turns.now) c.args.unit c.in-Some.statement.now e).fitting
+    let us = c.args.walk.now.turns.items in
+    let e = next_found m us c.as_slice.result.now c.args.unit _ c.in-Some.statement.now c.as_slice.ensures.value c.next_statement.ensures (ap (option_map (λ x. x.now)) c.in-Some.is) in
+    subst (λ (d : Making). fits d.schema c.in-Some.statement.now ≡ true) (sym (c.database-database.ensures ∙ c.requires.stands.is_making.same)) (next_fits m c.requires.meeting (order_of m us) c.args.unit c.in-Some.statement.now e).fitting
 
-pub needed_cells-requires-clause-of_schema : goal.needed_cells-requires-clause-of_schema
-needed_cells-requires-clause-of_schema c =
+pub needed_cells-requires-clause-numbered : goal.needed_cells-requires-clause-numbered
+needed_cells-requires-clause-numbered c =
     let m = c.args.self.now in
-    let u = c.args.unit in
-    let d = c.database-database.result.now in
-    let e = sym c.next_statement.ensures ∙ ap (option_map (λ x. x.now)) c.in-Some.is in
-    let fit = next_fits m c.requires.meeting (order_of m c.args.turns.now) c.args.unit c.in-Some.statement.now e in
-    let numbered = fit.numbered in
-    let within = fit.within in
-    let count : length c.units.result.now ≡ length m.scripts = c.units.ensures.count ∙ ap (λ (k : Making). k.units) (c.database-database.ensures ∙ c.in_ok-go_to.ensures.stands.is_making.same) in
-    let at : IsMaking m (order_of m c.args.turns.now) d = subst (λ (k : Making). IsMaking m (order_of m c.args.turns.now) k) (sym c.database-database.ensures) (subst (λ (ts : List ℕ). IsMaking m (order_of m ts) c.go_to.new.walk.database.making) c.in_ok-go_to.ensures.turns c.in_ok-go_to.ensures.stands.is_making) in
-    let found = slice_get_read c.units.result.now (length c.units.result.now) (u - 1) c.index-units-unit.result refl (omega (arith, numbered, within, count)) c.index-units-unit.is in
-    subst (λ (k : Meeting). IsUnitOf k.schema c.index-units-unit.result) (sym c.self.view_is)
-    (unit_there m c.requires.meeting (order_of m c.args.turns.now) d at c.history-history.ensures.of u numbered c.units.result.now c.units.ensures.units c.index-units-unit.result found).of_schema
+    let us = c.args.walk.now.turns.items in
+    let e = next_found m us c.as_slice.result.now c.args.unit _ c.in-Some.statement.now c.as_slice.ensures.value c.next_statement.ensures (ap (option_map (λ x. x.now)) c.in-Some.is) in
+    (next_fits m c.requires.meeting (order_of m us) c.args.unit c.in-Some.statement.now e).numbered
 
 pub needed_cells-requires-clause-within : goal.needed_cells-requires-clause-within
 needed_cells-requires-clause-within c =
     let m = c.args.self.now in
-    let u = c.args.unit in
-    let d = c.database-database.result.now in
-    let e = sym c.next_statement.ensures ∙ ap (option_map (λ x. x.now)) c.in-Some.is in
-    let fit = next_fits m c.requires.meeting (order_of m c.args.turns.now) c.args.unit c.in-Some.statement.now e in
-    let numbered = fit.numbered in
-    let within = fit.within in
-    let count : length c.units.result.now ≡ length m.scripts = c.units.ensures.count ∙ ap (λ (k : Making). k.units) (c.database-database.ensures ∙ c.in_ok-go_to.ensures.stands.is_making.same) in
-    let at : IsMaking m (order_of m c.args.turns.now) d = subst (λ (k : Making). IsMaking m (order_of m c.args.turns.now) k) (sym c.database-database.ensures) (subst (λ (ts : List ℕ). IsMaking m (order_of m ts) c.go_to.new.walk.database.making) c.in_ok-go_to.ensures.turns c.in_ok-go_to.ensures.stands.is_making) in
-    let found = slice_get_read c.units.result.now (length c.units.result.now) (u - 1) c.index-units-unit.result refl (omega (arith, numbered, within, count)) c.index-units-unit.is in
-    subst (λ (k : Meeting). IsWithin k.capacity c.index-units-unit.result) (sym c.self.view_is)
-    (unit_there m c.requires.meeting (order_of m c.args.turns.now) d at c.history-history.ensures.of u numbered c.units.result.now c.units.ensures.units c.index-units-unit.result found).within
+    let us = c.args.walk.now.turns.items in
+    let e = next_found m us c.as_slice.result.now c.args.unit _ c.in-Some.statement.now c.as_slice.ensures.value c.next_statement.ensures (ap (option_map (λ x. x.now)) c.in-Some.is) in
+    let within = (next_fits m c.requires.meeting (order_of m us) c.args.unit c.in-Some.statement.now e).within in
+    omega (arith, within, ap (λ (d : Making). d.units) (c.database-database.ensures ∙ c.requires.stands.is_making.same))
 
-pub returns-in-Some-clause-cells : goal.returns-in-Some-clause-cells
-returns-in-Some-clause-cells c =
+pub returns-in-Some : goal.returns-in-Some
+returns-in-Some c =
     let m = c.args.self.now in
-    let u = c.args.unit in
-    let d = c.database-database.result.now in
-    let e = sym c.next_statement.ensures ∙ ap (option_map (λ x. x.now)) c.in-Some.is in
-    let fit = next_fits m c.requires.meeting (order_of m c.args.turns.now) c.args.unit c.in-Some.statement.now e in
-    let numbered = fit.numbered in
-    let within = fit.within in
-    let count : length c.units.result.now ≡ length m.scripts = c.units.ensures.count ∙ ap (λ (k : Making). k.units) (c.database-database.ensures ∙ c.in_ok-go_to.ensures.stands.is_making.same) in
-    let at : IsMaking m (order_of m c.args.turns.now) d = subst (λ (k : Making). IsMaking m (order_of m c.args.turns.now) k) (sym c.database-database.ensures) (subst (λ (ts : List ℕ). IsMaking m (order_of m ts) c.go_to.new.walk.database.making) c.in_ok-go_to.ensures.turns c.in_ok-go_to.ensures.stands.is_making) in
-    let found = slice_get_read c.units.result.now (length c.units.result.now) (u - 1) c.index-units-unit.result refl (omega (arith, numbered, within, count)) c.index-units-unit.is in
-    IfOk-weaker c.needed_cells.result _ _
-    (λ found-names ready. if_some_weaker found-names _ _ (λ names are y there.
+    let us = c.args.walk.now.turns.items in
+    let d = c.args.walk.now.database.making in
     let x = c.in-Some.statement.now in
-    subst (λ (z : Statement). AreLookedAt m (order_of m c.args.turns.now) u z names.items) (same_Some x y (sym e ∙ there))
-    (looked_at_there m c.requires.meeting (order_of m c.args.turns.now) d at c.history-history.ensures.of u numbered c.units.result.now c.units.ensures.units c.index-units-unit.result found x names.items
-    (subst (λ (k : Meeting). IsReadyWith k.schema k.capacity (state_now d).database c.index-units-unit.result x names.items) c.self.view_is are.0)
-    (subst (λ (k : Meeting). list_all (is_cell k.schema k.capacity) names.items ≡ true) c.self.view_is are.1)))
-    ready)
-    c.needed_cells.ensures
+    let u = c.args.unit in
+    let r = c.needed_cells.result in
+    let same = c.requires.stands.is_making.same in
+    let e = next_found m us c.as_slice.result.now u _ x c.as_slice.ensures.value c.next_statement.ensures (ap (option_map (λ x. x.now)) c.in-Some.is) in
+    subst (λ (next : Option Statement). IfOk r (λ found. IfSome found (λ names. IfSome next (λ y. AreLookedAt m.schema m.capacity (state_of m (order_of m us)) u y names.items)))) (sym e)
+    (subst (λ (k : Making). IfOk r (λ found. IfSome found (λ names. AreLookedAt k.schema k.capacity (state_of m (order_of m us)) u x names.items))) same
+    (subst (λ (s : State). IfOk r (λ found. IfSome found (λ names. AreLookedAt d.schema d.capacity s u x names.items))) (run_state_is m (order_of m us) d c.requires.stands.is_making)
+    (subst (λ (k : Making). IfOk r (λ found. IfSome found (λ names. AreLookedAt k.schema k.capacity (state_now k) u x names.items))) c.database-database.ensures c.needed_cells.ensures)))

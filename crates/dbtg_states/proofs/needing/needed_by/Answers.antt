@@ -3,8 +3,8 @@ use Rattle.dbtg_schema.specs.Lists.{Lists}
 use Rattle.dbtg_step.specs.Core.Whole.{state_now}
 use Rattle.dbtg_states.specs.declared.needing.InHand.{InHand}
 use Rattle.dbtg_states.specs.Inside.InHand.{AreInHand}
-use Rattle.dbtg_states.proofs.needing.needed_cells.Goals.{in-Take+in_ok-is_met-in-Take, in-Stale, in-Area}
-use Rattle.dbtg_states.proofs.needing.needed_cells.Goals as goal
+use Rattle.dbtg_states.proofs.needing.needed_by.Goals.{in-Take+in_ok-is_met-in-Take, in-Stale, in-Area}
+use Rattle.dbtg_states.proofs.needing.needed_by.Goals as goal
 
 pub take_copy-requires : goal.take_copy-requires
 take_copy-requires c =
