@@ -27,7 +27,7 @@ fn push_ring(set: SetNo, owner: Option<Owner>, names: &mut Vec<CellName>) -> Res
 }
 
 // Adds the rings of a record's owners, set by set.
-#[tactic(auto, using(dbtg_unit::proofs::Public::numbers_next, dbtg_unit::proofs::Public::numbers_end, crate::proofs::FirstNames::names_append))]
+#[tactic(auto, using(dbtg_schema::proofs::Public::numbers_next, dbtg_schema::proofs::Public::numbers_end, crate::proofs::FirstNames::names_append))]
 fn push_each_ring(
     schema: &Schema,
     held: &Held,

@@ -39,7 +39,7 @@ fn stops_at(schema: &Schema, held: &Held, key: &DbKey, set: SetNo) -> bool
     }
 }
 
-#[tactic(auto, using(dbtg_unit::proofs::Public::numbers_next, dbtg_unit::proofs::Public::numbers_end))]
+#[tactic(auto, using(dbtg_schema::proofs::Public::numbers_next, dbtg_schema::proofs::Public::numbers_end))]
 fn first_stop(schema: &Schema, held: &Held, key: &DbKey) -> Option<SetNo>
     ensures { result ≡ find (stops_at schema.now held.now key.now) (set_numbers schema.now) }
 {

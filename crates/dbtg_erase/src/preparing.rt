@@ -36,7 +36,7 @@ pub(crate) fn has_any(held: &Held, key: &DbKey, set: SetNo) -> bool
 }
 
 // Does a record have a member in some list that is held?
-#[tactic(auto, using(dbtg_unit::proofs::Public::numbers_next, dbtg_unit::proofs::Public::numbers_end))]
+#[tactic(auto, using(dbtg_schema::proofs::Public::numbers_next, dbtg_schema::proofs::Public::numbers_end))]
 fn has_members(schema: &Schema, held: &Held, key: &DbKey) -> bool
     ensures { result ≡ has_members schema.now (in_hand held.now) key.now }
 {

@@ -40,7 +40,7 @@ fn is_other(set: SetNo, owner: Option<Owner>, own_set: SetNo, own: &DbKey) -> bo
 }
 
 // Is a member of a record's list of this set a member of another list?
-#[tactic(auto, using(dbtg_unit::proofs::Public::numbers_next, dbtg_unit::proofs::Public::numbers_end))]
+#[tactic(auto, using(dbtg_schema::proofs::Public::numbers_next, dbtg_schema::proofs::Public::numbers_end))]
 fn is_elsewhere(schema: &Schema, held: &Held, set: SetNo, own: &DbKey, member: &DbKey) -> bool
     ensures { result ≡ elsewhere_in schema.now held.now set (Rec own.now) member.now }
 {

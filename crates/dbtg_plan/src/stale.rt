@@ -81,7 +81,7 @@ fn wrong_owners_in(
     owners
 }
 
-#[tactic(auto, using(dbtg_unit::proofs::Public::numbers_next, dbtg_unit::proofs::Public::numbers_end))]
+#[tactic(auto, using(dbtg_schema::proofs::Public::numbers_next, dbtg_schema::proofs::Public::numbers_end))]
 fn has_wrong_owner_in(
     schema: &Schema,
     unit: &Unit,

@@ -57,7 +57,7 @@ fn area_count(schema: &Schema) -> u8
 }
 
 /// The first of a statement's areas, ascending, that its unit has open in this way.
-#[tactic(auto, using(dbtg_unit::proofs::Public::numbers_end))]
+#[tactic(auto, using(dbtg_schema::proofs::Public::numbers_end))]
 pub(crate) fn area_with(
     schema: &Schema,
     unit: &Unit,

@@ -158,7 +158,7 @@ fn listed(schema: &Schema, image: &Image, unit: &Unit, statement: &Statement) ->
 }
 
 // The first set in which an owner has members.
-#[tactic(auto, using(dbtg_unit::proofs::Public::numbers_next, dbtg_unit::proofs::Public::numbers_end))]
+#[tactic(auto, using(dbtg_schema::proofs::Public::numbers_next, dbtg_schema::proofs::Public::numbers_end))]
 fn set_with_members(schema: &Schema, image: &Image, owner: &Owner) -> Option<SetNo>
     ensures { result ≡ find (λ s. nat_lt 0 (length (members_in image.now s owner.now))) (set_numbers schema.now) }
 {

@@ -161,7 +161,7 @@ fn is_taken_anew(
 }
 
 // The first set that is sorted by a named item and in which another member has the sort key.
-#[tactic(auto, using(dbtg_unit::proofs::Public::numbers_end))]
+#[tactic(auto, using(dbtg_schema::proofs::Public::numbers_end))]
 fn taken_set(
     schema: &Schema,
     image: &Image,

@@ -71,7 +71,7 @@ fn ask_of_automatic(schema: &Schema, unit: &Unit, question: &Question, rtype: Re
 }
 
 // About the home areas of the sets in which a MODIFY with these changes moves a record of this type.
-#[tactic(auto, using(crate::proofs::Lists::FromZeroUp::numbers_next, crate::proofs::Lists::FromZeroUp::numbers_end))]
+#[tactic(auto, using(dbtg_schema::proofs::Public::numbers_next, dbtg_schema::proofs::Public::numbers_end))]
 fn ask_of_rekeyed(
     schema: &Schema,
     unit: &Unit,
@@ -157,7 +157,7 @@ pub(crate) fn ask_of_find(schema: &Schema, unit: &Unit, question: &Question, for
 }
 
 // About the areas in the set.
-#[tactic(auto, using(crate::proofs::Lists::FromZeroUp::numbers_next, crate::proofs::Lists::FromZeroUp::numbers_end))]
+#[tactic(auto, using(dbtg_schema::proofs::Public::numbers_next, dbtg_schema::proofs::Public::numbers_end))]
 fn ask_of_marked(schema: &Schema, unit: &Unit, question: &Question, areas: &AreaSet) -> bool
     ensures { result ≡ list_any (λ a. marked areas.now a && asks unit.now.modes question.now a) (range_with_len 0 (length schema.now.areas)) }
 {

@@ -19,7 +19,7 @@ pub fn has_area(schema: &Schema, unit: &Unit, statement: &Statement, area: AreaN
 }
 
 /// The first of a statement's areas, ascending, that is not held.
-#[tactic(auto, using(crate::proofs::Lists::FromZeroUp::numbers_next, crate::proofs::Lists::FromZeroUp::numbers_end))]
+#[tactic(auto, using(dbtg_schema::proofs::Public::numbers_next, dbtg_schema::proofs::Public::numbers_end))]
 pub fn next_area(schema: &Schema, unit: &Unit, statement: &Statement, held: &Held) -> Option<AreaNo>
     ensures { result ≡ find (λ a. not (list_any (λ b. b == a) held.now.areas)) (areas_in_order schema.now unit.now statement.now) }
 {

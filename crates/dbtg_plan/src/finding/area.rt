@@ -271,7 +271,7 @@ pub(crate) fn find_in_area(
 }
 
 /// The first extent of the area's record types that is not held.
-#[tactic(auto, using(dbtg_unit::proofs::Public::numbers_next, dbtg_unit::proofs::Public::numbers_end))]
+#[tactic(auto, using(dbtg_schema::proofs::Public::numbers_next, dbtg_schema::proofs::Public::numbers_end))]
 pub(crate) fn missing_extent(
     schema: &Schema,
     held: &Held,
