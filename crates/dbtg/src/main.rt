@@ -522,31 +522,21 @@ fn paths_of<'a>(call: &'a Call<'a>, order: Order<&'a str>) -> Paths<'a>
     }
 }
 
+// Turns and outcomes have an order of their own; all else takes the files in the order that is given.
 fn carry_out<R: Threads + Wait + Sync>(rt: &HostRuntime, threads: &R, call: &Call) -> ExitCode {
-    match call.named {
-        Named::Turns => print_turns(rt, call),
-        Named::Outcomes => tell_outcomes(rt, call),
-        Named::Explain => print_topic(rt, &call.topic),
-        _ => carry_out_with_files(rt, threads, call),
-    }
-}
-
-// What takes its texts from the files that are named, in whatever order is given.
-fn carry_out_with_files<R: Threads + Wait + Sync>(
-    rt: &HostRuntime,
-    threads: &R,
-    call: &Call,
-) -> ExitCode {
     let paths = paths_of(call, call.order);
     let files = Files {
         reader: rt,
         paths: &paths,
     };
     match call.named {
+        Named::Turns => print_turns(rt, call),
+        Named::Outcomes => tell_outcomes(rt, call),
         Named::Threads => print_threads(rt, threads, &files, call),
         Named::Run => print_programs(rt, threads, &files, call),
         Named::Explore => tell_explored(rt, &files, call),
         Named::Audit => print_audit(rt, &files, call),
+        Named::Explain => print_topic(rt, &call.topic),
         Named::Shell => open_shell(rt, &files, call),
         _ => print_files(rt, &files, call),
     }
