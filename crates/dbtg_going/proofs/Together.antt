@@ -1,5 +1,5 @@
 -- Programs that begin together, and the result that is returned of them.
-use Rattle.std.proofs.Common.{◌≡◌, ℕ, zero, suc, ◌+◌, ◌-◌, List, [], ◌∷◌, ◌++◌, length, map, Some, ◌⊎◌, inl, inr, refl, ap, subst, sym, ◌∙◌, slice_get, append-nil, arith}
+use Rattle.std.proofs.Common.{◌≡◌, ℕ, zero, suc, ◌+◌, List, [], ◌∷◌, ◌++◌, length, map, Some, ◌⊎◌, inl, inr, refl, ap, subst, sym, ◌∙◌, slice_get, append-nil, arith}
 use Rattle.std.specs.Prelude.{option_map}
 use Rattle.std.specs.List.{flat_map, range_with_len}
 use Rattle.std.proofs.lemmas.List.{length-append, length-map}
@@ -12,7 +12,7 @@ use Rattle.dbtg_program.specs.declared.going.Due as code
 use Rattle.dbtg_program.specs.declared.going.Due.TheVariants as code_due
 use Rattle.dbtg_program.specs.declared.program.Program.{Program}
 use Rattle.dbtg_program.specs.States.{ProgramState}
-use Rattle.dbtg_program.specs.Going.{AreOf, Due}
+use Rattle.dbtg_program.specs.Going.{AreOf}
 use Rattle.dbtg_program.specs.Views.{view_due}
 use Rattle.dbtg_step.specs.Core.Whole.{IsMadeRun, Making}
 use Rattle.dbtg_step.specs.Machine.SequentialDatabase.{unit_at}
@@ -20,7 +20,7 @@ use Rattle.dbtg_step.proofs.Public.{map_at}
 use Rattle.dbtg_going.specs.declared.member.Going.{Going}
 use Rattle.dbtg_going.specs.declared.member.Member.{Member}
 use Rattle.dbtg_going.specs.declared.going.ProgramRun.{ProgramRun}
-use Rattle.dbtg_going.specs.Turns.{IsRunOf, comes, making_by, one_by_one, reached, standing, state_in, to_the_end}
+use Rattle.dbtg_going.specs.Turns.{IsRunOf, making_by, one_by_one, reached, standing, state_in, to_the_end}
 use Rattle.dbtg_going.specs.Goings.{AreAfter, AreGoing, IsAt, reached_by}
 use Rattle.dbtg_going.specs.Inside.Members.{AreAt, HaveTurned, IsUnderWay}
 use Rattle.dbtg_going.proofs.Turning.{turned_on, turned_to}

@@ -249,35 +249,6 @@ impl<'a> Programs<'a> {
         self.make_others(database, members, turns)?;
         self.make_last(database, members)
     }
-
-    // Takes these turns, with the members in a vector.
-    fn go_by(
-        &self,
-        database: &mut WholeDatabase<'_>,
-        members: &mut Vec<Member>,
-        turns: &[u8],
-    ) -> Result<(), AllocError>
-        requires few { length self.now.list.now ≤ LAST_UNIT }
-        requires under_way { IsUnderWay self.now.schema.now self.now.list.now database.old members.old.items }
-        ensures { OnOk result (HaveTurned self.now.schema.now self.now.list.now database.old (filter (is_heard self.now.around (length self.now.list.now)) turns.now) database.new members.new.items) }
-    {
-        self.turns(database, members.as_mut_slice(), turns)
-    }
-
-    // The same for members in a vector.
-    fn go(
-        &self,
-        database: &mut WholeDatabase<'_>,
-        members: &mut Vec<Member>,
-        turns: Option<&[u8]>,
-    ) -> Result<(), AllocError>
-        requires few { length self.now.list.now ≤ LAST_UNIT }
-        requires under_way { IsUnderWay self.now.schema.now self.now.list.now database.old members.old.items }
-        requires opening { database.old.history ≡ [] }
-        ensures { OnOk result (HaveTurned self.now.schema.now self.now.list.now database.old (turns_of self.now.schema.now database.old.capacity self.now.list.now self.now.around (option_map (λ t. t.now) turns.entry)) database.new members.new.items) }
-    {
-        self.make_all(database, members.as_mut_slice(), turns)
-    }
 }
 
 // How far each member is.
@@ -329,7 +300,7 @@ pub fn run_programs(
     };
     let mut members = together.beginning()?;
     let mut database = WholeDatabase::opening(alloc, schema, capacity, programs.len() as u8)?;
-    together.go(&mut database, &mut members, turns)?;
+    together.make_all(&mut database, members.as_mut_slice(), turns)?;
     finish(alloc, database, members)
 }
 
@@ -342,18 +313,6 @@ fn goings_of(alloc: Global, members: Vec<Member>) -> Result<Vec<Going>, AllocErr
         goings.push(member.into_going())?;
     }
     Ok(goings)
-}
-
-// A database beside the programs of its members.
-fn with_goings<'a>(
-    alloc: Global,
-    database: WholeDatabase<'a>,
-    members: Vec<Member>,
-) -> Result<(WholeDatabase<'a>, Vec<Going>), AllocError>
-    ensures database { IfOk result (λ after. after.0 ≡ database.entry) }
-    ensures goings { IfOk result (λ after. after.1.items ≡ map (λ m. m.going) members.items) }
-{
-    Ok((database, goings_of(alloc, members)?))
 }
 
 /// The database and its programs after these turns, starting with the opening database, with a unit for each program. If memory is refused
@@ -380,6 +339,7 @@ pub fn programs_after<'a>(
     };
     let mut members = together.beginning()?;
     let mut database = WholeDatabase::opening(alloc, schema, capacity, programs.len() as u8)?;
-    together.go_by(&mut database, &mut members, turns)?;
-    with_goings(alloc, database, members)
+    together.turns(&mut database, members.as_mut_slice(), turns)?;
+    let goings = goings_of(alloc, members)?;
+    Ok((database, goings))
 }

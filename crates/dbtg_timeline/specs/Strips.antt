@@ -1,5 +1,5 @@
 -- A line is printed in strips, one below another: the letters are folded, and so is the statement's text.
-use Rattle.std.specs.Prelude.{ℕ, zero, suc, ◌+◌, ◌-◌, ◌==◌, Bool, false, not, ◌&&◌, ◌||◌, nat_le, nat_lt, List, [], ◌∷◌, ◌++◌, Option, Some, None, length, map, if◌then◌else◌, slice_get, slice_set, unwrap_or}
+use Rattle.std.specs.Prelude.{ℕ, zero, suc, ◌-◌, ◌==◌, Bool, false, not, ◌&&◌, ◌||◌, nat_le, nat_lt, List, [], ◌∷◌, ◌++◌, Option, Some, None, length, map, if◌then◌else◌, slice_get, slice_set, unwrap_or}
 use Rattle.std.specs.List.{flat_map, prefix_len, range_with_len}
 use Rattle.dbtg_timeline.specs.declared.lines.Line.{Line}
 use Rattle.dbtg_timeline.specs.declared.strips.Front.{Front}

@@ -1,8 +1,10 @@
-use Rattle.std.proofs.Common.{false, length, refl}
+use Rattle.std.proofs.Common.{◌≡◌, ◌++◌, false, length, map, take, drop, refl, ap, ◌∙◌, arith}
+use Rattle.std.proofs.lemmas.Grind.{common_steps}
 use Rattle.std.specs.Prelude.{filter}
 use Rattle.dbtg_going.specs.Turns.{is_heard}
 use Rattle.dbtg_going.proofs.FirstAndLast.{all_heard}
-use Rattle.dbtg_going.proofs.Turning.{if_both, turned_to}
+use Rattle.dbtg_going.proofs.Turning.{turned_to}
+use Rattle.dbtg_going.specs.declared.member.Member.{Member}
 use Rattle.dbtg_going.proofs.Together.{led_on}
 use Rattle.dbtg_going.proofs.going.programs_after.Goals as goal
 
@@ -12,7 +14,8 @@ returns c =
     let programs = c.args.programs.now in
     let turns = c.args.turns.now in
     let database = c.in_ok-database.database in
-    let by = turned_to schema programs database c.go_by.new.database (filter (is_heard (record { first = false; last = false }) (length programs)) turns) turns c.go_by.new.members.items (all_heard (length programs) turns) c.in_ok-go_by.ensures in
-    if_both c.with_goings.result
-    (λ after same are. led_on schema c.args.capacity programs turns database c.go_by.new.database after.0 (length programs) c.go_by.new.members.items after.1.items c.in_ok-database.ensures refl by same are)
-    c.with_goings.ensures.database c.with_goings.ensures.goings
+    let members = c.in_ok-members.members in
+    let taken = c.turns.new.members in
+    let back : take members.len (taken ++ drop (length taken) members.items) ≡ taken = grind (arith, common_steps) in
+    let by = turned_to schema programs database c.turns.new.database (filter (is_heard (record { first = false; last = false }) (length programs)) turns) turns c.turns.new.members (all_heard (length programs) turns) c.in_ok-turns.ensures in
+    led_on schema c.args.capacity programs turns database c.turns.new.database c.turns.new.database (length programs) c.turns.new.members c.in_ok-goings.goings.items c.in_ok-database.ensures refl by refl (c.in_ok-goings.ensures ∙ ap (map (λ (m : Member). m.going)) back)

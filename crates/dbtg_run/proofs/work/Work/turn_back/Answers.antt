@@ -1,4 +1,4 @@
-use Rattle.std.proofs.Common.{◌≡◌, [], List, Option, length, sym, ap, ◌∙◌, subst}
+use Rattle.std.proofs.Common.{[], List, Option, length, sym, ap, ◌∙◌, subst}
 use Rattle.dbtg_cells.specs.declared.key.Owner.{Owner}
 use Rattle.dbtg_unit.specs.Hands.Hands.{Hands}
 use Rattle.dbtg_step.specs.Inside.Events.{HaveRings}
