@@ -35,8 +35,7 @@ pub(crate) fn calc_taken(
     let Some(extent) = numbers(held, rtype) else {
         return false;
     };
-    !calc.duplicates_allowed
-        && extent.has_picked(calc.items.as_slice(), items, number_of(left_out))
+    !calc.duplicates_allowed && extent.has_picked(calc.items.as_slice(), items, number_of(left_out))
 }
 
 /// The key of a new record: the least free number of its type, in its next generation.

@@ -39,12 +39,7 @@ fn set_mode(
         edit,
     })?;
     let change = UnitEdit::SetMode { area, mode };
-    Ok(Prepared::new(
-        done_answer(),
-        edits,
-        Row::of(Vec::new(alloc)),
-        change,
-    ))
+    Ok(Prepared::new(done_answer(), edits, Row::of(Vec::new(alloc)), change))
 }
 
 /// OPEN of an area in a mode.
