@@ -316,17 +316,8 @@ fn push_each_replacing(
     ensures { OnOk result (edits.new ≡ edits.old ++ flat_map (replacing_edits schema.now (in_hand held.now) unit.now key.now items.now) (rekeyed_sets schema.now key.now.rtype (map (λ c. c.item) changes.now))) }
 {
     for s in 0..set_count(schema) {
-        push_replacing(
-            edits,
-            alloc,
-            schema,
-            unit,
-            changes,
-            held,
-            key,
-            items,
-            SetNo::new(s),
-        )?;
+        let set = SetNo::new(s);
+        push_replacing(edits, alloc, schema, unit, changes, held, key, items, set)?;
     }
     Ok(())
 }

@@ -1,6 +1,6 @@
 -- Answers that were read before are kept and found.
-use Rattle.std.proofs.Common.{◌≡◌, ℕ, zero, suc, ◌<◌, List, [], ◌∷◌, ◌++◌, get_or, length, set, Option, Some, None, sym, ap, ◌∙◌}
-use Rattle.std.specs.Prelude.{IfSome, slice_get}
+use Rattle.std.proofs.Common.{◌≡◌, ℕ, zero, suc, ◌<◌, List, [], ◌∷◌, ◌++◌, get_or, length, set, Option, Some, None, sym, ap, subst, ◌∙◌}
+use Rattle.std.specs.Prelude.{slice_get}
 use Rattle.std.proofs.lemmas.Option.{slice_get_within}
 use Rattle.dbtg_schema.specs.Lists.{Lists}
 use Rattle.dbtg_cells.proofs.Public.{get_behind}
@@ -20,12 +20,10 @@ kept_with schema ts [] i p h g = tt
 kept_with schema ts (q ∷ qs) zero p h g = (g, h.1)
 kept_with schema ts (q ∷ qs) (suc i) p h g = (h.0, kept_with schema ts qs i p h.1 g)
 
-pub found : (schema : Lists) (ts : List Traced) (ps : List (Option Seen)) (i : ℕ) (seen : Seen) (answer : List ℕ) (o : Option ℕ)
-    → AreSaid schema ts ps → get_or ps i None ≡ Some seen → IfSome o (λ at. at ≡ seen.at) → IfSome o (λ _. seen.line.now ≡ answer) → IfSome o (λ at. IsSaid schema ts answer at)
-found schema ts ps i seen answer None h e at same = tt
-found schema ts ps i seen answer (Some n) h e at same =
+pub found : (schema : Lists) (ts : List Traced) (ps : List (Option Seen)) (i : ℕ) (seen : Seen) (answer : List ℕ) → AreSaid schema ts ps → get_or ps i None ≡ Some seen → seen.line.now ≡ answer → IsSaid schema ts answer seen.at
+found schema ts ps i seen answer h e same =
     let said : IsSaid schema ts seen.line.now seen.at = rw e at (kept_at schema ts ps i h) in
-    rw (at, ← same) said
+    subst (λ (line : List ℕ). IsSaid schema ts line seen.at) same said
 
 -- it is still there when one more entry is read
 still_there : (schema : Lists) (ts : List Traced) (t : Traced) (answer : List ℕ) (at : ℕ) → IsSaid schema ts answer at → IsSaid schema (ts ++ t ∷ []) answer at

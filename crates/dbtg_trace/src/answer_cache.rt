@@ -27,17 +27,6 @@ fn place_of(answer: &[u8]) -> usize
     (len % PLACES + back + 13 * answer[len - 4] as usize) % PLACES
 }
 
-fn place_in(seen: &Seen, answer: &[u8]) -> Option<usize>
-    ensures at { IfSome result (λ at. at ≡ seen.now.at) }
-    ensures same { IfSome result (λ _. seen.now.line.now ≡ answer.now) }
-{
-    if seen.line == answer {
-        Some(seen.at)
-    } else {
-        None
-    }
-}
-
 impl<'a> AnswerCache<'a> {
     /// No answer yet.
     pub fn none() -> Self
@@ -54,7 +43,13 @@ impl<'a> AnswerCache<'a> {
     {
         match &self.places[place_of(answer)] {
             None => None,
-            Some(seen) => place_in(seen, answer),
+            Some(seen) => {
+                if seen.line == answer {
+                    Some(seen.at)
+                } else {
+                    None
+                }
+            }
         }
     }
 

@@ -131,20 +131,7 @@ fn read_part<'a>(
     }
 }
 
-/// The answer that these bytes say, if they were read before.
-fn answered_again(so_far: &ReadSoFar, answer: &[u8]) -> Result<Option<Said>, AllocError>
-    ensures { (schema : Lists) → AreSaid schema so_far.now.entries.items so_far.now.answers.places → IfOk result (λ found. IfSome found (λ said. answer_in schema answer.now ≡ Some said)) }
-{
-    let Some(at) = so_far.answers.find(answer) else {
-        return Ok(None);
-    };
-    match so_far.entries.get(at) {
-        None => Ok(None),
-        Some(entry) => Ok(Some(entry.said.copy()?)),
-    }
-}
-
-/// The answer that is written after an arrow.
+/// The answer that is written after an arrow: a copy, if the same bytes were read before.
 fn read_answer(
     alloc: Global,
     schema: &Schema,
@@ -154,9 +141,12 @@ fn read_answer(
     requires { AreSaid schema.now so_far.now.entries.items so_far.now.answers.places }
     ensures { IfOk result (λ found. found ≡ answer_in schema.now answer.now) }
 {
-    match answered_again(so_far, answer)? {
-        Some(said) => Ok(Some(said)),
+    let Some(at) = so_far.answers.find(answer) else {
+        return answer_in(alloc, schema, answer);
+    };
+    match so_far.entries.get(at) {
         None => answer_in(alloc, schema, answer),
+        Some(entry) => Ok(Some(entry.said.copy()?)),
     }
 }
 

@@ -50,22 +50,6 @@ make_store-requires c =
       passes = subst (λ (s : Statement). refused_at_once c.args.schema.now c.args.capacity c.args.unit.now s ≡ None) c.in-Store.is c.requires.passes;
     }
 
-pub make_insert-requires : goal.make_insert-requires
-make_insert-requires c =
-    record {
-      may = subst (λ (s : Statement). MayPrepare c.args.schema.now c.args.capacity c.args.unit.now c.args.held.now s) c.in-Insert.is c.requires.may;
-      agrees = c.requires.agrees;
-      passes = subst (λ (s : Statement). refused_at_once c.args.schema.now c.args.capacity c.args.unit.now s ≡ None) c.in-Insert.is c.requires.passes;
-    }
-
-pub make_remove-requires : goal.make_remove-requires
-make_remove-requires c =
-    record {
-      may = subst (λ (s : Statement). MayPrepare c.args.schema.now c.args.capacity c.args.unit.now c.args.held.now s) c.in-Remove.is c.requires.may;
-      agrees = c.requires.agrees;
-      passes = subst (λ (s : Statement). refused_at_once c.args.schema.now c.args.capacity c.args.unit.now s ≡ None) c.in-Remove.is c.requires.passes;
-    }
-
 pub make_modify-requires : goal.make_modify-requires
 make_modify-requires c =
     record {

@@ -14,7 +14,7 @@ loop-s-preserved c =
     let is_wanted : ℕ → Bool = λ s. is_rekeyed c.args.schema.now c.args.changes.now c.args.key.now.rtype s in
     let sets = length c.args.schema.now.sets in
     let rest = flat_map edits (filter is_wanted (drop (c.loop-s.s + 1) (range_with_len 0 sets))) in
-    ap (λ es. es ++ rest) (c.in_ok-push_replacing.ensures ∙ ap (λ s. c.loop-s.edits ++ cond (is_wanted s) (edits s) []) c.new.ensures)
+    ap (λ es. es ++ rest) (c.in_ok-push_replacing.ensures ∙ ap (λ s. c.loop-s.edits ++ cond (is_wanted s) (edits s) []) c.new-set.ensures)
     ∙ append_assoc c.loop-s.edits (cond (is_wanted c.loop-s.s) (edits c.loop-s.s) []) rest
     ∙ ap (λ es. c.loop-s.edits ++ es) (sym (kept_step edits is_wanted sets c.loop-s.s (omega (arith, c.set_count-s-end.ensures))))
     ∙ c.loop-s.invariant
