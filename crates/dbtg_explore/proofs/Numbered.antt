@@ -1,13 +1,13 @@
 -- Numbers of states, as they are made and kept.
 -- m is a meeting, h is a history, o an order, os are orders, u a unit, c the name of a cell, n and k are numbers of states, d is a database.
-use Rattle.std.proofs.Common.{◌≡◌, refl, sym, ◌∙◌, ap, subst, ℕ, zero, suc, ◌+◌, ◌-◌, ◌<◌, Bool, false, List, [], ◌∷◌, ◌++◌, length, get_or, Some, arith, inl, inr, take}
+use Rattle.std.proofs.Common.{◌≡◌, refl, sym, ◌∙◌, ap, subst, ℕ, zero, suc, ◌-◌, ◌<◌, false, List, [], ◌∷◌, ◌++◌, length, get_or, arith, inl, inr, take}
 use Rattle.std.specs.Prelude.{Contains}
 use Rattle.dbtg_cells.specs.declared.name.CellName.{CellName}
 use Rattle.dbtg_unit.specs.declared.unit.Entry.{Entry}
-use Rattle.dbtg_step.specs.Core.Reversible.{OnlyChanged, OnlyLastChanged, is_named}
+use Rattle.dbtg_step.specs.Core.Reversible.{OnlyChanged, OnlyLastChanged}
 use Rattle.dbtg_step.specs.Core.Whole.{Making}
 use Rattle.dbtg_going.specs.declared.member.Going.{Going}
-use Rattle.dbtg_states.specs.Numbers.{AreNumbers, Grow, HasPut, IsNumberBut, Numbers, NumbersState}
+use Rattle.dbtg_states.specs.Numbers.{AreNumbers, Grow, IsNumberBut, Numbers, NumbersState}
 use Rattle.dbtg_states.specs.Parts.{Parts, parts_in}
 use Rattle.dbtg_states.proofs.States.Numbers.{but_units, stays_number}
 use Rattle.dbtg_states.proofs.States.ShownParts.{unchanged_shown}

@@ -93,19 +93,18 @@ impl Ends {
         &mut self,
         alloc: Global,
         meeting: &Meeting,
-        order: &[u8],
+        order: Row<u8>,
         here: &Walk,
     ) -> Result<(), AllocError>
         requires meeting { IsMeeting meeting.now }
-        requires here { StandsAt meeting.now order.now here.now }
-        requires end { (u : ℕ) → can_go_on meeting.now (history_of meeting.now order.now) u ≡ false }
-        ensures result { OnOk result (NotesResult meeting.now order.now self.old.results self.new.results) }
+        requires here { StandsAt meeting.now order here.now }
+        requires end { (u : ℕ) → can_go_on meeting.now (history_of meeting.now order) u ≡ false }
+        ensures result { OnOk result (NotesResult meeting.now order self.old.results self.new.results) }
         ensures failures { OnOk result (self.new.failures.items ≡ self.old.failures.items) }
     {
         let text = meeting.text(alloc, here)?;
         let key = as_numbers(alloc, text.as_slice())?;
-        self.results
-            .enter(key, Row::of(Vec::from_slice(alloc, order)?))?;
+        self.results.enter(key, order)?;
         Ok(())
     }
 }

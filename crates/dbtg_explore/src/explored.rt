@@ -65,9 +65,9 @@ impl Search {
         if !meeting.is_at_end(&self.numbers, state) {
             return Ok(());
         }
-        let order = self.found.order(alloc, place)?;
+        let order = Row::of(self.found.order(alloc, place)?);
         meeting.go_to(alloc, walk, order.as_slice())?;
-        ends.note_result(alloc, meeting, order.as_slice(), walk)
+        ends.note_result(alloc, meeting, order, walk)
     }
 
     // The state to which the order at this place leads: notes its ends, and finds what can be next.

@@ -54,7 +54,8 @@ impl<'a> Meeting<'a> {
     {
         what_is_looked_at_determines();
         let (transitions, numbers) = (&mut walk.transitions, &walk.numbers);
-        self.places().remember(alloc, transitions, numbers, passage, names)
+        self.places()
+            .remember(alloc, transitions, numbers, passage, names)
     }
 
     // The state to which a turn of the unit leads from a group's: its number, and the status of the statement, which is made.

@@ -40,10 +40,10 @@ pub go_to-requires-clause-order : goal.go_to-requires-clause-order
 go_to-requires-clause-order c =
     let m = c.args.meeting.now in
     let os = c.args.self.now.found.orders in
-    subst (IsOrder m) (sym (c.as_slice.ensures.value ∙ c.in_ok-order.ensures)) (c.requires.visited.at.under_way.are_orders (get_or os c.args.place []) (Contains-get_or os c.args.place [] c.requires.within))
+    subst (IsOrder m) (sym (c.as_slice.ensures ∙ c.of-order.ensures ∙ c.in_ok-order.ensures)) (c.requires.visited.at.under_way.are_orders (get_or os c.args.place []) (Contains-get_or os c.args.place [] c.requires.within))
 
 pub note_result-requires-clause-here : goal.note_result-requires-clause-here
-note_result-requires-clause-here c = subst (λ (o : List ℕ). StandsAt c.args.meeting.now o c.go_to.new.walk) (c.as_slice.ensures.value ∙ sym c.as_slice-2.ensures.value) c.in_ok-go_to.ensures
+note_result-requires-clause-here c = subst (λ (o : List ℕ). StandsAt c.args.meeting.now o c.go_to.new.walk) c.as_slice.ensures c.in_ok-go_to.ensures
 
 pub note_result-requires-clause-end : goal.note_result-requires-clause-end
 note_result-requires-clause-end c = λ u.
@@ -52,7 +52,7 @@ note_result-requires-clause-end c = λ u.
     let o = get_or s.found.orders c.args.place [] in
     let at = state_at m s.numbers s.found.keys s.found.orders c.args.place c.number-state.result c.requires.visited.at.known c.requires.within c.number-state.ensures in
     let is_over = sym (is_over_is m s.numbers (history_of m o) c.number-state.result at) ∙ sym c.is_at_end.ensures ∙ c.if-not-is_at_end.false in
-    ap (λ (p : List ℕ). can_go_on m (history_of m p) u) (c.as_slice-2.ensures.value ∙ c.in_ok-order.ensures) ∙ at_end m (history_of m o) is_over u
+    ap (λ (p : List ℕ). can_go_on m (history_of m p) u) (c.of-order.ensures ∙ c.in_ok-order.ensures) ∙ at_end m (history_of m o) is_over u
 
 pub returns-clause-notes : goal.returns-clause-notes
 returns-clause-notes c =
@@ -66,7 +66,7 @@ returns-clause-notes c =
     notes_both m o (history_of m o) c.args.ends.now c.note_result.new.self refl
     (subst (Take (FailsIn (state_after m (history_of m o))) c.args.ends.now.failures.items) (sym failures) (noted.failures (history_of m o) at))
     (subst (λ (r : FoundOrders (List ℕ)). NotesResult m o r c.note_result.new.self.results) noted.results
-    (subst (λ (p : List ℕ). NotesResult m p c.note_failures.new.self.results c.note_result.new.self.results) (c.as_slice-2.ensures.value ∙ c.in_ok-order.ensures) result)))
+    (subst (λ (p : List ℕ). NotesResult m p c.note_failures.new.self.results c.note_result.new.self.results) (c.of-order.ensures ∙ c.in_ok-order.ensures) result)))
     c.note_result.ensures.result c.note_result.ensures.failures
 
 pub returns-clause-stands : goal.returns-clause-stands
