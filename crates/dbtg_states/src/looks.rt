@@ -69,6 +69,7 @@ impl<'a> Places<'a> {
         }
         Ok(Some(looks))
     }
+
     /// Remembers what a statement did on a passage on which it looked at its unit and at these cells.
     pub fn remember(
         &self,

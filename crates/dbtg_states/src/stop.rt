@@ -4,7 +4,7 @@ ghost use Rattle.dbtg_states.specs.declared.stop.Stop.TheVariants.{Memory};
 
 use std::alloc::{AllocError, AllocFailed};
 
-/// Why there are no outcomes: memory was refused, or there are more states than allowed.
+/// Why a search has no results: memory was refused, or there are more states than allowed.
 #[derive(Drop)]
 pub enum Stop {
     Memory,
