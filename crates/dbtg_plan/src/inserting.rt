@@ -5,7 +5,6 @@ ghost use Rattle.dbtg_unit.specs.Database.Statements.Checks.{insert_checks};
 ghost use Rattle.dbtg_unit.specs.declared.statement.Statement.TheVariants.{Insert};
 ghost use Rattle.dbtg_unit.specs.Database.State.Base.{Database, key_item};
 ghost use Rattle.dbtg_unit.specs.Database.Statements.Checks.{refused_at_once};
-ghost use Rattle.dbtg_unit.specs.Hands.EditsOf.{slot_edit};
 ghost use Rattle.dbtg_unit.specs.Hands.InHand.{items_in, in_hand};
 ghost use Rattle.dbtg_unit.specs.Hands.Local.{Agrees};
 ghost use Rattle.dbtg_unit.specs.Hands.Locality.{IsMadeOnEach, made_by, seen};

@@ -13,7 +13,7 @@ ghost use Rattle.dbtg_unit.specs.Hands.InHand.{numbers_in, in_hand};
 ghost use Rattle.dbtg_unit.specs.Hands.Local.{Agrees};
 ghost use Rattle.dbtg_unit.specs.Hands.Locality.{IsMadeOnEach, made_by, seen};
 ghost use Rattle.dbtg_unit.specs.Hands.Making.{AreMade, CanFinish, CanMake, MayPrepare, ShowsTheSame};
-ghost use Rattle.dbtg_unit.specs.Hands.Needs.{cells_of, current_owner, first_missing, ring_names, store_rings, store_rings_of};
+ghost use Rattle.dbtg_unit.specs.Hands.Needs.{current_owner, first_missing, ring_names, store_rings, store_rings_of};
 ghost use Rattle.dbtg_unit.specs.Hands.PlanOf.{first_owners, joining_edits, slot_edit, store_edits, storing};
 ghost use Rattle.dbtg_unit.specs.Inside.PlanOf.{plan_of};
 ghost use Rattle.dbtg_plan.specs.Inside.Calc.{fresh_key};
