@@ -28,7 +28,7 @@ use dbtg_outcomes::Wish;
 use dbtg_replay::replay::{AnswerForm, check_count, replay};
 use dbtg_replay::{moves_for_turns, refusals_of_first};
 use dbtg_running::{
-    Printed, PrintedOnThreads, RunOptions, ScriptsOnThreads, check_programs, run,
+    Printed, PrintedOnThreads, PrintedScripts, RunOptions, check_programs, run,
     run_programs_on_threads, run_scripts_on_threads,
 };
 use dbtg_schema::Schema;
@@ -274,7 +274,7 @@ fn are_saved(rt: &HostRuntime, turns: &[u8], saved: Option<&str>) -> bool {
 }
 
 // The turns, and then what is printed.
-fn print_saved(rt: &HostRuntime, said: &ScriptsOnThreads, saved: Option<&str>) -> ExitCode {
+fn print_saved(rt: &HostRuntime, said: &PrintedScripts, saved: Option<&str>) -> ExitCode {
     if are_saved(rt, said.turns.as_slice(), saved) {
         print_text(rt, said.printed.as_slice(), ExitCode::SUCCESS)
     } else {

@@ -15,5 +15,5 @@ pub use check::check_programs;
 pub use command::{Printed, RunOptions, run, turns_wanted};
 pub use laws::a_printed_run_is_read_back;
 pub use programs::{Programs, read_programs};
-pub use scripts_on_threads::{ScriptsOnThreads, run_scripts_on_threads, threads_bytes};
+pub use scripts_on_threads::{PrintedScripts, run_scripts_on_threads, threads_bytes};
 pub use threads::{PrintedOnThreads, run_programs_on_threads};

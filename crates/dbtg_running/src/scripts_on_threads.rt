@@ -31,7 +31,7 @@ use std::thread::Threads;
 
 /// What is printed of a run of scripts on threads, and the text of turns that says whose statement drew which ticket.
 #[derive(Drop)]
-pub struct ScriptsOnThreads {
+pub struct PrintedScripts {
     pub printed: Vec<u8>,
     pub turns: Vec<u8>,
 }
@@ -82,7 +82,7 @@ fn said_of(
     shown: Shown,
     given: &Run,
     first: &[u8],
-) -> Result<Option<ScriptsOnThreads>, AllocError>
+) -> Result<Option<PrintedScripts>, AllocError>
     ensures printed { IfOk result (λ found. IfSome found (λ said. said.printed.items ≡ shown_text schema.now shown.entry.form shown.entry.texts.now given.now ++ audit_line)) }
     ensures turns { IfOk result (λ found. IfSome found (λ said. (behind : List ℕ) × (map (λ e. e.unit) given.now.history ≡ first.now ++ behind) × (said.turns.items ≡ turns_text behind))) }
 {
@@ -90,7 +90,7 @@ fn said_of(
     let Some(behind) = units.as_slice().strip_prefix(first) else {
         return Ok(None);
     };
-    Ok(Some(ScriptsOnThreads {
+    Ok(Some(PrintedScripts {
         printed: audited_text(alloc, schema, shown, given)?,
         turns: turns_text(alloc, behind)?,
     }))
@@ -201,7 +201,7 @@ fn threads_text<R: Threads + Wait + Sync>(
     scripts: &[Row<Statement>],
     shown: Shown,
     first: bool,
-) -> Result<ScriptsOnThreads, AllocError>
+) -> Result<PrintedScripts, AllocError>
     requires sound { IsSound schema.now }
     requires count { is_count (length scripts.now) ≡ true }
     requires fit { scripts_fit schema.now scripts.now ≡ true }
@@ -226,7 +226,7 @@ fn threads_known<R: Threads + Wait + Sync, S: Source>(
     capacity: u16,
     form: AnswerForm,
     first: bool,
-) -> Result<ScriptsOnThreads, Fault>
+) -> Result<PrintedScripts, Fault>
     requires counted { is_count (S.count source.now) ≡ true }
     requires read { ReadSchema (S.holds source.now) known.now }
     requires sound { IsSound known.now }
@@ -252,7 +252,7 @@ pub fn run_scripts_on_threads<R: Threads + Wait + Sync, S: Source>(
     capacity: u16,
     form: AnswerForm,
     first: bool,
-) -> Result<ScriptsOnThreads, Fault>
+) -> Result<PrintedScripts, Fault>
     ensures done { IfOk result (λ said. ThreadsHeld (S.holds source.now) (S.count source.now) first form capacity said.printed.items said.turns.items) }
     ensures refused { IfErr result (λ fault. ToldOfRun (S.holds source.now) (S.fails source.now) fault (S.count source.now) Serial) }
 {
