@@ -3,7 +3,8 @@
 changes: each old text occurs exactly once in the file, or in the function that is named. An edit that changes more than bodies of functions
 says in `refused: PATH` which of the functions that it changes has to be refused, as a check names it below the crate. An edit that
 tests/edits/NAMED lists and against which the prover finds no values names in `test: NAME` a test that fails with the edit in it. An edit
-that no contract can refuse says why in `unseen: WHY`, and names such a test too; it is not checked. `without: GOAL` names a goal of which the
+that no contract can refuse says why in `unseen: WHY`, and is not checked: a test sees it, at the line `fails: LINE`, within `timeout: SECONDS`;
+with `twin: TEXT` in place of the new text, which changes no meaning, it passes. `without: GOAL` names a goal of which the
 answer by hand does not fit the changed body: it is left out from the start, as are answers that the search finds by itself, since a second
 check would leave them out."""
 
@@ -62,13 +63,14 @@ class Edit:
     def __init__(self, path, sources):
         text = text_of(path)
         self.name = path.stem
-        self.refused, self.tests, self.unseen = (re.findall(rf"(?m)^{it}: (\S.*)$", text) for it in ("refused", "test", "unseen"))
-        self.pieces = list(pieces_of(text, sources))
+        said = (re.findall(rf"(?m)^{it}: (\S.*)$", text) for it in ("refused", "test", "unseen", "fails", "timeout"))
+        self.refused, self.tests, self.unseen, self.fails, self.timeout = said
+        self.pieces, self.twins = list(pieces_of(text, sources, "new")), list(pieces_of(text, sources, "twin"))
         inside = [next((it for it in sources.functions[file] if it.opens <= at and end <= it.end), None) for file, (at, end, _) in self.pieces]
         if not self.pieces or not self.unseen and (None in inside) != bool(self.refused):
             raise ValueError("it changes nothing, or does not name the function that has to be refused where, and only where, it changes more than bodies")
-        if self.unseen and not self.tests:
-            raise ValueError("no contract sees it, and it names no test")
+        if self.unseen and not (self.tests and self.fails and self.timeout and self.twins):
+            raise ValueError("no contract sees it, and it does not say by a test, its line, a time and a twin what does")
         names = {it: it.names(sources.declared) for it in inside if it}
         self.functions = list(names)
         judged = [it for it, (path, _) in names.items() if not self.refused or path in self.refused]
@@ -95,8 +97,8 @@ class Edit:
         return self.name.startswith("harmless")
 
 
-def pieces_of(text, sources):
-    """The pieces of an edit's text, in the order of its lines."""
+def pieces_of(text, sources, kind):
+    """The pieces of an edit's text, in the order of its lines, with the texts of the lines of this kind."""
     file = inside = old = None
     for word, rest in re.findall(r"(?m)^(\w+): ?(.*)$", text):
         if word == "file":
@@ -110,11 +112,10 @@ def pieces_of(text, sources):
             inside = found[0]
         elif word == "old":
             old = rest
-        elif word == "new":
+        elif word == kind:
             if not file or not old:
                 raise ValueError("a new text stands before any file or old text")
             yield file, (*sources.place(file, inside, old), rest)
-            old = None
 
 
 def in_rounds(edits):

@@ -17,15 +17,18 @@ class Ran:
     text: str
     seconds: float
     status: int
+    least: int = 1
 
     def counts(self):
-        """What a last line `.. N passed, M failed` counts; without one the command did not come to its end."""
+        """What a last line `.. N passed, M failed` counts. One that has no such line, counts too few or ends with another exit status than 0
+        without saying what failed has failed."""
         found = re.search(r"(\d+) passed, (\d+) failed\s*\Z", self.text)
-        return (int(found[1]), int(found[2])) if found else (0, 1)
+        passed, failed = (int(found[1]), int(found[2])) if found else (0, 1)
+        return passed, failed or int(self.status != 0 or passed < self.least)
 
 
-def ran(words, nice=0, name=None, hear=lambda line: None):
-    """Runs a command at the top of the repository, and has each line heard that it prints."""
+def ran(words, nice=0, name=None, hear=lambda line: None, least=1):
+    """Runs a command at the top of the repository, and has each line heard that it prints; it passes if it counts so much at least."""
     words, text = ["nice", "-n", str(nice), *words], ""
     with subprocess.Popen(words, cwd=kit.ROOT, stdin=subprocess.DEVNULL, stdout=subprocess.PIPE, stderr=subprocess.STDOUT, text=True, errors="replace") as process:
         for line in process.stdout:
@@ -33,7 +36,7 @@ def ran(words, nice=0, name=None, hear=lambda line: None):
             text += line
         _, status, used = os.wait4(process.pid, 0)
         process.returncode = os.waitstatus_to_exitcode(status)
-    return Ran(name or words[3], text, used.ru_utime + used.ru_stime, process.returncode)
+    return Ran(name or words[3], text, used.ru_utime + used.ru_stime, process.returncode, least)
 
 
 def run_tests(program=None, nice=0):
@@ -41,7 +44,7 @@ def run_tests(program=None, nice=0):
     lines = [line.split() for line in kit.text_of(f"{kit.ROOT}/tests/tests.list").splitlines() if line and not line.startswith("#")]
     tests = [[program if it == "PROGRAM" else it for it in words] for words in lines if ("PROGRAM" in words) == bool(program)]
     with ThreadPoolExecutor(len(os.sched_getaffinity(0)) if program else 1) as pool:
-        return list(pool.map(lambda it: ran(it, nice), tests))
+        return list(pool.map(lambda it: ran(it[1:], nice, least=int(it[0])), tests))
 
 
 def sum_up(done, *lines):
