@@ -43,7 +43,7 @@ pub static SCRIPT_FAULTS: &str = "\
 pub static PROGRAM_FAULTS: &str = "\
 21|unknown paragraph; it may stand further below|at the name after GO TO|Write the paragraph, or correct the spelling.
 22|a paragraph that stands in the text before|at the name|Rename one of the two.
-23|a word in a field's place that is a name, or has a period, and is no item and no counter|at the word|Declare the counter by 01 at the top, take an item of the schema as RECORD.ITEM, or correct the spelling.
+23|a name where a field is wanted, but neither an item of a record type nor a counter|at the word|Declare the counter by 01 at the top, take an item of the schema as RECORD.ITEM, or correct the spelling.
 24|a counter with the name of a counter before it or of a record type, or a word that is no name|at the name after 01|Take a name of 1 to 30 capital letters, digits and hyphens, a letter first, that no counter and no record type has.
 25|a number and a text compared or moved; a text added or subtracted, or a field of texts that is added to or subtracted from|at the second of the two, or at the text|Compare and move values of one kind, and count with numbers alone.
 26|01 after another sentence|at 01|Declare all counters at the top of the program.
@@ -51,12 +51,12 @@ pub static PROGRAM_FAULTS: &str = "\
 
 /// The faults of moves.
 pub static MOVES_FAULTS: &str = "\
-1|a word of another shape, or with a byte that is not one of these|at the word|Write u, u*k or Qu, with u from 1 to 99 and k from 1 to 1,000,000, without leading zeros.
+1|a word that is not u, u*k or Qu|at the word|Write u, u*k or Qu, with u from 1 to 99 and k from 1 to 1,000,000, without leading zeros.
 2|the word with which the total passes 1,000,000|at the word with which the total passes 1,000,000|Make fewer moves.";
 
 /// The faults of turns.
 pub static TURNS_FAULTS: &str = "\
-1|a word of another shape, a quit among them, or with a byte that is not one of these|at the word|Write u or u*k, with u from 1 to 99 and k from 1 to 1,000,000, without leading zeros.
+1|a word that is not u or u*k (a quit is not allowed here)|at the word|Write u or u*k, with u from 1 to 99 and k from 1 to 1,000,000, without leading zeros.
 2|the word with which the total passes 1,000,000|at the word with which the total passes 1,000,000|Take fewer turns.";
 
 /// The faults that traces have in addition to those of scripts.
