@@ -47,7 +47,7 @@ pub const ANSWERS: Word = Word::Flag(
 
 pub const BRIEF: Word = Word::Flag(
     "brief",
-    "Shows what differs from the first of each further result, or which one it is like but for numbers [default: all of it]",
+    "Prints each further result as a difference from the first [default: whole]",
 );
 
 pub const CAPACITY: Word = Word::NumberOption(
@@ -76,34 +76,34 @@ pub const EXPLAIN: Word = Word::Flag(
 /// Where an echo can be explained too.
 pub const EXPLAIN_ECHO: Word = Word::Flag(
     "explain",
-    "Also says where a fault is and what is wrong [default: on a terminal]; with --echo also what is in the way of a refused statement",
+    "Also says where a fault is and what is wrong [default: on a terminal]; with --echo also the reason for each refusal",
 );
 
 /// The same for a picture.
 pub const EXPLAIN_PICTURE: Word = Word::Flag(
     "explain",
-    "Tells also where a fault is and what is wrong [default: on a terminal], and what is in the way of a refusal",
+    "Also says where a fault is and what is wrong [default: on a terminal], and the reason for each refusal",
 );
 
 pub const FIRST: Word = Word::FileOption(
     "first",
-    "A script made whole before the others, by the last unit [default: none]",
+    "A script that runs before the others, by the last unit [default: none]",
 );
 
 pub const FIRST_PROGRAM: Word = Word::FileOption(
     "first",
-    "A program that runs to its end before the others, by the unit after theirs [default: none]",
+    "A program that runs before the others, by the unit after theirs [default: none]",
 );
 
 pub const LAST: Word = Word::FileOption(
     "then",
-    "A program that runs to its end after all others have ended, by the last unit [default: none]",
+    "A program that runs when all others have ended, by the last unit [default: none]",
 );
 
 pub const LIMIT: Word = Word::NumberOption(
     "limit",
     "5000000",
-    "States to allow, 1 to 1000000000; as many as the default take about 1 GB",
+    "How many states to search at most, 1 to 1000000000; the default takes about 1 GB",
 );
 
 pub const MOVES: Word = Word::FileOption(
@@ -198,12 +198,12 @@ pub const TRACE_OR_ECHO: Word = Word::FlagWithout(
 /// Turns for a command that takes no moves.
 pub const TURNS: Word = Word::FileOption(
     "turns",
-    "The turns: whose statement is next; - for standard input [default: program after program]",
+    "A file of turns: which unit makes the next statement; - for standard input [default: program after program]",
 );
 
 pub const TURNS_BEFORE: Word = Word::FileOption(
     "turns",
-    "The file of the turns to go on from; - for standard input [default: none]",
+    "A file of turns to make before the search; - for standard input [default: none]",
 );
 
 pub const TURNS_FILE: Word = Word::File(
@@ -215,7 +215,7 @@ pub const TURNS_FILE: Word = Word::File(
 pub const TURNS_OR_MOVES: Word = Word::FileOptionWithout(
     "turns",
     "moves",
-    "The turns: whose statement is next; - for standard input; not with --moves",
+    "A file of turns: which unit makes the next statement; - for standard input; not with --moves",
 );
 
 pub const UNITS: Word = Word::NumberOption("units", "2", "How many units there are, 1 to 8");

@@ -90,7 +90,7 @@ fn replay_command<'a>(alloc: Global, name: &'a str) -> Result<Command<'a>, Alloc
     described(
         alloc,
         name,
-        "Runs scripts, and prints the answers, the database and the units",
+        "Runs scripts in one order, and prints the answers, the database and the units",
         "Example: dbtg replay --capacity 10 --moves shop.moves shop.schema unit1.script unit2.script",
         &[
             CAPACITY,
@@ -114,7 +114,7 @@ fn turns_command<'a>(alloc: Global, name: &'a str) -> Result<Command<'a>, AllocE
     described(
         alloc,
         name,
-        "Prints the moves that turns stand for, as a file of moves",
+        "Converts a file of turns into a file of moves",
         "Example: dbtg turns a.turns shop.schema unit1.script unit2.script",
         &[CAPACITY, EXPLAIN, NO_EXPLAIN, TURNS_FILE, SCHEMA, SCRIPTS],
     )
@@ -172,7 +172,7 @@ fn outcomes_command<'a>(alloc: Global, name: &'a str) -> Result<Command<'a>, All
     described(
         alloc,
         name,
-        "Prints all that can come out when scripts meet, each with an order that shows it",
+        "Runs scripts in every interleaving: lists each result, with an order that leads to it",
         "Example: dbtg outcomes shop.schema unit1.script unit2.script\nWith a small --capacity it is several times as fast, and takes less memory",
         &[
             CAPACITY, FIRST, LIMIT, ANSWERS, BRIEF, NEVER, ALWAYS, EXPLAIN, NO_EXPLAIN, SCHEMA,
@@ -210,7 +210,7 @@ fn audit_command<'a>(alloc: Global, name: &'a str) -> Result<Command<'a>, AllocE
     described(
         alloc,
         name,
-        "Says whether the answers of a trace are those of this database, and what it leads to",
+        "Compares the answers of a trace with those of this database, and prints what it leads to",
         "Example: dbtg audit --units 2 shop.schema shop.trace",
         &[
             CAPACITY, FIRST, UNITS, STATUS, ALL_LINES, EXPLAIN, NO_EXPLAIN, SCHEMA, TRACE_FILE,
@@ -225,7 +225,7 @@ fn run_command<'a>(alloc: Global, name: &'a str) -> Result<Command<'a>, AllocErr
     described(
         alloc,
         name,
-        "Runs programs, and prints the answers, the database, the units and how each program ended",
+        "Runs programs in one order, and prints the answers, the database, the units and how each program ended",
         "Example: dbtg run --turns shop.turns shop.schema clerk1.program clerk2.program",
         &[
             CAPACITY,
@@ -251,8 +251,8 @@ fn explore_command<'a>(alloc: Global, name: &'a str) -> Result<Command<'a>, Allo
     described(
         alloc,
         name,
-        "Lists all that can come out when programs meet, how they fail, and whether they can go on for ever",
-        "Example: dbtg explore --first load.program shop.schema clerk1.program clerk2.program\nThe turns of a result are those for 'dbtg run' with the same --first and --then; status 4 if a program can fail",
+        "Runs programs in every interleaving: lists results, failed checks and endless loops",
+        "Example: dbtg explore --first load.program shop.schema clerk1.program clerk2.program\n'dbtg run --turns', with the same --first and --then, repeats the turns of a result. The exit status is 4 if a program can fail",
         &[
             CAPACITY,
             FIRST_PROGRAM,
@@ -382,12 +382,12 @@ pub fn command<'a>(alloc: Global) -> Result<Command<'a>, AllocError>
     let mut command = Command::new(alloc, "dbtg")
         .version("0.1.0")
         .about(
-            "A CODASYL network database: reads its schema, and runs the scripts of its run-units",
+            "A CODASYL network database: runs the programs of its run-units, in one order or in every order",
         )
         .propagate_version(true)
         .subcommand_required(true)
         .arg_required_else_help(true)
-        .after_help("Example: dbtg replay card.schema unit1.script");
+        .after_help("Example: dbtg explore --first load.program inventory.schema one.program two.program");
     for named in &ALL {
         command = command.subcommand(command_of(alloc, *named, name_of(*named))?)?;
     }
