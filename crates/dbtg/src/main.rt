@@ -44,7 +44,7 @@ use std::sync::Wait;
 use std::thread::Threads;
 use timeline::{Form, timeline};
 
-/// The exit status if a program ended by ASSERT, SIZE or ASTRAY, or can end by one.
+/// The exit status if a program ended by ASSERT, SIZE or ASTRAY, or can end by one, or if programs can go on for ever.
 const PROGRAM_FAILED: u8 = 4;
 
 /// The exit status of a program whose reader has gone away: the one with which a shell reports that SIGPIPE ended it.

@@ -252,7 +252,7 @@ fn explore_command<'a>(alloc: Global, name: &'a str) -> Result<Command<'a>, Allo
         alloc,
         name,
         "Lists all that can come out when programs meet, how they fail, and whether they can go on for ever",
-        "Example: dbtg explore --first load.program shop.schema clerk1.program clerk2.program\nThe turns of a result are those for 'dbtg run' with the same --first and --then; status 4 if a program can fail",
+        "Example: dbtg explore --first load.program shop.schema clerk1.program clerk2.program\nThe turns of a result are those for 'dbtg run' with the same --first and --then; status 4 if a program can fail or they can go on for ever",
         &[
             CAPACITY,
             FIRST_PROGRAM,
