@@ -1,9 +1,10 @@
 //! The program: reads the command's words and the files that they name, and prints the result.
 #![tactic(auto)]
 
-ghost use Rattle.std.specs.Prelude.{◌≡◌, ◌<◌, IfErr, true};
+ghost use Rattle.std.specs.Prelude.{◌≡◌, ◌+◌, ◌<◌, IfErr, length, true};
 ghost use Rattle.std.specs.Process.{exit_status};
 ghost use Rattle.dbtg_schema.specs.Sound.{IsSound};
+ghost use Rattle.dbtg_audit.specs.Reported.{loading_units};
 ghost use Rattle.dbtg_command.specs.Refusals.{is_count, status_of};
 ghost use Rattle.dbtg_command.specs.Sources.{kind_of};
 ghost use Rattle.dbtg_command.specs.declared.order.OrderKind.TheVariants.{Serial};
@@ -18,7 +19,7 @@ use dbtg_command::check::check;
 use dbtg_command::draw::draw;
 use dbtg_command::reason::reason;
 use dbtg_command::{
-    Call, Fault, Files, Named, Order, Paths, Wished, call_of, each_fault, read_schema, status_of,
+    Call, Fault, Files, Named, Order, Paths, Source, Wished, call_of, each_fault, read_schema, status_of,
 };
 use dbtg_explain::{Topic, explained, status_topic};
 use dbtg_exploring::{Exploring, explore_programs};
@@ -378,14 +379,15 @@ fn print_turns(rt: &HostRuntime, call: &Call) -> ExitCode {
 }
 
 fn print_audit(rt: &HostRuntime, files: &Files<HostRuntime>, call: &Call) -> ExitCode {
-    match check_count(call.units as usize) {
+    let loading_units = if 2 <= files.count() { 1 } else { 0 };
+    match check_count(call.units as usize + loading_units) {
         Ok(()) => audit_files(rt, files, call),
         Err(fault) => told(rt, &fault),
     }
 }
 
 fn audit_files(rt: &HostRuntime, files: &Files<HostRuntime>, call: &Call) -> ExitCode
-    requires { is_count call.now.units ≡ true }
+    requires { is_count (call.now.units + loading_units (length files.now.paths.now.scripts.now)) ≡ true }
 {
     let options = AuditOptions {
         capacity: call.capacity,

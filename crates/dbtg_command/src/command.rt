@@ -9,8 +9,8 @@ use crate::arguments::{
     ALL_FAULTS, ALL_LINES, ALWAYS, ANSWERS, BRIEF, CAPACITY, CHECKED_SCRIPTS, ECHO, EXPLAIN,
     EXPLAIN_ECHO, EXPLAIN_PICTURE, FIRST, FIRST_PROGRAM, LAST, LIMIT, MOVES, NEVER, NO_EXPLAIN,
     ON_THREADS, PROGRAM_FILES, PROGRAMS, SAVE_TURNS, SCHEMA, SCHEMA_ALONE, SCRIPTS,
-    SCRIPTS_ON_THREADS, STATUS, SVG, TOPIC, TRACE, TRACE_FILE, TRACE_OR_ECHO, TURNS, TURNS_BEFORE,
-    TURNS_FILE, TURNS_OR_MOVES, UNITS, Word, arg_of,
+    SCRIPTS_ON_THREADS, STATUS, SVG, TOPIC, TRACE, TRACE_FILE, TRACE_OR_ECHO, TRACE_UNITS, TURNS,
+    TURNS_BEFORE, TURNS_FILE, TURNS_OR_MOVES, UNITS, Word, arg_of,
 };
 use clap::error::ErrorKind;
 use clap::{Command, Error};
@@ -213,7 +213,15 @@ fn audit_command<'a>(alloc: Global, name: &'a str) -> Result<Command<'a>, AllocE
         "Says whether the answers of a trace are those of this database, and what it leads to",
         "Example: dbtg audit --units 2 shop.schema shop.trace",
         &[
-            CAPACITY, FIRST, UNITS, STATUS, ALL_LINES, EXPLAIN, NO_EXPLAIN, SCHEMA, TRACE_FILE,
+            CAPACITY,
+            FIRST,
+            TRACE_UNITS,
+            STATUS,
+            ALL_LINES,
+            EXPLAIN,
+            NO_EXPLAIN,
+            SCHEMA,
+            TRACE_FILE,
         ],
     )
 }
