@@ -19,7 +19,8 @@ use dbtg_command::check::check;
 use dbtg_command::draw::draw;
 use dbtg_command::reason::reason;
 use dbtg_command::{
-    Call, Fault, Files, Named, Order, Paths, Source, Wished, call_of, each_fault, read_schema, status_of,
+    Call, Fault, Files, Named, Order, Paths, Source, Wished, call_of, each_fault, read_schema,
+    status_of,
 };
 use dbtg_explain::{Topic, explained, status_topic};
 use dbtg_exploring::{Exploring, explore_programs};
