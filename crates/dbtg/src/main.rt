@@ -1,9 +1,10 @@
 //! The program: reads the command's words and the files that they name, and prints the result.
 #![tactic(auto)]
 
-ghost use Rattle.std.specs.Prelude.{◌≡◌, ◌<◌, IfErr, true};
+ghost use Rattle.std.specs.Prelude.{◌≡◌, ◌+◌, ◌<◌, IfErr, length, true};
 ghost use Rattle.std.specs.Process.{exit_status};
 ghost use Rattle.dbtg_schema.specs.Sound.{IsSound};
+ghost use Rattle.dbtg_audit.specs.Reported.{loading_units};
 ghost use Rattle.dbtg_command.specs.Refusals.{is_count, status_of};
 ghost use Rattle.dbtg_command.specs.Sources.{kind_of};
 ghost use Rattle.dbtg_command.specs.declared.order.OrderKind.TheVariants.{Serial};
@@ -18,7 +19,8 @@ use dbtg_command::check::check;
 use dbtg_command::draw::draw;
 use dbtg_command::reason::reason;
 use dbtg_command::{
-    Call, Fault, Files, Named, Order, Paths, Wished, call_of, each_fault, read_schema, status_of,
+    Call, Fault, Files, Named, Order, Paths, Source, Wished, call_of, each_fault, read_schema,
+    status_of,
 };
 use dbtg_explain::{Topic, explained, status_topic};
 use dbtg_exploring::{Exploring, explore_programs};
@@ -44,7 +46,7 @@ use std::sync::Wait;
 use std::thread::Threads;
 use timeline::{Form, timeline};
 
-/// The exit status if a program ended by ASSERT, SIZE or ASTRAY, or can end by one.
+/// The exit status if a program ended by ASSERT, SIZE or ASTRAY, or can end by one, or if programs can go on for ever.
 const PROGRAM_FAILED: u8 = 4;
 
 /// The exit status of a program whose reader has gone away: the one with which a shell reports that SIGPIPE ended it.
@@ -83,9 +85,10 @@ fn not_written(rt: &HostRuntime, error: &io::Error) -> ExitCode {
     ExitCode::FAILURE
 }
 
-// Does a fault have a second line? On a terminal it has one without being asked.
-fn explains(rt: &HostRuntime, call: &Call) -> bool {
-    !call.no_explain && (call.explains || rt.stderr().is_terminal())
+// Does a fault have a second line? On a terminal it has one without being asked, and in the shell always.
+fn explains_faults(rt: &HostRuntime, call: &Call) -> bool {
+    let unasked = matches!(call.named, Named::Shell) || rt.stderr().is_terminal();
+    !call.no_explain && (call.explains || unasked)
 }
 
 // The text that a command prints, or its fault; a second line says where and why, if it is wanted.
@@ -93,21 +96,21 @@ fn print_or_tell(
     rt: &HostRuntime,
     given: Result<Vec<u8>, Fault>,
     paths: &Paths,
-    explains: bool,
+    call: &Call,
 ) -> ExitCode
     ensures { IfErr given (λ fault. exit_status result ≡ status_of fault) }
 {
     match given {
         Ok(text) => print_text(rt, text.as_slice(), ExitCode::SUCCESS),
-        Err(fault) => told_of(rt, &fault, paths, explains),
+        Err(fault) => told_of(rt, &fault, paths, call),
     }
 }
 
-fn told_of(rt: &HostRuntime, fault: &Fault, paths: &Paths, explains: bool) -> ExitCode
+fn told_of(rt: &HostRuntime, fault: &Fault, paths: &Paths, call: &Call) -> ExitCode
     ensures { exit_status result ≡ status_of fault.now }
 {
     let status = told(rt, fault);
-    if explains {
+    if explains_faults(rt, call) {
         let files = Files { reader: rt, paths };
         if let Ok(Some(line)) = reason(rt.alloc(), &files, fault) {
             let _ = eprintln!(rt; "{line}");
@@ -173,10 +176,10 @@ fn tell_each(rt: &HostRuntime, files: &Files<HostRuntime>, call: &Call) -> ExitC
         Ok(faults) => {
             if faults.is_empty() {
                 let given = check_files(rt.alloc(), files, call.programs);
-                return print_or_tell(rt, given, files.paths, explains(rt, call));
+                return print_or_tell(rt, given, files.paths, call);
             }
             for fault in faults.as_slice() {
-                told_of(rt, fault, files.paths, explains(rt, call));
+                told_of(rt, fault, files.paths, call);
             }
             ExitCode::FAILURE
         }
@@ -201,7 +204,7 @@ fn print_run(
 ) -> ExitCode {
     match given {
         Ok(text) => print_ran(rt, text.as_slice(), ExitCode::SUCCESS, files, call),
-        Err(fault) => told_of(rt, &fault, files.paths, explains(rt, call)),
+        Err(fault) => told_of(rt, &fault, files.paths, call),
     }
 }
 
@@ -258,7 +261,7 @@ fn print_threads<R: Threads + Wait + Sync>(
             Ok(()) => print_saved(rt, &said, call.saved),
             Err(fault) => told(rt, &fault),
         },
-        Err(fault) => told_of(rt, &fault, files.paths, explains(rt, call)),
+        Err(fault) => told_of(rt, &fault, files.paths, call),
     }
 }
 
@@ -310,7 +313,7 @@ fn print_programs<R: Threads + Wait + Sync>(
     }
     match run_programs_on_threads(threads, rt.alloc(), files, options) {
         Ok(said) => print_programs_saved(rt, &said, call.saved),
-        Err(fault) => told_of(rt, &fault, files.paths, call.explains),
+        Err(fault) => told_of(rt, &fault, files.paths, call),
     }
 }
 
@@ -350,7 +353,7 @@ fn print_said(
 ) -> ExitCode {
     match said {
         Ok(said) => print_text(rt, said.text.as_slice(), status_of_programs(&said)),
-        Err(fault) => told_of(rt, &fault, paths, call.explains),
+        Err(fault) => told_of(rt, &fault, paths, call),
     }
 }
 
@@ -373,18 +376,19 @@ fn print_turns(rt: &HostRuntime, call: &Call) -> ExitCode {
         paths: &paths,
     };
     let given = moves_for_turns(rt.alloc(), &files, call.capacity);
-    print_or_tell(rt, given, &paths, explains(rt, call))
+    print_or_tell(rt, given, &paths, call)
 }
 
 fn print_audit(rt: &HostRuntime, files: &Files<HostRuntime>, call: &Call) -> ExitCode {
-    match check_count(call.units as usize) {
+    let loading_units = if 2 <= files.count() { 1 } else { 0 };
+    match check_count(call.units as usize + loading_units) {
         Ok(()) => audit_files(rt, files, call),
         Err(fault) => told(rt, &fault),
     }
 }
 
 fn audit_files(rt: &HostRuntime, files: &Files<HostRuntime>, call: &Call) -> ExitCode
-    requires { is_count call.now.units ≡ true }
+    requires { is_count (call.now.units + loading_units (length files.now.paths.now.scripts.now)) ≡ true }
 {
     let options = AuditOptions {
         capacity: call.capacity,
@@ -394,10 +398,10 @@ fn audit_files(rt: &HostRuntime, files: &Files<HostRuntime>, call: &Call) -> Exi
     };
     match audit(rt.alloc(), files, options) {
         Ok(said) => match tell_refusals(rt, files, call) {
-            Ok(()) => print_verdict(rt, &said, call.explains),
+            Ok(()) => print_verdict(rt, &said, explains_refusals(call)),
             Err(fault) => told(rt, &fault),
         },
-        Err(fault) => told_of(rt, &fault, files.paths, call.explains),
+        Err(fault) => told_of(rt, &fault, files.paths, call),
     }
 }
 
@@ -501,7 +505,7 @@ fn tell_judged(
             )
         }
         Ok(Judged::NoStatement) => no_statement(rt, wished),
-        Err(fault) => told_of(rt, &fault, files.paths, explains(rt, call)),
+        Err(fault) => told_of(rt, &fault, files.paths, call),
     }
 }
 
@@ -546,7 +550,7 @@ fn carry_out<R: Threads + Wait + Sync>(rt: &HostRuntime, threads: &R, call: &Cal
 fn open_shell(rt: &HostRuntime, files: &Files<HostRuntime>, call: &Call) -> ExitCode {
     match read_schema(rt.alloc(), files) {
         Ok(known) => { open_units(rt, &known, call) }
-        Err(fault) => told_of(rt, &fault, files.paths, true),
+        Err(fault) => told_of(rt, &fault, files.paths, call),
     }
 }
 

@@ -1,7 +1,7 @@
 -- What `audit` prints of a schema and a trace that a source gives, and which fault it reports.
 -- lists is the schema that a text says; statuses says that only these are compared. A second text beside the schema is a script that is
 -- made first; count is how many texts there are beside the schema.
-use Rattle.std.specs.Prelude.{ℕ, ◌≡◌, ◌⊎◌, Bool, true, false, List, [], ◌∷◌, ◌++◌, Option, Some, None, codes, nat_le}
+use Rattle.std.specs.Prelude.{ℕ, ◌≡◌, ◌⊎◌, Bool, true, false, List, [], ◌∷◌, ◌++◌, Option, Some, None, codes, nat_le, if◌then◌else◌}
 use Rattle.dbtg_schema.specs.Lists.{Lists}
 use Rattle.dbtg_unit.specs.declared.statement.Statement.{Statement}
 use Rattle.dbtg_unit.specs.Database.Statements.Codes.{status_code}
@@ -32,6 +32,10 @@ equal_text lists given =
 abbrev pub IsLoad : (TextPlace → List ℕ → Type 0) → Lists → Bool → Option (List Statement) → Type 0
 IsLoad holds lists false load = load ≡ None
 IsLoad holds lists true load = (text : List ℕ) × holds (Script 2) text × (script_refusal lists text ≡ None) × (load ≡ Some (script lists text))
+
+-- how many units beside those of the trace: one, for the script that is made first, if there is one
+abbrev pub loading_units : ℕ → ℕ
+loading_units count = if nat_le 2 count then 1 else 0
 
 -- a schema, a trace of these units, and a script if there is one, which are held and accepted
 pub record TextsOfAudit (holds : TextPlace → List ℕ → Type 0) (count units : ℕ) : Type 0 where

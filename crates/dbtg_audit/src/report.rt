@@ -1,15 +1,16 @@
 //! The command `audit`: the schema and the trace that a source gives, audited, and the text of the result.
-ghost use Rattle.std.specs.Prelude.{ℕ, ◌≡◌, ◌++◌, ◌∷◌, ◌<◌, [], Bool, List, IfErr, IfOk, IfSome, nat_le, true};
+ghost use Rattle.std.specs.Prelude.{ℕ, ◌≡◌, ◌+◌, ◌++◌, ◌∷◌, ◌<◌, [], Bool, List, IfErr, IfOk, IfSome, nat_le, true};
 ghost use Rattle.std.specs.List.{list_all};
 ghost use Rattle.dbtg_schema.specs.Sound.{IsSound};
 ghost use Rattle.dbtg_unit.specs.declared.unit.Entry.{Entry};
 ghost use Rattle.dbtg_unit.specs.Database.Statements.Codes.{status_code};
 ghost use Rattle.dbtg_unit.specs.Database.Statements.Fits.{fits};
+ghost use Rattle.dbtg_command.specs.Refusals.{is_count};
 ghost use Rattle.dbtg_command.specs.Sources.{ReadSchema};
 ghost use Rattle.dbtg_audit.specs.Auditing.{IsAllAudited, IsAudited};
 ghost use Rattle.dbtg_audit.specs.declared.auditing.Recorded.{Recorded as SeenRecorded};
 ghost use Rattle.dbtg_trace.specs.Parts.{is_unit};
-ghost use Rattle.dbtg_audit.specs.Reported.{AuditHeld, IsFirstVerdict, IsListedVerdict, IsLoad, IsVerdict, ToldOfAudit, ToldOfLoad, ToldOfRecorded, equal_text};
+ghost use Rattle.dbtg_audit.specs.Reported.{AuditHeld, IsFirstVerdict, IsListedVerdict, IsLoad, IsVerdict, ToldOfAudit, ToldOfLoad, ToldOfRecorded, equal_text, loading_units};
 ghost use Rattle.dbtg_audit.specs.Telling.{difference_text};
 
 use crate::auditing::{AllAudited, Audited, Difference, Recorded, audit_every_line, audit_trace};
@@ -175,9 +176,9 @@ fn audit_known<S: Source>(
 }
 
 /// What `audit` prints of the schema and the trace that a source gives, or the first fault. A second script of the source is made
-/// first, by a unit after those of the trace. With statuses only, keys and items are not compared.
+/// first, by a unit after those of the trace, and there are 1 to 8 units in all. With statuses only, keys and items are not compared.
 pub fn audit<S: Source>(alloc: Global, source: &S, options: AuditOptions) -> Result<Verdict, Fault>
-    requires few { options.units < LAST_UNIT }
+    requires counted { is_count (options.units + loading_units (S.count source.now)) ≡ true }
     ensures done { IfOk result (λ said. AuditHeld (S.holds source.now) (S.count source.now) options said) }
     ensures refused { IfErr result (λ fault. ToldOfAudit (S.holds source.now) (S.fails source.now) fault options.units (S.count source.now)) }
 {

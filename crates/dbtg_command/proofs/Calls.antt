@@ -12,5 +12,5 @@ use Rattle.dbtg_command.specs.Inside.Commands.{IsCallIn}
 pub called : {E : Type 0} → (words : List (List ℕ)) (app : App) (matches : ArgMatches) (given : Result Call E) → app ≡ program → HasMatchesOf app words matches → IfOk given (IsCallIn matches) → IfOk given (IsCallOf words)
 called words app matches (Ok call) same are is =
     let those : HasMatchesOf program words matches = subst (λ (a : App). HasMatchesOf a words matches) same are in
-    record { found = found_of is.given; met = sym (those program_is_simple).1 ∙ is.met; is_call = is.is_call }
+    record { found = found_of is.given; met = sym (those program_is_simple).1 ∙ is.met; is_call = is.is_call; unit_left = is.unit_left }
 called words app matches (Err e) same are is = tt

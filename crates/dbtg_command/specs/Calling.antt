@@ -1,5 +1,5 @@
 -- What the words of the command ask for, from what `clap` finds in them.
-use Rattle.std.specs.Prelude.{ℕ, ◌≡◌, ◌++◌, Bool, true, false, List, [], Option, Some, None, codes, is_some, map, option_map, option_to_list, unwrap_or}
+use Rattle.std.specs.Prelude.{ℕ, ◌≡◌, ◌<◌, ◌++◌, Bool, true, false, List, [], Option, Some, None, codes, is_some, map, option_map, option_to_list, unwrap_or}
 use Rattle.clap.specs.Matches.{first_value, matched_of, one_text, raw_values}
 use Rattle.clap.specs.Simple.{subcommand_of}
 use Rattle.clap.specs.Walk.{rows_of}
@@ -7,6 +7,7 @@ use Rattle.clap.specs.declared.parser.matches.Found.{Found}
 use Rattle.dbtg_explain.specs.Explaining.{IsAsked}
 use Rattle.dbtg_command.specs.declared.call.Call.{Call}
 use Rattle.dbtg_command.specs.declared.command.Named.{Named}
+use Rattle.dbtg_command.specs.declared.command.Named.TheVariants.{Audit}
 use Rattle.dbtg_command.specs.declared.limits.TheConstants.{MOST_UNITS}
 use Rattle.dbtg_command.specs.declared.order.Order.{Order}
 use Rattle.dbtg_command.specs.declared.order.Order.TheVariants as by
@@ -75,8 +76,13 @@ pub record IsCall (asked : Named) (found : Found) (call : Call) : Type 0 where
   pub scripts : map (λ path. path.now) call.scripts.items ≡ scripts_in found
   pub topic : IsAsked (words_in found (codes "topic")) (Some call.topic)
 
+-- an audit leaves one of the units of a run to the script that is made first
+abbrev pub LeavesUnit : Call → Type 0
+LeavesUnit call = call.named ≡ Audit → call.first ≡ true → call.units < MOST_UNITS
+
 -- the call is that of the command which the words name, and has what `clap` finds for it in the words
 pub record IsCallOf (words : List (List ℕ)) (call : Call) : Type 0 where
   pub found : Found
   pub met : subcommand_of program words ≡ Some (name_of call.named, rows_of found)
   pub is_call : IsCall call.named found call
+  pub unit_left : LeavesUnit call

@@ -1,6 +1,6 @@
 -- The second line of a fault: its place, and what is said of it. `has` says that reading this many bytes of a path gave a text, `lacks`
 -- that it gave none, as the reader of files says it; for this line files are read again, and standard input is not.
-use Rattle.std.specs.Prelude.{ℕ, ◌≡◌, ◌==◌, ◌||◌, not, Bool, false, List, [], ◌++◌, ◌⊎◌, Some, None, codes, decimal, drop, is_some, length, slice_get, string_bytes, take_while, unwrap_or, ◌-◌, if◌then◌else◌, Option, nat_lt}
+use Rattle.std.specs.Prelude.{ℕ, ◌≡◌, ◌==◌, ◌||◌, not, Bool, false, List, [], ◌++◌, ◌⊎◌, Some, None, codes, decimal, drop, is_some, length, slice_get, string_bytes, take_while, unwrap_or, ◌-◌, if◌then◌else◌, Option}
 use Rattle.std.specs.Char.{is_ascii_alphabetic, is_ascii_whitespace}
 use Rattle.std.specs.List.{prefix_len}
 use Rattle.std.specs.Str.{bytes_eq}
@@ -115,14 +115,10 @@ IsToldIn which Says Other path line number out =
 abbrev pub IsToldOfOrder : Kind → List ℕ → ℕ → ℕ → List ℕ → Type 0
 IsToldOfOrder which path word number out = out ≡ told_at (place_of path (codes ": word ") word) [] (fault_field which number 1) []
 
--- the kind of text that has a fault with this number: programs and traces have those of scripts too
-abbrev pub kind_with : ℕ → Kind
-kind_with number = if nat_lt number 21 then kind.Script else (if nat_lt number 31 then kind.Program else kind.Trace)
-
 -- this is said of a fault in a line of a program, given what `Says` allows for a word
 abbrev pub IsToldOfProgram : (List ℕ → Type 0) → List ℕ → ℕ → ℕ → List ℕ → Type 0
 IsToldOfProgram Says path line number out =
-    (said : List ℕ) × Says said × (out ≡ told_at (place_of path (codes ":") line) said (fault_field (kind_with number) number 1) [])
+    (said : List ℕ) × Says said × (out ≡ told_at (place_of path (codes ":") line) said (fault_field kind.Program number 1) [])
 
 -- why a line of a trace names none of the units
 abbrev pub no_unit : List ℕ → List ℕ
@@ -143,7 +139,7 @@ SaysOfTrace has lacks path line number said =
 -- this is said of a fault in a line of a trace, given what `Says` allows for the line
 abbrev pub IsToldOfTrace : (List ℕ → Type 0) → List ℕ → ℕ → ℕ → List ℕ → Type 0
 IsToldOfTrace Says path line number out =
-    (said : List ℕ) × Says said × (out ≡ told_at (place_of path (codes ":") line) said (fault_field (kind_with number) number 1) [])
+    (said : List ℕ) × Says said × (out ≡ told_at (place_of path (codes ":") line) said (fault_field kind.Trace number 1) [])
 
 -- a file that could not be read is named with its path, and the reason
 abbrev pub IsUnreadLine : List ℕ → List ℕ → Type 0

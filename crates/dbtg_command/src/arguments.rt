@@ -218,6 +218,12 @@ pub const TURNS_OR_MOVES: Word = Word::FileOptionWithout(
     "A file of turns: which unit makes the next statement; - for standard input; not with --moves",
 );
 
+pub const TRACE_UNITS: Word = Word::NumberOption(
+    "units",
+    "2",
+    "How many units the trace has, 1 to 8; with --first 1 to 7",
+);
+
 pub const UNITS: Word = Word::NumberOption("units", "2", "How many units there are, 1 to 8");
 
 // The placeholders for the two words of a wish.

@@ -1,8 +1,8 @@
 //! What the words of the command ask for, from what `clap` finds in them.
-ghost use Rattle.std.specs.Prelude.{◌≡◌, ◌++◌, ◌≤◌, IfOk, IfSome, OnOk, codes, map, option_map, option_to_list, string_bytes, Some};
+ghost use Rattle.std.specs.Prelude.{◌≡◌, ◌++◌, ◌≤◌, IfNone, IfOk, IfSome, OnOk, codes, false, map, option_map, option_to_list, string_bytes, Some};
 ghost use Rattle.clap.specs.Matches.{first_value, found_of};
 ghost use Rattle.dbtg_explain.specs.Explaining.{IsAsked};
-ghost use Rattle.dbtg_command.specs.Calling.{IsCall, IsCallOf, count_for, order_in, scripts_in, words_in};
+ghost use Rattle.dbtg_command.specs.Calling.{IsCall, IsCallOf, LeavesUnit, count_for, order_in, scripts_in, words_in};
 ghost use Rattle.dbtg_command.specs.Capacity.{count_in};
 ghost use Rattle.dbtg_command.specs.Commands.{name_of};
 ghost use Rattle.dbtg_command.specs.Sources.{order_map};
@@ -260,8 +260,17 @@ fn reads_again(call: &Call) -> bool {
         && (is_input(call.schema) || call.scripts.iter().any(|path| is_input(*path)))
 }
 
+// Has a trace all units of a run, so that none is left for the script that is made first?
+fn leaves_no_unit(call: &Call) -> bool
+    ensures { result ≡ false → LeavesUnit call.now }
+{
+    matches!(call.named, Named::Audit) && call.first && call.units as usize >= MOST_UNITS
+}
+
 // What is wrong with the paths, or with words that need others, if anything is.
-fn misused_input(call: &Call) -> Option<&'static str> {
+fn misused_input(call: &Call) -> Option<&'static str>
+    ensures { IfNone result (LeavesUnit call.now) }
+{
     if reads_twice(call) {
         Some("the argument '-' cannot be used twice: standard input is one file")
     } else if reads_again(call) {
@@ -274,6 +283,10 @@ fn misused_input(call: &Call) -> Option<&'static str> {
         Some(
             "the argument '--save-turns <FILE>' cannot be used without '--threads': the turns are those of threads",
         )
+    } else if leaves_no_unit(call) {
+        Some(
+            "the argument '--first <FILE>' wants '--units <N>' of at most 7: a run has at most 8 units, and one makes the script of FILE",
+        )
     } else if matches!(call.named, Named::Shell) && is_input(call.schema) {
         Some("the argument '-' cannot be used: the shell reads statements from standard input")
     } else {
@@ -283,7 +296,8 @@ fn misused_input(call: &Call) -> Option<&'static str> {
 
 // The call that the words for a command make, unless they ask for standard input in a way that is impossible.
 fn call_named<'a>(alloc: Global, named: Named, given: &ArgMatches<'a>) -> Result<Call<'a>, Error>
-    ensures { IfOk result (IsCall named (found_of given.now)) }
+    ensures is_call { IfOk result (IsCall named (found_of given.now)) }
+    ensures unit_left { IfOk result LeavesUnit }
 {
     let call = given_call(alloc, named, given)?;
     match misused_input(&call) {

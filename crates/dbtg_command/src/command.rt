@@ -9,8 +9,8 @@ use crate::arguments::{
     ALL_FAULTS, ALL_LINES, ALWAYS, ANSWERS, BRIEF, CAPACITY, CHECKED_SCRIPTS, ECHO, EXPLAIN,
     EXPLAIN_ECHO, EXPLAIN_PICTURE, FIRST, FIRST_PROGRAM, LAST, LIMIT, MOVES, NEVER, NO_EXPLAIN,
     ON_THREADS, PROGRAM_FILES, PROGRAMS, SAVE_TURNS, SCHEMA, SCHEMA_ALONE, SCRIPTS,
-    SCRIPTS_ON_THREADS, STATUS, SVG, TOPIC, TRACE, TRACE_FILE, TRACE_OR_ECHO, TURNS, TURNS_BEFORE,
-    TURNS_FILE, TURNS_OR_MOVES, UNITS, Word, arg_of,
+    SCRIPTS_ON_THREADS, STATUS, SVG, TOPIC, TRACE, TRACE_FILE, TRACE_OR_ECHO, TRACE_UNITS, TURNS,
+    TURNS_BEFORE, TURNS_FILE, TURNS_OR_MOVES, UNITS, Word, arg_of,
 };
 use clap::error::ErrorKind;
 use clap::{Command, Error};
@@ -213,7 +213,15 @@ fn audit_command<'a>(alloc: Global, name: &'a str) -> Result<Command<'a>, AllocE
         "Compares the answers of a trace with those of this database, and prints what it leads to",
         "Example: dbtg audit --units 2 shop.schema shop.trace",
         &[
-            CAPACITY, FIRST, UNITS, STATUS, ALL_LINES, EXPLAIN, NO_EXPLAIN, SCHEMA, TRACE_FILE,
+            CAPACITY,
+            FIRST,
+            TRACE_UNITS,
+            STATUS,
+            ALL_LINES,
+            EXPLAIN,
+            NO_EXPLAIN,
+            SCHEMA,
+            TRACE_FILE,
         ],
     )
 }
@@ -252,7 +260,7 @@ fn explore_command<'a>(alloc: Global, name: &'a str) -> Result<Command<'a>, Allo
         alloc,
         name,
         "Runs programs in every interleaving: lists results, failed checks and endless loops",
-        "Example: dbtg explore --first load.program shop.schema clerk1.program clerk2.program\n'dbtg run --turns', with the same --first and --then, repeats the turns of a result. The exit status is 4 if a program can fail",
+        "Example: dbtg explore --first load.program shop.schema clerk1.program clerk2.program\n'dbtg run --turns', with the same --first and --then, repeats the turns of a result. The exit status is 4 if a program can fail or they can run for ever",
         &[
             CAPACITY,
             FIRST_PROGRAM,

@@ -3,7 +3,7 @@ ghost use Rattle.std.specs.Char.{is_ascii_alphabetic};
 ghost use Rattle.std.specs.List.{prefix_len};
 ghost use Rattle.std.specs.Prelude.{◌≡◌, ◌≤◌, [], IfOk, MatchOption, length, map, string_bytes};
 ghost use Rattle.dbtg_explain.specs.declared.topic.Kind.TheVariants as text_kind;
-ghost use Rattle.dbtg_command.specs.Reasons.{HasNoReason, IsNotRead, IsNotReadTo, IsReason, IsReasonLine, IsToldIn, IsToldOfOrder, IsScriptNotRead, IsUnreadLine, SaysOfFile, SaysOfLine, SaysOfSchema, SaysOfScript, begins_statement, first_letters, order_path, other_kind, place_of, script_path, told_at, IsToldOfProgram, IsToldOfTrace, SaysOfTrace, has_script_fault, kind_with, no_unit, said_in_text, said_of_unit};
+ghost use Rattle.dbtg_command.specs.Reasons.{HasNoReason, IsNotRead, IsNotReadTo, IsReason, IsReasonLine, IsToldIn, IsToldOfOrder, IsScriptNotRead, IsUnreadLine, SaysOfFile, SaysOfLine, SaysOfSchema, SaysOfScript, begins_statement, first_letters, order_path, other_kind, place_of, script_path, told_at, IsToldOfProgram, IsToldOfTrace, SaysOfTrace, has_script_fault, no_unit, said_in_text, said_of_unit};
 ghost use Rattle.dbtg_command.specs.Sources.{order_map};
 ghost use Rattle.dbtg_command.specs.declared.fault.Fault.TheVariants.{Memory};
 
@@ -315,19 +315,6 @@ fn order_reason(
     told_at(place, &[], meaning_of(kind, number), "")
 }
 
-/// The kind of text with a fault with this number: programs and traces also have those of scripts.
-fn kind_with(number: u8) -> Kind
-    ensures { result ≡ kind_with number }
-{
-    if number < 21 {
-        Kind::Script
-    } else if number < 31 {
-        Kind::Program
-    } else {
-        Kind::Trace
-    }
-}
-
 /// The second line for a fault of a program.
 fn program_reason<F: FileReader>(
     alloc: Global,
@@ -338,7 +325,7 @@ fn program_reason<F: FileReader>(
 ) -> Result<Vec<u8>, AllocError>
     ensures { IfOk result (λ out. IsToldOfProgram (SaysOfScript (F.has files.now.reader.now) (F.lacks files.now.reader.now) text_kind.Program files.now.paths.now.schema.now path.now line number) path.now line number out.items) }
 {
-    let meaning = meaning_of(kind_with(number), number);
+    let meaning = meaning_of(Kind::Program, number);
     let said = said_in_script(alloc, files, Kind::Program, path, line, number)?;
     told_at(
         place_of(alloc, path, ":", line)?,
@@ -392,7 +379,7 @@ fn trace_reason<F: FileReader>(
 ) -> Result<Vec<u8>, AllocError>
     ensures { IfOk result (λ out. IsToldOfTrace (SaysOfTrace (F.has files.now.reader.now) (F.lacks files.now.reader.now) path.now line number) path.now line number out.items) }
 {
-    let meaning = meaning_of(kind_with(number), number);
+    let meaning = meaning_of(Kind::Trace, number);
     let said = said_in_trace(files, path, line, number);
     told_at(
         place_of(alloc, path, ":", line)?,

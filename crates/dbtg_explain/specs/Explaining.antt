@@ -54,9 +54,18 @@ kind_row kind.Moves = codes "moves|events.md, Moves"
 kind_row kind.Turns = codes "turns|events.md, Turns"
 kind_row kind.Trace = codes "trace|traces.md, Faults"
 
+-- the kind of text whose faults list the one with this number: programs and traces have those of scripts too, below 14
+abbrev pub kind_listing : Kind → ℕ → Kind
+kind_listing kind.Schema number = kind.Schema
+kind_listing kind.Script number = kind.Script
+kind_listing kind.Program number = if nat_lt number 14 then kind.Script else kind.Program
+kind_listing kind.Moves number = kind.Moves
+kind_listing kind.Turns number = kind.Turns
+kind_listing kind.Trace number = if nat_lt number 14 then kind.Script else kind.Trace
+
 -- the field with this number of a fault's row; nothing if there is no such fault
 abbrev pub fault_field : Kind → ℕ → ℕ → List ℕ
-fault_field which fault n = unwrap_or (option_map (field n) (row_of fault (faults_of which))) []
+fault_field which fault n = unwrap_or (option_map (field n) (row_of fault (faults_of (kind_listing which fault)))) []
 
 -- the rows of a status: its own, and that of its cause
 abbrev pub status_rows : ℕ → Option (List ℕ × List ℕ)
@@ -69,15 +78,6 @@ IsStatus code (Some All) = ⊥
 IsStatus code (Some Done) = code ≡ 0
 IsStatus code (Some (Status status cause)) = (status_rows code ≡ Some (status.now, cause.now)) × (code ≡ 0 → ⊥)
 IsStatus code (Some (Fault which fault)) = ⊥
-
--- the kind of text whose faults list the one with this number: programs and traces have those of scripts too, below 21
-abbrev pub kind_listing : Kind → ℕ → Kind
-kind_listing kind.Schema number = kind.Schema
-kind_listing kind.Script number = kind.Script
-kind_listing kind.Program number = if nat_lt number 21 then kind.Script else kind.Program
-kind_listing kind.Moves number = kind.Moves
-kind_listing kind.Turns number = kind.Turns
-kind_listing kind.Trace number = if nat_lt number 21 then kind.Script else kind.Trace
 
 -- the topic has the row of the fault with this number, of the kind of text that lists it
 abbrev pub IsFault : Kind → ℕ → Option Topic → Type 0

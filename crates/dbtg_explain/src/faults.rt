@@ -39,8 +39,9 @@ pub static SCRIPT_FAULTS: &str = "\
 13|n that is 0 or above 999,999 in FIND; a key number that is 0 or above 999,999; a generation that is 0 or above 255|at the number|Take a number from 1 to 999,999, and a generation from 1 to 255.
 14|a text of more than 1,048,576 bytes (line 1), or statement 65,536 (its line)|before all else for the text, at its line for the statement|Divide the script: each run-unit has one of at most 65,535 statements.";
 
-/// The faults that programs have in addition to those of scripts.
+/// The faults that programs have in addition to those of scripts, and their limits.
 pub static PROGRAM_FAULTS: &str = "\
+14|a text of more than 1,048,576 bytes (line 1), or sentence 65,536 (its line)|before all else for the text, at its line for the sentence|Make the program shorter: it has at most 65,535 sentences.
 21|unknown paragraph; it may stand further below|at the name after GO TO|Write the paragraph, or correct the spelling.
 22|a paragraph that stands in the text before|at the name|Rename one of the two.
 23|a name where a field is wanted, but neither an item of a record type nor a counter|at the word|Declare the counter by 01 at the top, take an item of the schema as RECORD.ITEM, or correct the spelling.
@@ -59,8 +60,9 @@ pub static TURNS_FAULTS: &str = "\
 1|a word that is not u or u*k (a quit is not allowed here)|at the word|Write u or u*k, with u from 1 to 99 and k from 1 to 1,000,000, without leading zeros.
 2|the word with which the total passes 1,000,000|at the word with which the total passes 1,000,000|Take fewer turns.";
 
-/// The faults that traces have in addition to those of scripts.
+/// The faults that traces have in addition to those of scripts, and their limits.
 pub static TRACE_FAULTS: &str = "\
+14|a text of more than 67,108,864 bytes (line 1), or statement 524,281 (its line)|before all else for the text, at its line for the statement|Make the trace shorter: it has at most 524,280 statements, as many as eight scripts.
 31|no unit: no colon, other bytes than digits before the first one, or a unit that is not from 1 to the number of units|after the bytes of its line|Begin the line with the number of the unit and a colon; --units says how many units there are.
 32|no arrow after the unit outside of a text|after the unit of its line|Write => and the answer after the statement.
 33|no answer: another first word than four digits, another word after it than a key of the schema, other words after the key than all its items with values of their pictures, or an unclosed text|after the statement of its line|Write the status, or the status and the key, or these and all items, as replay prints them.";

@@ -99,12 +99,12 @@ fn faults_of(kind: Kind) -> &'static str
     }
 }
 
-/// The kind of text whose faults list the one with this number: programs and traces have those of scripts too, below 21.
+/// The kind of text whose faults list the one with this number: programs and traces have those of scripts too, below 14.
 fn kind_listing(kind: Kind, number: u16) -> Kind
     ensures { result ≡ kind_listing kind number }
 {
     match kind {
-        Kind::Program | Kind::Trace => { if number < 21 { Kind::Script } else { kind } }
+        Kind::Program | Kind::Trace => { if number < 14 { Kind::Script } else { kind } }
         Kind::Schema | Kind::Script | Kind::Moves | Kind::Turns => kind,
     }
 }
@@ -153,7 +153,8 @@ pub fn topic_of(words: &[&str]) -> Option<Topic>
 fn fault_field(kind: Kind, fault: u8, number: usize) -> &'static [u8]
     ensures { result.now ≡ fault_field kind fault number }
 {
-    match row_with(faults_of(kind), fault as u16) {
+    let fault = fault as u16;
+    match row_with(faults_of(kind_listing(kind, fault)), fault) {
         Some(row) => field(row, number),
         None => &[],
     }

@@ -1,6 +1,6 @@
 -- What `explore` prints of the texts that a source gives, and which fault it reports.
 -- told are the turns that are given, none if the source gives none; asked is what an exploration is asked for.
-use Rattle.std.specs.Prelude.{ℕ, ◌≡◌, ◌≤◌, true, not, List, [], Option, Some, ◌⊎◌, ◌==◌, length, map, unwrap_or}
+use Rattle.std.specs.Prelude.{ℕ, ◌≡◌, ◌≤◌, true, not, List, [], Option, Some, ◌⊎◌, ◌==◌, ◌||◌, is_some, length, map, unwrap_or}
 use Rattle.dbtg_schema.specs.Lists.{Lists}
 use Rattle.dbtg_program.specs.declared.program.Program.{Program}
 use Rattle.dbtg_program.specs.Reading.{program}
@@ -36,7 +36,8 @@ abbrev pub Begins : Lists → List Program → List ℕ → Exploring → List �
 Begins schema programs told asked begun =
     after_turns schema asked.capacity programs [] begun ≡ after_turns schema asked.capacity programs [] (turns_before asked.around (length programs) (Some told))
 
--- the text lists what the programs can come to from there on, in no more states than the limit; the flag says whether a program fails
+-- the text lists what the programs can come to from there on, in no more states than the limit; the flag says whether a program fails,
+-- or the programs can go on for ever
 pub record IsExploration (schema : Lists) (programs : List Program) (told : List ℕ) (asked : Exploring) (printed : Printed) : Type 0 where
   pub begun : List ℕ
   pub begins : Begins schema programs told asked begun
@@ -44,7 +45,7 @@ pub record IsExploration (schema : Lists) (programs : List Program) (told : List
   pub are_all : IsExplored (meeting_of schema programs asked begun) all
   pub within : all.states ≤ asked.limit
   pub told_is : AreTold schema programs told asked all printed.text.items
-  pub failed_is : printed.failed ≡ not (length all.failures == 0)
+  pub failed_is : printed.failed ≡ (not (length all.failures == 0) || is_some all.endless)
 
 -- there are more states than the limit, and the fault says so, unless memory ran out
 abbrev pub IsOver : Meeting → ℕ → Fault → Type 0

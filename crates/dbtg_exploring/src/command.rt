@@ -59,7 +59,7 @@ fn explore_setting<W: Watch>(alloc: Global, watch: &W, setting: &Setting) -> Res
     let all = explored(alloc, watch, &meeting, setting.asked.limit)?;
     Ok(Printed {
         text: setting.exploration_text(alloc, &all)?,
-        failed: !all.failures.is_empty(),
+        failed: !all.failures.is_empty() || all.endless.is_some(),
     })
 }
 
@@ -99,7 +99,8 @@ fn explore_known<S: Source, W: Watch>(
 }
 
 /// What `explore` prints of the schema, the programs and the turns that a source gives, or the first fault: everything that the programs
-/// can come to when they meet. The programs take the places of scripts, the first and the last one after the others.
+/// can come to when they meet. The programs take the places of scripts, the first and the last one after the others. They have failed if one
+/// can fail, or if they can go on for ever.
 pub fn explore_programs<S: Source, W: Watch>(
     alloc: Global,
     watch: &W,

@@ -7,7 +7,7 @@ use Rattle.clap.specs.declared.builder.arg.Arg.{Arg}
 use Rattle.clap.specs.declared.builder.command.Command.{Command}
 use Rattle.clap.specs.declared.builder.command.Command.TheViews.{out-Command as fields_of}
 use Rattle.clap.specs.declared.parser.matches.ArgMatches.{ArgMatches}
-use Rattle.dbtg_command.specs.Calling.{IsCall}
+use Rattle.dbtg_command.specs.Calling.{IsCall, LeavesUnit}
 use Rattle.dbtg_command.specs.Commands.{file_option, file_word, flag, name_of, number_option, rules_for, shape_with, wish_option, words}
 use Rattle.dbtg_command.specs.declared.arguments.Word.{Word}
 use Rattle.dbtg_command.specs.declared.arguments.Word.TheVariants as word
@@ -53,3 +53,4 @@ pub record IsCallIn (matches : ArgMatches) (call : Call) : Type 0 where
   pub given : ArgMatches
   pub met : subcommand_rows_of matches ≡ Some (name_of call.named, rows_of (found_of given))
   pub is_call : IsCall call.named (found_of given) call
+  pub unit_left : LeavesUnit call

@@ -10,5 +10,5 @@ returns g c =
     let lacks = g.F.FileReader.lacks files.reader.now in
     let Says = SaysOfScript has lacks Program files.paths.now.schema.now c.args.path.now c.args.line c.args.number in
     IfOk-weaker c.told_at.result _ (λ out. IsToldOfProgram Says c.args.path.now c.args.line c.args.number out.items)
-    (λ out is. (c.in_ok-said.said.items, c.in_ok-said.ensures, rw (c.in_ok-place_of.ensures, c.as_slice.ensures.value, c.meaning_of-meaning.ensures, c.kind_with.ensures) at is))
+    (λ out is. (c.in_ok-said.said.items, c.in_ok-said.ensures, rw (c.in_ok-place_of.ensures, c.as_slice.ensures.value, c.meaning_of-meaning.ensures) at is))
     c.told_at.ensures

@@ -9,5 +9,5 @@ returns g c =
     let lacks = g.F.FileReader.lacks files.reader.now in
     let Says = SaysOfTrace has lacks c.args.path.now c.args.line c.args.number in
     IfOk-weaker c.told_at.result _ (λ out. IsToldOfTrace Says c.args.path.now c.args.line c.args.number out.items)
-    (λ out is. (c.said_in_trace-said.result.now, c.said_in_trace-said.ensures, rw (c.in_ok-place_of.ensures, c.as_bytes.ensures.value, c.meaning_of-meaning.ensures, c.kind_with.ensures) at is))
+    (λ out is. (c.said_in_trace-said.result.now, c.said_in_trace-said.ensures, rw (c.in_ok-place_of.ensures, c.as_bytes.ensures.value, c.meaning_of-meaning.ensures) at is))
     c.told_at.ensures
