@@ -1,6 +1,7 @@
 // Loaded before the C library. It counts the growths of memory. The one with the number REFUSE_AT, from 1, finds no memory, and with
 // REFUSE_ON neither do all after it; with REFUSE_IN only in the program of that path. At the program's end the file REFUSE_NOTE says how
-// many growths there were, how many were refused, and how many blocks were not given back.
+// many growths there were, how many were refused, and how many blocks were not given back. If the program wrote the line `want of memory`
+// more often than growths were refused, by this library or by the system, its words are added to the file REFUSE_TOLD.
 #define _GNU_SOURCE
 #include <dlfcn.h>
 #include <errno.h>
@@ -15,7 +16,9 @@
 // What the C library rounds sizes to, and the room of its smallest block, in bytes.
 enum { SPARE = 16, SMALLEST = 24 };
 
-static long growths, refused, live, at;
+static const char WANT[] = "want of memory\n";
+
+static long growths, refused, live, at, told;
 static int is_read, goes_on;
 
 static int is_program(const char *path)
@@ -54,6 +57,7 @@ void *malloc(size_t size)
         return NULL;
     void *block = next(size);
     live += block != NULL;
+    refused += block == NULL;
     return block;
 }
 
@@ -70,6 +74,7 @@ void *realloc(void *old, size_t size)
         return NULL;
     void *block = next(old, size);
     live += old == NULL && block != NULL;
+    refused += block == NULL;
     return block;
 }
 
@@ -82,8 +87,46 @@ void free(void *old)
     next(old);
 }
 
+// How often the line stands in what is written.
+static long wants_in(const char *text, size_t size)
+{
+    long count = 0;
+    for (const char *from = text, *found; (found = memmem(from, text + size - from, WANT, sizeof WANT - 1)); from = found + 1)
+        count += found == text || found[-1] == '\n';
+    return count;
+}
+
+ssize_t write(int file, const void *text, size_t size)
+{
+    static ssize_t (*next)(int, const void *, size_t);
+    if (!next)
+        next = (ssize_t (*)(int, const void *, size_t))dlsym(RTLD_NEXT, "write");
+    told += wants_in(text, size);
+    return next(file, text, size);
+}
+
+// Adds the program's words to the file of those that told a want of memory without cause.
+static void note_told(void)
+{
+    const char *path = told > refused ? getenv("REFUSE_TOLD") : NULL;
+    char words[4096];
+    int from = path ? open("/proc/self/cmdline", O_RDONLY) : -1;
+    ssize_t size = from < 0 ? 0 : read(from, words, sizeof words);
+    if (size <= 0)
+        return;
+    for (ssize_t i = 0; i < size; i++)
+        words[i] = words[i] ? words[i] : ' ';
+    words[size - 1] = '\n';
+    int file = open(path, O_WRONLY | O_CREAT | O_APPEND, 0600);
+    if (write(file, words, size) != size)
+        abort();
+    close(file);
+    close(from);
+}
+
 __attribute__((destructor)) static void note(void)
 {
+    note_told();
     const char *path = getenv("REFUSE_NOTE");
     char text[80];
     int file = path ? open(path, O_WRONLY | O_CREAT | O_TRUNC, 0600) : -1;

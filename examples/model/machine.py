@@ -235,8 +235,9 @@ def replay(folder, words):
 
 def moves_of_turns(folder, words):
     """What `turns` with these words prints."""
-    machine, _, _ = machine_of(folder, [words[0], *words[2:]])
-    return steps_text(machine.run_turns(turns_in(read(f"{folder}/{words[1]}"))))
+    at = 3 if words[1] == "--capacity" else 1
+    machine, _, _ = machine_of(folder, [*words[:at], *words[at + 1 :]])
+    return steps_text(machine.run_turns(turns_in(read(f"{folder}/{words[at]}"))))
 
 
 def threads(folder, words, order):

@@ -136,11 +136,11 @@ class Program:
 
 
 class Runs:
-    """Programs on a machine, a unit for each, and the lines of the statements that they made."""
+    """Programs on a machine, a unit for each, and the lines of the statements that they made, as written and as a trace has them."""
 
     def __init__(self, schema, capacity, texts):
         self.schema, self.machine = schema, Machine(schema, capacity, [""] * len(texts))
-        self.programs, self.lines = [Program(schema, text) for text in texts], []
+        self.programs, self.lines, self.traced = [Program(schema, text) for text in texts], [], []
 
     def has_ended(self, number):
         program = self.programs[number - 1]
@@ -154,7 +154,9 @@ class Runs:
         statement = program.due(self.schema)
         unit.script.append(statement)
         list(self.machine.run_turns([number]))
-        self.lines.append(program.sentences[program.at][1])
+        _, line, words = program.sentences[program.at]
+        self.lines.append(line)
+        self.traced.append(line if statement == words else " ".join(statement))
         program.made, program.at, program.status = program.made + 1, program.at + 1, self.machine.lines[-1].split()[2]
         if statement[0] == "GET" and program.status == "0000":
             it = self.schema.types[unit.run[0]]
@@ -181,6 +183,11 @@ class Runs:
         """Each answer with its statement in front."""
         width = max([len(it) for it in self.lines if len(it) <= WIDEST], default=0)
         self.machine.lines = [f"{line.ljust(width)}   {answer}" for line, answer in zip(self.lines, self.machine.lines)]
+
+    def trace(self):
+        """Each answer as a line of a trace."""
+        answers = [it.split(" ", 2)[1:] for it in self.machine.lines]
+        self.machine.lines = [f"{unit}: {line} => {said}" for line, (unit, said) in zip(self.traced, answers)]
 
 
 def asked(folder, words):
@@ -217,4 +224,6 @@ def run(folder, words):
         runs.to_the_end(count)
     if "--echo" in flags:
         runs.echo()
+    if "--trace" in flags:
+        runs.trace()
     return runs.text() + "AUDIT EQUAL\n" * ("--threads" in flags)
