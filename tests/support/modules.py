@@ -6,8 +6,8 @@ part that names it; any other static is in one."""
 import re
 
 NAME = re.compile(r'@("[^"]*"|[\w.$-]+)')
-# A function is copied into the parts that call it if it has at most so many lines.
-SHORT = 100
+# A function is copied into the parts that name it if it has at most so many lines; so are those that a copy names, so many steps far.
+SHORT, STEPS = 100, 3
 OPEN, CLOSE = "([{<", ")]}>"
 
 
@@ -70,9 +70,13 @@ class Module:
         return [self.text_of(members[part], copied[part], named[part], shared) for part in range(count)]
 
     def short_uses(self, part, members, owners):
-        """The short functions of other parts that functions of this one name."""
-        uses = dict.fromkeys(use for it in members for use in self.uses(it))
-        return [it for it in uses if it in self.functions and owners[it] != part and self.functions[it].count("\n") <= SHORT]
+        """The short functions of other parts that functions of this one name, or that their copies name."""
+        copied, new = {}, members
+        for _ in range(STEPS):
+            uses = dict.fromkeys(use for it in new for use in self.uses(it) if use in self.functions and owners[use] != part and use not in copied)
+            new = [it for it in uses if self.functions[it].count("\n") <= SHORT]
+            copied.update(dict.fromkeys(new))
+        return list(copied)
 
     def text_of(self, members, copied, named, shared):
         """The text of a part."""
