@@ -13,10 +13,6 @@ def kit():
     return os.path.dirname(subprocess.run(["rt", "doc"], capture_output=True, text=True, check=True).stdout.strip())
 
 
-def rattle():
-    return f"{kit()}/bin/rattle"
-
-
 def text_of(path):
     with open(path, encoding="utf-8") as it:
         return it.read()

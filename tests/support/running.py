@@ -20,8 +20,7 @@ class Ran:
     least: int = 1
 
     def counts(self):
-        """What a last line `.. N passed, M failed` counts. One that has no such line, counts too few or ends with another exit status than 0
-        without saying what failed has failed."""
+        """What a last line `.. N passed, M failed` counts; without one, with too few or another exit status than 0 something has failed."""
         found = re.search(r"(\d+) passed, (\d+) failed\s*\Z", self.text)
         passed, failed = (int(found[1]), int(found[2])) if found else (0, 1)
         return passed, failed or int(self.status != 0 or passed < self.least)

@@ -80,7 +80,7 @@ class Trial:
             asked = [word for it in batch for path in it.paths for word in ("--only", path)]
             # Half of its attempts are enough for the search at named edits: more than its failure shows that their goals are false.
             half = ["--margin"] * all(it.name in self.named for it in batch)
-            words = [kit.rattle(), "check", *kit.check_words(self.crate, self.libraries, "stand_in"), *asked, *half]
+            words = [f"{kit.kit()}/bin/rattle", "check", *kit.check_words(self.crate, self.libraries, "stand_in"), *asked, *half]
             with self.room:
                 ran = subprocess.run(words, cwd=copy, stdin=subprocess.DEVNULL, stdout=subprocess.PIPE, stderr=subprocess.STDOUT, text=True, errors="replace", check=False)
         self.log.write(f"=== {self.crate}: {' '.join(it.name for it in batch)}\n{ran.stdout}\n")
