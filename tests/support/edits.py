@@ -1,12 +1,11 @@
 """Edits of a crate: wrong bodies, each a file of lines that says which text replaces which.
 `file: PATH` names a file of src/, `in: FUNCTION` a function of it (`name` or `Type::name`), and pairs `old: TEXT` and `new: TEXT` say what
 changes: each old text occurs exactly once in the file, or in the function that is named. An edit that changes more than bodies of functions,
-such as a constant, says in `refused: PATH` which function has to be refused, as a check names it below the crate. An edit that
-tests/edits/NAMED lists and against which the prover finds no values names in `test: NAME` a test that fails with the edit in it. An edit
-that no contract can refuse says why in `unseen: WHY`, and is not checked: a test sees it, at the line `fails: LINE`, within `timeout: SECONDS`;
-with `twin: TEXT` in place of the new text, which changes no meaning, it passes. `without: GOAL` names a goal of which the
-answer by hand does not fit the changed body: it is left out from the start, as are answers that the search finds by itself, since a second
-check would leave them out."""
+such as a constant, says in `refused: PATH` which function has to be refused, as a check names it below the crate. An edit that tests/edits/NAMED
+lists and against which the prover finds no values names in `test: NAME` a test that fails with it. An edit that no contract can refuse says
+why in `unseen: WHY`, and is not checked: a test sees it, at the line `fails: LINE`, within `timeout: SECONDS`; with `twin: TEXT` in place of
+the new text, which changes no meaning, it passes. `without: GOAL` names a goal of which the answer by hand does not fit the changed body: it
+is left out from the start, as are answers that the search finds by itself, since a second check would leave them out."""
 
 import os
 import re
