@@ -5,6 +5,7 @@ mod areas;
 mod audits;
 mod copies;
 mod deletes;
+mod faults;
 mod finishing;
 mod fits;
 mod limits;

@@ -16,13 +16,13 @@ use thiserror::Error;
 #[derive(Drop, Error)]
 pub enum Fault {
     /// The first fault of the schema.
-    #[error("schema fault {} line {line}", .cause.number())]
+    #[error("{}", SchemaFault::Refused {line: *.line, cause: *.cause})]
     Schema {
         line: u64,
         cause: SchemaCause,
     },
     /// The first fault of the script with this number, from 1; no earlier script has a fault.
-    #[error("script {number} fault {} line {line}", .cause.number())]
+    #[error("script {number} {}", ScriptFault::Refused {line: *.line, cause: *.cause})]
     Script {
         number: usize,
         line: u64,
@@ -36,19 +36,19 @@ pub enum Fault {
         cause: ProgramCause,
     },
     /// The first fault of the moves.
-    #[error("moves fault {} word {word}", .cause.number())]
+    #[error("moves {}", MovesFault::Refused {word: *.word, cause: *.cause})]
     Moves {
         word: u64,
         cause: MovesCause,
     },
     /// The first fault of the turns.
-    #[error("turns fault {} word {word}", .cause.number())]
+    #[error("turns {}", TurnsFault::Refused {word: *.word, cause: *.cause})]
     Turns {
         word: u64,
         cause: MovesCause,
     },
     /// The first fault of the trace.
-    #[error("trace fault {} line {line}", .cause.number())]
+    #[error("{}", TraceFault::Refused {line: *.line, cause: *.cause})]
     Trace {
         line: u64,
         cause: TraceCause,

@@ -5,6 +5,8 @@ ghost use Rattle.dbtg_script.specs.declared.fault.LineFault.TheVariants as line_
 ghost use Rattle.std.specs.Prelude.{◌≡◌};
 
 use std::alloc::{AllocError, AllocFailed};
+use std::fmt::{Debug, Display, Formatter, Result as FmtResult, Write};
+use thiserror::Error;
 
 /// What is wrong with a script. Each cause has a number, 1 to 14, by which it is printed.
 #[derive(Clone, Copy)]
@@ -70,12 +72,20 @@ pub struct Fault {
 }
 
 /// Why no script was read.
-#[derive(Drop)]
+#[derive(Drop, Error)]
 pub enum ScriptFault {
     /// The first fault of the text.
+    #[error("fault {} line {line}", .cause.number())]
     Refused { line: u64, cause: Cause },
     /// Memory was refused before a fault was met.
+    #[error("want of memory")]
     Memory,
+}
+
+impl Debug for ScriptFault {
+    fn fmt<W: Write>(&self, f: &mut Formatter<W>) -> FmtResult {
+        Display::fmt(self, f)
+    }
 }
 
 /// Why a line was not read.

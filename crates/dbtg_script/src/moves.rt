@@ -8,6 +8,8 @@ use crate::limits::MOST_MOVES;
 use crate::spelling::{behind, has_byte, in_front, is_number, number};
 use dbtg_unit::Move;
 use std::alloc::{AllocError, Global};
+use std::fmt::{Debug, Display, Formatter, Result as FmtResult, Write};
+use thiserror::Error;
 
 /// What is wrong with moves, by the number with which it is printed.
 #[derive(Clone, Copy)]
@@ -31,12 +33,20 @@ impl MovesCause {
 }
 
 /// Why no moves were read.
-#[derive(Drop)]
+#[derive(Drop, Error)]
 pub enum MovesFault {
     /// The first fault of the text, which is at this word, from 1.
+    #[error("fault {} word {word}", .cause.number())]
     Refused { word: u64, cause: MovesCause },
     /// Memory was refused before a fault was met.
+    #[error("want of memory")]
     Memory,
+}
+
+impl Debug for MovesFault {
+    fn fmt<W: Write>(&self, f: &mut Formatter<W>) -> FmtResult {
+        Display::fmt(self, f)
+    }
 }
 
 impl From<AllocError> for MovesFault {

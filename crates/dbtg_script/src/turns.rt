@@ -8,14 +8,24 @@ ghost use Rattle.std.specs.Prelude.{◌≡◌, IfErr, IfOk, MatchResult, None, O
 use crate::moves::{MovesCause, MovesFault, Words, spelled_turn, take_word};
 use dbtg_schema::Row;
 use std::alloc::Global;
+use std::fmt::{Debug, Display, Formatter, Result as FmtResult, Write};
+use thiserror::Error;
 
 /// Why no turns were read.
-#[derive(Drop)]
+#[derive(Drop, Error)]
 pub enum TurnsFault {
     /// The first fault of the text, which is at this word, from 1.
+    #[error("fault {} word {word}", .cause.number())]
     Refused { word: u64, cause: MovesCause },
     /// Memory was refused before a fault was met.
+    #[error("want of memory")]
     Memory,
+}
+
+impl Debug for TurnsFault {
+    fn fmt<W: Write>(&self, f: &mut Formatter<W>) -> FmtResult {
+        Display::fmt(self, f)
+    }
 }
 
 impl From<MovesFault> for TurnsFault {
