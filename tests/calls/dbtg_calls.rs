@@ -15,3 +15,4 @@ mod refusals;
 mod scripts;
 mod seeing;
 mod shop;
+mod surface;

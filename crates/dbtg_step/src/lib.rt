@@ -30,6 +30,7 @@ mod whole;
 pub use auditing::{audit, audit_each};
 pub use bare::BareDatabase;
 pub use course::Course;
+pub use dbtg_unit::{Image, Move, Stepped};
 pub use laws::{
     each_event_keeps_lawful, every_core_is_sequential, every_image_is_of_its_history,
     every_run_extends_history, every_run_is_lawful, every_run_is_sequential,
