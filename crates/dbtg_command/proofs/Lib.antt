@@ -1,5 +1,6 @@
 mod Calls
 mod Commands
+mod Places
 mod WordsAsked
 mod OtherKinds
 mod InTurn

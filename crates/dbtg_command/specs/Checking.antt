@@ -10,7 +10,7 @@ use Rattle.dbtg_command.specs.declared.fault.Fault.{Fault}
 use Rattle.dbtg_command.specs.declared.fault.Fault.TheVariants.{Memory}
 use Rattle.dbtg_command.specs.declared.place.TextPlace.{TextPlace}
 use Rattle.dbtg_command.specs.declared.place.TextPlace.TheVariants.{Script}
-use Rattle.dbtg_command.specs.Refusals.{schema_in, AcceptsTexts, RefusesProgram, RefusesScriptText}
+use Rattle.dbtg_command.specs.Refusals.{schema_in, AcceptsTexts, RefusesProgramText, RefusesScriptText}
 use Rattle.dbtg_command.specs.Sources.{ReadSchema, Texts, ToldIn, ToldOfSchema}
 
 -- a line for each script, from number n on
@@ -39,7 +39,7 @@ IsAccepted true lists text = program_refusal lists text ≡ None
 -- the fault is its refusal, with the number n
 abbrev pub Refuses : Bool → Fault → ℕ → Lists → List ℕ → Type 0
 Refuses false fault n lists text = RefusesScriptText fault n lists text
-Refuses true fault n lists text = RefusesProgram fault n (program_refusal lists text)
+Refuses true fault n lists text = RefusesProgramText fault n lists text
 
 -- what is said of script n, or of program n: nothing if its text is held and accepted, otherwise its fault, unless memory was refused
 abbrev pub TellsOfScript : (TextPlace → List ℕ → Type 0) → (TextPlace → Fault → Type 0) → Bool → Lists → ℕ → List Fault → Type 0

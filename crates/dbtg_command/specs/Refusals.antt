@@ -15,11 +15,15 @@ use Rattle.dbtg_script.specs.Moves.{RefusedAtOnce, moves_of, refusal as moves_re
 use Rattle.dbtg_script.specs.Reading.{script_faults_at_once}
 use Rattle.dbtg_script.specs.StatementFaults.{refusal as script_refusal}
 use Rattle.dbtg_script.specs.Turns.{turns_of, turns_refusal}
+use Rattle.dbtg_script.specs.declared.limits.TheConstants.{SCRIPT_BYTES}
 -- 1 to 8 scripts, one for each unit
 pub use Rattle.dbtg_explain.specs.Units.{is_count}
+use Rattle.dbtg_program.specs.Faults.{refusal as program_refusal}
 use Rattle.dbtg_program.specs.declared.fault.Fault.{Fault as ProgramRefusal}
 use Rattle.dbtg_script.specs.declared.fault.Fault.{Fault as ScriptRefusal}
 use Rattle.dbtg_script.specs.declared.moves.MovesCause.{MovesCause}
+use Rattle.dbtg_trace.specs.Faults.{refusal as trace_refusal}
+use Rattle.dbtg_trace.specs.Reading.{faults_at_once as trace_faults_at_once}
 use Rattle.dbtg_trace.specs.declared.fault.Fault.{Fault as TraceRefusal}
 use Rattle.dbtg_command.specs.declared.fault.Fault.{Fault}
 use Rattle.dbtg_command.specs.declared.fault.Fault.TheVariants.{Schema, Script, Moves, Turns, Trace, MovesOver, StatesOver, Unreadable, ScriptCount, Memory, Program}
@@ -116,6 +120,10 @@ SchemaMayTakeMemory text = (schema_refusal text ≡ None) ⊎ ((length text ≤ 
 abbrev pub ScriptMayTakeMemory : Lists → List ℕ → Type 0
 ScriptMayTakeMemory lists text = (script_refusal lists text ≡ None) ⊎ (first (script_faults_at_once lists text) ≡ None)
 
+-- a program is accepted, or it is not too long
+abbrev pub ProgramMayTakeMemory : Lists → List ℕ → Type 0
+ProgramMayTakeMemory lists text = (program_refusal lists text ≡ None) ⊎ (length text ≤ SCRIPT_BYTES)
+
 -- moves are accepted, or they do not begin with a word of another shape
 abbrev pub MovesMayTakeMemory : List ℕ → Type 0
 MovesMayTakeMemory text = (moves_refusal text ≡ None) ⊎ RefusedAtOnce spelled_move text ⊥
@@ -124,6 +132,10 @@ MovesMayTakeMemory text = (moves_refusal text ≡ None) ⊎ RefusedAtOnce spelle
 abbrev pub TurnsMayTakeMemory : List ℕ → Type 0
 TurnsMayTakeMemory text = (turns_refusal text ≡ None) ⊎ RefusedAtOnce spelled_turn text ⊥
 
+-- a trace is accepted, or no fault of it is found before a statement is kept
+abbrev pub TraceMayTakeMemory : Lists → ℕ → List ℕ → Type 0
+TraceMayTakeMemory lists units text = (trace_refusal lists units text ≡ None) ⊎ (first (trace_faults_at_once lists units text) ≡ None)
+
 -- the fault is the refusal of this schema; memory ran out only if the text may take any
 abbrev pub RefusesSchemaText : Fault → List ℕ → Type 0
 RefusesSchemaText fault text = RefusesSchema fault (schema_refusal text) × (fault ≡ Memory → SchemaMayTakeMemory text)
@@ -131,6 +143,10 @@ RefusesSchemaText fault text = RefusesSchema fault (schema_refusal text) × (fau
 -- the same for this text of script n
 abbrev pub RefusesScriptText : Fault → ℕ → Lists → List ℕ → Type 0
 RefusesScriptText fault n lists text = RefusesScript fault n (script_refusal lists text) × (fault ≡ Memory → ScriptMayTakeMemory lists text)
+
+-- for this text of program n
+abbrev pub RefusesProgramText : Fault → ℕ → Lists → List ℕ → Type 0
+RefusesProgramText fault n lists text = RefusesProgram fault n (program_refusal lists text) × (fault ≡ Memory → ProgramMayTakeMemory lists text)
 
 -- for these moves
 abbrev pub RefusesMovesText : Fault → List ℕ → Type 0
@@ -153,6 +169,10 @@ RefusesTrace MovesOver refusal = ⊥
 RefusesTrace (StatesOver limit) refusal = ⊥
 RefusesTrace (Unreadable path) refusal = ⊥
 RefusesTrace ScriptCount refusal = ⊥
+
+-- the fault is the refusal of this trace of so many units; memory ran out only if the text may take any
+abbrev pub RefusesTraceText : Fault → Lists → ℕ → List ℕ → Type 0
+RefusesTraceText fault lists units text = RefusesTrace fault (trace_refusal lists units text) × (fault ≡ Memory → TraceMayTakeMemory lists units text)
 
 -- the fault is that of the first script that has one, from number n on, unless memory ran out
 abbrev pub RefusesOneScript : Fault → Lists → ℕ → List (List ℕ) → Type 0

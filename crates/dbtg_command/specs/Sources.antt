@@ -18,7 +18,7 @@ use Rattle.dbtg_command.specs.declared.order.OrderKind.{OrderKind}
 use Rattle.dbtg_command.specs.declared.order.OrderKind.TheVariants as kind
 use Rattle.dbtg_command.specs.declared.place.TextPlace.{TextPlace}
 use Rattle.dbtg_command.specs.declared.place.TextPlace.TheVariants.{Schema, Script, Moves, Turns, Trace}
-use Rattle.dbtg_command.specs.Refusals.{schema_in, moves_in, turns_in, is_count, AllAccepted, RefusesMovesText, RefusesSchemaText, RefusesScriptText, RefusesTrace, RefusesTurnsText}
+use Rattle.dbtg_command.specs.Refusals.{schema_in, moves_in, turns_in, is_count, AllAccepted, RefusesMovesText, RefusesSchemaText, RefusesScriptText, RefusesTraceText, RefusesTurnsText}
 
 -- what gives the order, by its kind
 abbrev pub kind_of : {A : Type 0} → Order A → OrderKind
@@ -103,7 +103,7 @@ ToldIn holds fails fault place Refuses = fails place fault ⊎ ((text : List ℕ
 
 -- the fault is reported for the trace
 abbrev pub ToldOfTrace : (TextPlace → List ℕ → Type 0) → (TextPlace → Fault → Type 0) → Fault → Lists → ℕ → Type 0
-ToldOfTrace holds fails fault lists units = ToldIn holds fails fault Trace (λ text. RefusesTrace fault (trace_refusal lists units text))
+ToldOfTrace holds fails fault lists units = ToldIn holds fails fault Trace (RefusesTraceText fault lists units)
 
 -- the fault is reported for the schema
 abbrev pub ToldOfSchema : (TextPlace → List ℕ → Type 0) → (TextPlace → Fault → Type 0) → Fault → Type 0

@@ -1,5 +1,5 @@
 //! What the words of the command ask for, from what `clap` finds in them.
-ghost use Rattle.std.specs.Prelude.{◌≡◌, ◌++◌, ◌≤◌, IfNone, IfOk, IfSome, OnOk, codes, false, map, option_map, option_to_list, string_bytes, Some};
+ghost use Rattle.std.specs.Prelude.{◌≡◌, ◌++◌, ◌≤◌, IfNone, IfOk, IfSome, OnOk, codes, false, is_some, map, option_map, option_to_list, string_bytes, true, Some};
 ghost use Rattle.clap.specs.Matches.{first_value, found_of};
 ghost use Rattle.dbtg_explain.specs.Explaining.{IsAsked};
 ghost use Rattle.dbtg_command.specs.Calling.{IsCall, IsCallOf, LeavesUnit, count_for, order_in, scripts_in, words_in};
@@ -7,6 +7,7 @@ ghost use Rattle.dbtg_command.specs.Capacity.{count_in};
 ghost use Rattle.dbtg_command.specs.Commands.{name_of};
 ghost use Rattle.dbtg_command.specs.Sources.{order_map};
 ghost use Rattle.dbtg_command.specs.Wishing.{wish_for, wish_of_either};
+ghost use Rattle.dbtg_command.specs.declared.command.Named.{Named as SeenNamed};
 ghost use Rattle.dbtg_command.specs.Inside.Commands.{IsCallIn};
 
 use crate::capacity::count_of;
@@ -308,7 +309,8 @@ fn call_named<'a>(alloc: Global, named: Named, given: &ArgMatches<'a>) -> Result
 
 // The command with this name.
 fn named_of(word: &str) -> Option<Named>
-    ensures { IfSome result (λ named. name_of named ≡ word.now) }
+    ensures named { IfSome result (λ named. name_of named ≡ word.now) }
+    ensures each { (named : SeenNamed) → name_of named ≡ word.now → is_some result ≡ true }
 {
     for named in ALL {
         if name_of(named) == word {
@@ -318,7 +320,7 @@ fn named_of(word: &str) -> Option<Named>
     None
 }
 
-// The reader of the words accepts only those of the commands.
+// The reader of the words accepts those of the commands alone, and answers `help` itself; its contract does not tell `help` apart.
 fn call_in<'a>(alloc: Global, matches: &ArgMatches<'a>) -> Result<Call<'a>, Error>
     ensures { IfOk result (IsCallIn matches.now) }
 {

@@ -13,7 +13,7 @@ ghost use Rattle.dbtg_unit.specs.Database.Statements.Fits.{fits};
 ghost use Rattle.dbtg_trace.specs.Faults.{refusal as trace_refusal};
 ghost use Rattle.dbtg_trace.specs.Parts.{is_unit};
 ghost use Rattle.dbtg_trace.specs.Traces.{trace};
-ghost use Rattle.dbtg_command.specs.Refusals.{RefusesMovesText, RefusesProgram, RefusesSchemaText, RefusesScriptText, RefusesTrace, RefusesTurnsText, moves_in, schema_in, turns_in};
+ghost use Rattle.dbtg_command.specs.Refusals.{RefusesMovesText, RefusesProgramText, RefusesSchemaText, RefusesScriptText, RefusesTraceText, RefusesTurnsText, moves_in, schema_in, turns_in};
 
 use crate::fault::Fault;
 use dbtg_program::{Program, read_program};
@@ -81,7 +81,7 @@ pub fn program_of(
 ) -> Result<Program, Fault>
     ensures accepted { OnOk result (program_refusal schema.now text.now ≡ None) }
     ensures program { IfOk result (λ p. p ≡ program schema.now text.now) }
-    ensures refused { IfErr result (λ fault. RefusesProgram fault number (program_refusal schema.now text.now)) }
+    ensures refused { IfErr result (λ fault. RefusesProgramText fault number schema.now text.now) }
 {
     match read_program(alloc, schema, text) {
         Ok(program) => Ok(program),
@@ -124,7 +124,7 @@ pub fn traced_of(
     ensures traced { IfOk result (λ traced. traced.items ≡ trace schema.now units text.now) }
     ensures fitting { IsSound schema.now → IfOk result (λ traced. list_all (λ t. fits schema.now t.statement) traced.items ≡ true) }
     ensures units { IfOk result (λ traced. list_all (λ t. is_unit units t.unit) traced.items ≡ true) }
-    ensures refused { IfErr result (λ fault. RefusesTrace fault (trace_refusal schema.now units text.now)) }
+    ensures refused { IfErr result (λ fault. RefusesTraceText fault schema.now units text.now) }
 {
     match read_trace(alloc, schema, units, text) {
         Ok(traced) => Ok(traced),

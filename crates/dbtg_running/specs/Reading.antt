@@ -6,7 +6,7 @@ use Rattle.dbtg_program.specs.Faults.{refusal as program_refusal}
 use Rattle.dbtg_command.specs.declared.fault.Fault.{Fault}
 use Rattle.dbtg_command.specs.declared.place.TextPlace.{TextPlace}
 use Rattle.dbtg_command.specs.declared.place.TextPlace.TheVariants.{Script}
-use Rattle.dbtg_command.specs.Refusals.{RefusesProgram}
+use Rattle.dbtg_command.specs.Refusals.{RefusesProgramText}
 use Rattle.dbtg_command.specs.Sources.{HoldsScripts, ToldIn}
 
 -- every program is accepted
@@ -26,4 +26,4 @@ pub record ToldOfPrograms (holds : TextPlace → List ℕ → Type 0) (fails : T
   pub before : ℕ
   pub read : ReadPrograms holds lists before
   pub within : before < count
-  pub told : ToldIn holds fails fault (Script (before + 1)) (λ text. RefusesProgram fault (before + 1) (program_refusal lists text))
+  pub told : ToldIn holds fails fault (Script (before + 1)) (RefusesProgramText fault (before + 1) lists)

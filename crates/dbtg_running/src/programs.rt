@@ -1,6 +1,6 @@
 //! The programs that a source gives, each judged before the next is read.
 
-ghost use Rattle.dbtg_command.specs.Refusals.{RefusesProgram};
+ghost use Rattle.dbtg_command.specs.Refusals.{RefusesProgramText};
 ghost use Rattle.dbtg_command.specs.Sources.{ToldIn};
 ghost use Rattle.dbtg_command.specs.declared.place.TextPlace.TheVariants.{Script};
 ghost use Rattle.dbtg_program.specs.Faults.{refusal as program_refusal};
@@ -31,7 +31,7 @@ fn take_next<S: Source>(
     requires numbered { 0 < number }
     requires within { number ≤ S.count source.now }
     ensures taken { OnOk result ((text : List ℕ) × S.holds source.now (Script number) text × (program_refusal schema.now text ≡ None) × (programs.new.list.items ≡ programs.old.list.items ++ program schema.now text ∷ []) × (programs.new.texts.items ≡ programs.old.texts.items ++ text ∷ [])) }
-    ensures refused { IfErr result (λ fault. ToldIn (S.holds source.now) (S.fails source.now) fault (Script number) (λ text. RefusesProgram fault number (program_refusal schema.now text))) }
+    ensures refused { IfErr result (λ fault. ToldIn (S.holds source.now) (S.fails source.now) fault (Script number) (RefusesProgramText fault number schema.now)) }
 {
     let text = source.read(alloc, TextPlace::Script(number))?;
     let program = program_of(alloc, schema, number, text.as_slice())?;

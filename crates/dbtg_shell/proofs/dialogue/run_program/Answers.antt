@@ -10,7 +10,7 @@ returns-in-Err c =
     let old = c.args.shell.now.session in
     let text = c.args.text.now in
     record {
-      run = told_of c.write_refusal.result u old text c.schema.result.now c.in-Err.fault c.schema.ensures c.in-Err.ensures.refused c.write_refusal.ensures;
+      run = told_of c.write_refusal.result u old text c.schema.result.now c.in-Err.fault c.schema.ensures c.in-Err.ensures.refused.0 c.write_refusal.ensures;
       part = on_err c.write_refusal.result (HasBegun u old text old) (nothing_yet u old text);
       turn = refl;
     }
