@@ -5,7 +5,6 @@
 mod check;
 mod command;
 mod echo;
-mod judging;
 mod laws;
 mod programs;
 mod scripts_on_threads;
