@@ -24,11 +24,19 @@ abbrev pub capacity_text : ℕ → Cause → List ℕ
 capacity_text capacity NoRoom = codes ", capacity " ++ decimal capacity
 capacity_text capacity _ = []
 
+-- the status of a statement, and its line
+abbrev pub stated_text : ℕ → List ℕ → List ℕ
+stated_text status line = four_digits status ++ 32 ∷ line
+
+-- the beginning of a line
+abbrev pub ticket_text : List ℕ → ℕ → List ℕ
+ticket_text name ticket = name ++ codes ", ticket " ++ decimal ticket ++ codes ": "
+
 -- the line of a statement with this status; nothing if it was not refused
 abbrev pub refused_line : List ℕ → ℕ → Entry → List ℕ → Status → List ℕ
 refused_line name capacity e line Done = []
 refused_line name capacity e line (Refused cause) =
-    name ++ codes ", ticket " ++ decimal e.ticket ++ codes ": " ++ four_digits (status_code e.statement (Refused cause)) ++ 32 ∷ line ++ capacity_text capacity cause ++ 10 ∷ []
+    ticket_text name e.ticket ++ stated_text (status_code e.statement (Refused cause)) line ++ capacity_text capacity cause ++ 10 ∷ []
 
 -- the lines of the statements of unit u
 abbrev pub refused_lines : List ℕ → ℕ → ℕ → List (List ℕ) → List Entry → List ℕ

@@ -1,9 +1,9 @@
 //! What is told of the script or the program that goes first: which of its statements were refused. It is printed beside a command's
 //! output.
-ghost use Rattle.std.specs.Prelude.{◌≡◌, ◌++◌, ◌≤◌, ◌<◌, [], IfOk, OnOk, if◌then◌else◌, map};
+ghost use Rattle.std.specs.Prelude.{◌≡◌, ◌==◌, ◌++◌, ◌≤◌, ◌<◌, [], IfOk, OnOk, if◌then◌else◌, map};
 ghost use Rattle.dbtg_schema.specs.Sound.{IsSound};
 ghost use Rattle.dbtg_command.specs.Sources.{ReadSchema};
-ghost use Rattle.dbtg_replay.specs.Refused.{TellsOfFirst, capacity_text, refusals_text, refused_line, refused_lines};
+ghost use Rattle.dbtg_replay.specs.Refused.{TellsOfFirst, capacity_text, refusals_text, refused_line, refused_lines, stated_text, ticket_text};
 ghost use Rattle.dbtg_unit.specs.declared.unit.Status.TheVariants.{Refused};
 
 use crate::scripts::{Scripts, take_next};
@@ -34,6 +34,23 @@ fn push_capacity(out: &mut Vec<u8>, capacity: u16, cause: Cause) -> Result<(), A
     }
 }
 
+fn push_ticket(out: &mut Vec<u8>, name: &[u8], ticket: u64) -> Result<(), AllocError>
+    ensures { OnOk result (out.new.items ≡ out.old.items ++ ticket_text name.now ticket) }
+{
+    out.extend_from_slice(name)?;
+    out.extend_from_slice(b", ticket ")?;
+    push_number(out, ticket)?;
+    out.extend_from_slice(b": ")
+}
+
+fn push_stated(out: &mut Vec<u8>, status: u16, line: &[u8]) -> Result<(), AllocError>
+    ensures { OnOk result (out.new.items ≡ out.old.items ++ stated_text status line.now) }
+{
+    push_status(out, status)?;
+    out.push(b' ')?;
+    out.extend_from_slice(line)
+}
+
 // A statement that was refused: its ticket, its status and its line.
 fn push_refusal(
     out: &mut Vec<u8>,
@@ -44,13 +61,8 @@ fn push_refusal(
 ) -> Result<(), AllocError>
     ensures { OnOk result (out.new.items ≡ out.old.items ++ refused_line first.entry.name.now first.entry.capacity entry.now line.now (Refused cause)) }
 {
-    out.extend_from_slice(first.name)?;
-    out.extend_from_slice(b", ticket ")?;
-    push_number(out, entry.ticket)?;
-    out.extend_from_slice(b": ")?;
-    push_status(out, Status::Refused(cause).code(&entry.statement))?;
-    out.push(b' ')?;
-    out.extend_from_slice(line)?;
+    push_ticket(out, first.name, entry.ticket)?;
+    push_stated(out, Status::Refused(cause).code(&entry.statement), line)?;
     push_capacity(out, first.capacity, cause)?;
     out.push(b'\n')?;
     Ok(())

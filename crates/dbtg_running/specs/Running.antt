@@ -63,7 +63,7 @@ run_text lists form texts given =
 
 -- this text is printed of a run, unless the first program does not end; the flag says whether it does not, or a program failed; and
 -- beside the text it is told of the first program
-pub record IsPrinted (lists : Lists) (options : RunOptions) (texts : List (List ℕ)) (given : ProgramRun) (text : List ℕ) (printed : Printed) : Type 0 where
+pub record PrintsRun (lists : Lists) (options : RunOptions) (texts : List (List ℕ)) (given : ProgramRun) (text : List ℕ) (printed : Printed) : Type 0 where
   pub text_is : printed.text.items ≡ (if never_ends options.around (length texts) given.programs then [] else text)
   pub failed_is : printed.failed ≡ (never_ends options.around (length texts) given.programs || list_any (λ r. failed r.standing) given.programs)
   pub beside_is : printed.beside.items ≡ told_of_first lists options.capacity options.around texts given
@@ -78,7 +78,7 @@ pub record RunsHeld (holds : TextPlace → List ℕ → Type 0) (count : ℕ) (w
   pub turns_too : ReadsTurns holds which turns
   pub given : ProgramRun
   pub is_run : IsRunOf lists options.capacity (map (program lists) programs.texts) (turns_of lists options.capacity (map (program lists) programs.texts) options.around turns) given
-  pub is_printed : IsPrinted lists options programs.texts given (run_text lists options.form programs.texts given) printed
+  pub is_printed : PrintsRun lists options programs.texts given (run_text lists options.form programs.texts given) printed
 
 -- WHICH FAULT IS REPORTED
 

@@ -12,7 +12,7 @@ use Rattle.dbtg_command.specs.Sources.{ReadSchema}
 use Rattle.dbtg_running.specs.declared.command.RunOptions.{RunOptions}
 use Rattle.dbtg_running.specs.declared.threads.PrintedOnThreads.{PrintedOnThreads}
 use Rattle.dbtg_running.specs.Reading.{ReadPrograms}
-use Rattle.dbtg_running.specs.Running.{IsPrinted, run_text}
+use Rattle.dbtg_running.specs.Running.{PrintsRun, run_text}
 
 -- the line that says that the audit of the history gives the same image and units
 abbrev pub audit_line : List ℕ
@@ -20,7 +20,7 @@ audit_line = codes "AUDIT EQUAL" ++ 10 ∷ []
 
 -- the text of a run of the programs of these texts, followed by the line of the audit, is printed; and the text of the turns
 pub record IsPrintedOf (lists : Lists) (options : RunOptions) (texts : List (List ℕ)) (turns : List ℕ) (given : ProgramRun) (said : PrintedOnThreads) : Type 0 where
-  pub is_printed : IsPrinted lists options texts given (run_text lists options.form texts given ++ audit_line) said.printed
+  pub is_printed : PrintsRun lists options texts given (run_text lists options.form texts given ++ audit_line) said.printed
   pub turns_are : said.turns.items ≡ turns_text turns
 
 -- 1 to 8 programs, nothing is refused, and what is printed is that of a run of them on threads, with its turns: what `run` prints by these

@@ -5,7 +5,7 @@ ghost use Rattle.dbtg_command.specs.Sources.{ReadSchema, ToldOfOrder};
 ghost use Rattle.dbtg_going.specs.Turns.{IsRunOf, turns_of};
 ghost use Rattle.dbtg_program.specs.Reading.{program};
 ghost use Rattle.dbtg_running.specs.Reading.{ReadPrograms};
-ghost use Rattle.dbtg_running.specs.Running.{IsPrinted, ReadsTurns, RunsHeld, ToldOfRun, failed, has_values, run_text as said_text, unexplained};
+ghost use Rattle.dbtg_running.specs.Running.{PrintsRun, ReadsTurns, RunsHeld, ToldOfRun, failed, has_values, run_text as said_text, unexplained};
 ghost use Rattle.dbtg_schema.specs.Sound.{IsSound};
 ghost use Rattle.std.specs.List.{list_any};
 ghost use Rattle.std.specs.Prelude.{◌≡◌, ◌≤◌, [], IfErr, IfOk, length, map, true};
@@ -140,7 +140,7 @@ pub fn print_run(
 ) -> Result<Printed, AllocError>
     requires few { length programs.now.texts.items ≤ LAST_UNIT }
     requires are { programs.now.list.items ≡ map (program schema.now) programs.now.texts.items }
-    ensures { IfOk result (IsPrinted schema.now options programs.now.texts.items given.now (said_text schema.now options.form programs.now.texts.items given.now)) }
+    ensures { IfOk result (PrintsRun schema.now options programs.now.texts.items given.now (said_text schema.now options.form programs.now.texts.items given.now)) }
 {
     let beside = told_of_first(alloc, schema, programs, options, given)?;
     let (units, reached) = (programs.texts.as_slice().len() as u8, given.programs.as_slice());
