@@ -1,12 +1,11 @@
 """Edits of a crate: wrong bodies, each a file of lines that says which text replaces which.
 `file: PATH` names a file of src/, `in: FUNCTION` a function of it (`name` or `Type::name`), and pairs `old: TEXT` and `new: TEXT` say what
-changes: each old text occurs exactly once in the file, or in the function that is named. An edit that changes more than bodies of functions
-says in `refused: PATH` which of the functions that it changes has to be refused, as a check names it below the crate. An edit that
-tests/edits/NAMED lists and against which the prover finds no values names in `test: NAME` a test that fails with the edit in it. An edit
-that no contract can refuse says why in `unseen: WHY`, and is not checked: a test sees it, at the line `fails: LINE`, within `timeout: SECONDS`;
-with `twin: TEXT` in place of the new text, which changes no meaning, it passes. `without: GOAL` names a goal of which the
-answer by hand does not fit the changed body: it is left out from the start, as are answers that the search finds by itself, since a second
-check would leave them out."""
+changes: each old text occurs exactly once in the file, or in the function that is named. An edit that changes more than bodies of functions,
+such as a constant, says in `refused: PATH` which function has to be refused, as a check names it below the crate. An edit that tests/edits/NAMED
+lists and against which the prover finds no values names in `test: NAME` a test that fails with it. An edit that no contract can refuse says
+why in `unseen: WHY`, and is not checked: a test sees it, at the line `fails: LINE`, within `timeout: SECONDS`; with `twin: TEXT` in place of
+the new text, which changes no meaning, it passes. `without: GOAL` names a goal of which the answer by hand does not fit the changed body: it
+is left out from the start, as are answers that the search finds by itself, since a second check would leave them out."""
 
 import os
 import re
@@ -71,11 +70,13 @@ class Edit:
             raise ValueError("it changes nothing, or does not name the function that has to be refused where, and only where, it changes more than bodies")
         if self.unseen and not (self.tests and self.fails and self.timeout and self.twins):
             raise ValueError("no contract sees it, and it does not say by a test, its line, a time and a twin what does")
-        names = {it: it.names(sources.declared) for it in inside if it}
-        self.functions = list(names)
-        judged = [it for it, (path, _) in names.items() if not self.refused or path in self.refused]
+        changed = list(dict.fromkeys(filter(None, inside)))
+        named = [it for each in sources.functions.values() for it in each if it.names(sources.declared)[0] in self.refused]
+        judged = named if self.refused else changed
         if not judged and not self.unseen:
-            raise ValueError("it does not change the body of the function that has to be refused")
+            raise ValueError("there is no function that has to be refused")
+        self.functions = list(dict.fromkeys(changed + named))
+        names = {it: it.names(sources.declared) for it in judged}
         self.paths = [f"{sources.crate}::{names[it][0]}" for it in judged]
         self.closures = tuple(f"{sources.crate}::{names[it][1]}::" for it in judged)
         folders = [at for it in judged for at in sources.proofs(it)]

@@ -27,7 +27,7 @@ pub use cell::Cell;
 pub use extent::{Extent, Number};
 pub use key::{DbKey, Owner, Value, key_below, key_eq, owner_below, owner_eq};
 pub use laws::{a_cell_stands_at_its_number, cells_have_numbers, each_cell_stands_once};
-pub use limits::LAST_GENERATION;
+pub use limits::{LAST_GENERATION, limits_are};
 pub use maybe_owner::{MaybeOwner, owner_at};
 pub use name::{CellName, name_below, name_eq};
 pub use numbering::{Layout, cell_count, cell_number, is_cell};

@@ -1,6 +1,6 @@
 -- The second line of a fault: its place, and what is said of it. `has` says that reading this many bytes of a path gave a text, `lacks`
 -- that it gave none, as the reader of files says it; for this line files are read again, and standard input is not.
-use Rattle.std.specs.Prelude.{ℕ, ◌≡◌, ◌==◌, ◌||◌, not, Bool, false, List, [], ◌++◌, ◌⊎◌, Some, None, codes, decimal, drop, is_some, length, slice_get, string_bytes, take_while, unwrap_or, ◌-◌, if◌then◌else◌, Option}
+use Rattle.std.specs.Prelude.{ℕ, ◌≡◌, ◌==◌, ◌||◌, not, Bool, false, List, [], ◌++◌, ◌⊎◌, Some, None, codes, decimal, drop, is_some, length, slice_get, string_bytes, take_while, unwrap_or, ◌-◌, if◌then◌else◌}
 use Rattle.std.specs.Char.{is_ascii_alphabetic, is_ascii_whitespace}
 use Rattle.std.specs.List.{prefix_len}
 use Rattle.std.specs.Str.{bytes_eq}

@@ -30,7 +30,7 @@ pub use copies::copy_each_script;
 pub use fault::{Fault, status_of};
 pub use files::{FileReader, Files, Paths};
 pub use judging::each_fault;
-pub use limits::MOST_UNITS;
+pub use limits::{MOST_UNITS, limits_are};
 pub use order::{Order, OrderKind};
 pub use place::TextPlace;
 pub use reading::{program_of, statements_of, take_script};

@@ -29,7 +29,7 @@ pub use erasing::AreaSet;
 pub use fault::{Cause, SchemaFault};
 pub use limits::{
     MOST_AREAS, MOST_CALC_ITEMS, MOST_DIGITS, MOST_ITEMS, MOST_MEMBERS, MOST_RECORD_TYPES,
-    MOST_SETS, MOST_TEXT_BYTES, SCHEMA_BYTES,
+    MOST_SETS, MOST_TEXT_BYTES, SCHEMA_BYTES, limits_are,
 };
 pub use names::is_name;
 pub use numbers::{AreaNo, ItemNo, RecordNo, SetNo};

@@ -43,7 +43,7 @@ pub use laws::{
     a_printed_moves_text_is_read_back, a_printed_turns_text_is_read_back,
     different_units_print_differently, echoed_lines_say_their_statements,
 };
-pub use limits::{MOST_MOVES, SCRIPT_BYTES};
+pub use limits::{MOST_MOVES, SCRIPT_BYTES, limits_are};
 pub use line::{
     Lines, ends_in_text, is_allowed, is_printable, is_statement, trimmed, without_last,
 };

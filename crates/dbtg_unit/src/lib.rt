@@ -55,7 +55,7 @@ pub use laws::{
 pub use legality::{
     effect_keeps_legal, opening_is_legal, replay_keeps_legal, units_never_conflict,
 };
-pub use limits::{LAST_UNIT, MOST_STATEMENTS};
+pub use limits::{LAST_UNIT, MOST_STATEMENTS, limits_are};
 pub use moves::{Move, Stepped};
 pub use order::{has_area, next_area};
 pub use owners::with_owners;
