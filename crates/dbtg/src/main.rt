@@ -317,15 +317,15 @@ fn print_programs<R: Threads + Wait + Sync>(
     }
 }
 
-// The turns of programs on threads, and then what is printed.
+// The turns of programs on threads, and then what is printed. Where nothing is printed, there are no turns to go by.
 fn print_programs_saved(
     rt: &HostRuntime,
     said: &PrintedOnThreads,
     saved: Option<&str>,
 ) -> ExitCode {
-    if are_saved(rt, said.turns.as_slice(), saved) {
-        let printed = &said.printed;
-        print_text(rt, printed.text.as_slice(), status_of_programs(printed))
+    let printed = &said.printed;
+    if printed.text.is_empty() || are_saved(rt, said.turns.as_slice(), saved) {
+        print_programs_text(rt, printed)
     } else {
         ExitCode::FAILURE
     }
@@ -352,8 +352,16 @@ fn print_said(
     call: &Call,
 ) -> ExitCode {
     match said {
-        Ok(said) => print_text(rt, said.text.as_slice(), status_of_programs(&said)),
+        Ok(said) => print_programs_text(rt, &said),
         Err(fault) => told_of(rt, &fault, paths, call),
+    }
+}
+
+// What is told of the first program, and then the text.
+fn print_programs_text(rt: &HostRuntime, said: &Printed) -> ExitCode {
+    match tell_text(rt, said.beside.as_slice()) {
+        Ok(()) => print_text(rt, said.text.as_slice(), status_of_programs(said)),
+        Err(_) => told(rt, &Fault::Memory),
     }
 }
 

@@ -60,6 +60,7 @@ fn explore_setting<W: Watch>(alloc: Global, watch: &W, setting: &Setting) -> Res
     Ok(Printed {
         text: setting.exploration_text(alloc, &all)?,
         failed: !all.failures.is_empty() || all.endless.is_some(),
+        beside: Vec::new(alloc),
     })
 }
 

@@ -1,3 +1,4 @@
+mod Told
 mod ReplaysRead
 mod UnitEntries
 mod CanBeMade

@@ -2,5 +2,6 @@ pub mod Ordering
 pub mod Explaining
 pub mod Replaying
 pub mod ByTurns
+pub mod Refused
 pub mod Laws
 pub mod Inside

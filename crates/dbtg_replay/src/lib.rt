@@ -12,7 +12,7 @@ mod serial;
 mod turns;
 
 pub use explaining::said_of_run;
-pub use first::refusals_of_first;
+pub use first::{FirstUnit, refusals_of_first, refusals_text};
 pub use laws::a_printed_replay_is_read_back;
 pub use ordering::{
     AllMoves, behind, first_turns, moves_behind_first, moves_of_turns, serial_turns,

@@ -1,4 +1,3 @@
-mod TextsJudged
 mod ProgramsRead
 mod Echoed
 pub mod Rows

@@ -1,7 +1,6 @@
 -- Programs that are read one after another, and what then holds of all.
 use Rattle.std.proofs.Common.{◌≡◌, ℕ, ◌+◌, ◌<◌, ◌≤◌, List, [], ◌∷◌, ◌++◌, length, map, None, Some, sym, ap, ◌∙◌, subst, true, arith}
 use Rattle.std.specs.Prelude.{Option, nat_le}
-use Rattle.std.specs.List.{list_any}
 use Rattle.std.proofs.lemmas.Bool.{and_parts}
 use Rattle.std.proofs.lemmas.Bool.Decides.{nat_tests}
 use Rattle.std.proofs.lemmas.List.{length-append, length-map, map_push}
@@ -22,7 +21,7 @@ use Rattle.dbtg_running.specs.declared.command.Printed.{Printed}
 use Rattle.dbtg_running.specs.declared.command.RunOptions.{RunOptions}
 use Rattle.dbtg_running.specs.Reading.{AllAccepted, ReadPrograms}
 use Rattle.dbtg_running.specs.declared.threads.PrintedOnThreads.{PrintedOnThreads}
-use Rattle.dbtg_running.specs.Running.{ReadsTurns, RunsHeld, failed, run_text}
+use Rattle.dbtg_running.specs.Running.{PrintsRun, ReadsTurns, RunsHeld, run_text}
 use Rattle.dbtg_running.specs.Threading.{IsPrintedOf, RunsOnThreads}
 
 accepted_behind : (lists : Lists) (front : List (List ℕ)) (text : List ℕ) → AllAccepted lists front → program_refusal lists text ≡ None → AllAccepted lists (front ++ text ∷ [])
@@ -49,9 +48,9 @@ programs_behind holds lists n text before after texts texts' so_far held e taken
 -- a run of the programs that were read, as it is printed
 pub run_is_read : (holds : TextPlace → List ℕ → Type 0) (lists : Lists) (count : ℕ) (which : OrderKind) (options : RunOptions) (programs : List Program) (texts : List (List ℕ)) (turns : Option (List ℕ)) (given : ProgramRun) (printed : Printed)
     → is_count count ≡ true → ReadSchema holds lists → (read : ReadPrograms holds lists count) × (programs ≡ map (program lists) read.texts) × (texts ≡ read.texts) → ReadsTurns holds which turns
-    → IsRunOf lists options.capacity programs (turns_of lists options.capacity programs options.around turns) given → printed.text.items ≡ run_text lists options.form texts given → printed.failed ≡ list_any (λ r. failed r.standing) given.programs
+    → IsRunOf lists options.capacity programs (turns_of lists options.capacity programs options.around turns) given → PrintsRun lists options texts given (run_text lists options.form texts given) printed
     → RunsHeld holds count which options printed
-run_is_read holds lists count which options programs texts turns given printed right schema read turns_too run text failed_is =
+run_is_read holds lists count which options programs texts turns given printed right schema read turns_too run is_printed =
     record {
       counted = right;
       lists = lists;
@@ -61,8 +60,7 @@ run_is_read holds lists count which options programs texts turns given printed r
       turns_too = turns_too;
       given = given;
       is_run = subst (λ ps. IsRunOf lists options.capacity ps (turns_of lists options.capacity ps options.around turns) given) read.1 run;
-      text = text ∙ ap (λ ts. run_text lists options.form ts given) read.2;
-      failed_is = failed_is;
+      is_printed = subst (λ ts. PrintsRun lists options ts given (run_text lists options.form ts given) printed) read.2 is_printed;
     }
 
 -- 1 to 8 programs were read

@@ -1,6 +1,6 @@
 -- What `run` prints of the texts that a source gives, and which fault it reports.
 -- texts and turns are bytes, lists is the schema that a text says; programs stand in the places of scripts.
-use Rattle.std.specs.Prelude.{ℕ, ◌≡◌, ◌++◌, Bool, true, false, List, Option, Some, None, ◌⊎◌, map}
+use Rattle.std.specs.Prelude.{ℕ, ◌≡◌, ◌++◌, ◌||◌, Bool, true, false, List, [], Option, Some, None, ◌⊎◌, if◌then◌else◌, length, map}
 use Rattle.std.specs.List.{list_any}
 use Rattle.dbtg_schema.specs.Lists.{Lists}
 use Rattle.dbtg_program.specs.declared.program.End.{End}
@@ -24,6 +24,7 @@ use Rattle.dbtg_replay.specs.Replaying.{shown_text}
 use Rattle.dbtg_running.specs.declared.command.Printed.{Printed}
 use Rattle.dbtg_running.specs.declared.command.RunOptions.{RunOptions}
 use Rattle.dbtg_running.specs.Echoing.{scripts_made}
+use Rattle.dbtg_running.specs.First.{never_ends, told_of_first}
 use Rattle.dbtg_running.specs.Reading.{ReadPrograms, ToldOfPrograms}
 
 -- WHAT IS PRINTED
@@ -60,7 +61,14 @@ abbrev pub run_text : Lists → AnswerForm → List (List ℕ) → ProgramRun �
 run_text lists form texts given =
     shown_text lists (unexplained form) (scripts_made lists (has_values form) 1 texts given.run.history) given.run ++ programs_text 1 (map (program lists) texts) given.programs
 
--- 1 to 8 programs, nothing is refused, and what is printed is the text of the run of what the texts say; the flag says whether one failed
+-- this text is printed of a run, unless the first program does not end; the flag says whether it does not, or a program failed; and
+-- beside the text it is told of the first program
+pub record PrintsRun (lists : Lists) (options : RunOptions) (texts : List (List ℕ)) (given : ProgramRun) (text : List ℕ) (printed : Printed) : Type 0 where
+  pub text_is : printed.text.items ≡ (if never_ends options.around (length texts) given.programs then [] else text)
+  pub failed_is : printed.failed ≡ (never_ends options.around (length texts) given.programs || list_any (λ r. failed r.standing) given.programs)
+  pub beside_is : printed.beside.items ≡ told_of_first lists options.capacity options.around texts given
+
+-- 1 to 8 programs, nothing is refused, and what is printed is the text of the run of what the texts say
 pub record RunsHeld (holds : TextPlace → List ℕ → Type 0) (count : ℕ) (which : OrderKind) (options : RunOptions) (printed : Printed) : Type 0 where
   pub counted : is_count count ≡ true
   pub lists : Lists
@@ -70,8 +78,7 @@ pub record RunsHeld (holds : TextPlace → List ℕ → Type 0) (count : ℕ) (w
   pub turns_too : ReadsTurns holds which turns
   pub given : ProgramRun
   pub is_run : IsRunOf lists options.capacity (map (program lists) programs.texts) (turns_of lists options.capacity (map (program lists) programs.texts) options.around turns) given
-  pub text : printed.text.items ≡ run_text lists options.form programs.texts given
-  pub failed_is : printed.failed ≡ list_any (λ r. failed r.standing) given.programs
+  pub is_printed : PrintsRun lists options programs.texts given (run_text lists options.form programs.texts given) printed
 
 -- WHICH FAULT IS REPORTED
 

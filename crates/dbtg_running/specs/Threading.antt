@@ -1,7 +1,6 @@
 -- What `run` prints of programs on threads.
 -- texts are bytes, lists is the schema that a text says; programs stand in the places of scripts.
 use Rattle.std.specs.Prelude.{ℕ, ◌≡◌, ◌++◌, true, List, [], ◌∷◌, codes, map}
-use Rattle.std.specs.List.{list_any}
 use Rattle.dbtg_schema.specs.Lists.{Lists}
 use Rattle.dbtg_script.specs.Printing.WordTexts.{turns_text}
 use Rattle.dbtg_program.specs.Reading.{program}
@@ -13,16 +12,15 @@ use Rattle.dbtg_command.specs.Sources.{ReadSchema}
 use Rattle.dbtg_running.specs.declared.command.RunOptions.{RunOptions}
 use Rattle.dbtg_running.specs.declared.threads.PrintedOnThreads.{PrintedOnThreads}
 use Rattle.dbtg_running.specs.Reading.{ReadPrograms}
-use Rattle.dbtg_running.specs.Running.{failed, run_text}
+use Rattle.dbtg_running.specs.Running.{PrintsRun, run_text}
 
 -- the line that says that the audit of the history gives the same image and units
 abbrev pub audit_line : List ℕ
 audit_line = codes "AUDIT EQUAL" ++ 10 ∷ []
 
--- the text of a run of the programs of these texts, followed by the line of the audit; the text of the turns; and whether a program failed
+-- the text of a run of the programs of these texts, followed by the line of the audit, is printed; and the text of the turns
 pub record IsPrintedOf (lists : Lists) (options : RunOptions) (texts : List (List ℕ)) (turns : List ℕ) (given : ProgramRun) (said : PrintedOnThreads) : Type 0 where
-  pub text : said.printed.text.items ≡ run_text lists options.form texts given ++ audit_line
-  pub failed_is : said.printed.failed ≡ list_any (λ r. failed r.standing) given.programs
+  pub is_printed : PrintsRun lists options texts given (run_text lists options.form texts given ++ audit_line) said.printed
   pub turns_are : said.turns.items ≡ turns_text turns
 
 -- 1 to 8 programs, nothing is refused, and what is printed is that of a run of them on threads, with its turns: what `run` prints by these

@@ -5,12 +5,13 @@ ghost use Rattle.dbtg_command.specs.Sources.{ReadSchema, ToldOfOrder};
 ghost use Rattle.dbtg_going.specs.Turns.{IsRunOf, turns_of};
 ghost use Rattle.dbtg_program.specs.Reading.{program};
 ghost use Rattle.dbtg_running.specs.Reading.{ReadPrograms};
-ghost use Rattle.dbtg_running.specs.Running.{ReadsTurns, RunsHeld, ToldOfRun, failed, has_values, run_text as said_text, unexplained};
+ghost use Rattle.dbtg_running.specs.Running.{PrintsRun, ReadsTurns, RunsHeld, ToldOfRun, failed, has_values, run_text as said_text, unexplained};
 ghost use Rattle.dbtg_schema.specs.Sound.{IsSound};
 ghost use Rattle.std.specs.List.{list_any};
-ghost use Rattle.std.specs.Prelude.{◌≡◌, ◌≤◌, IfErr, IfOk, length, map, true};
+ghost use Rattle.std.specs.Prelude.{◌≡◌, ◌≤◌, [], IfErr, IfOk, length, map, true};
 
 use crate::echo::scripts_made;
+use crate::first::{never_ends, told_of_first};
 use crate::programs::{Programs, read_programs};
 use dbtg_command::{Fault, OrderKind, Source, read_schema, read_turns};
 use dbtg_going::{
@@ -30,11 +31,27 @@ pub struct RunOptions {
     pub form: AnswerForm,
 }
 
-/// What is printed, and whether a program ended by ASSERT, SIZE or ASTRAY.
+/// What is printed; whether a program ended by ASSERT, SIZE or ASTRAY, or the first one does not end; and what is told beside the text.
 #[derive(Drop)]
 pub struct Printed {
     pub text: Vec<u8>,
     pub failed: bool,
+    pub beside: Vec<u8>,
+}
+
+impl Printed {
+    /// What is printed of a first program that does not end: nothing but what is told of it.
+    pub fn nothing(alloc: Global, beside: Vec<u8>) -> Self
+        ensures text { result.text.items ≡ [] }
+        ensures failed { result.failed ≡ true }
+        ensures beside { result.beside ≡ beside }
+    {
+        Self {
+            text: Vec::new(alloc),
+            failed: true,
+            beside,
+        }
+    }
 }
 
 fn failed(standing: Standing) -> bool
@@ -96,26 +113,44 @@ fn text_with_statements(
     Ok(out)
 }
 
-/// What is printed of a run of these programs.
-pub fn print_run(
+fn text_of_run(
     alloc: Global,
     schema: &Schema,
     programs: &Programs,
     form: AnswerForm,
     given: &ProgramRun,
+) -> Result<Vec<u8>, AllocError>
+    requires few { length programs.now.texts.items ≤ LAST_UNIT }
+    requires are { programs.now.list.items ≡ map (program schema.now) programs.now.texts.items }
+    ensures { IfOk result (λ out. out.items ≡ said_text schema.now form programs.now.texts.items given.now) }
+{
+    match form {
+        AnswerForm::Plain => run_text(alloc, schema, programs.list.as_slice(), given),
+        _ => text_with_statements(alloc, schema, programs, form, given),
+    }
+}
+
+/// What is printed of a run of these programs.
+pub fn print_run(
+    alloc: Global,
+    schema: &Schema,
+    programs: &Programs,
+    options: RunOptions,
+    given: &ProgramRun,
 ) -> Result<Printed, AllocError>
     requires few { length programs.now.texts.items ≤ LAST_UNIT }
     requires are { programs.now.list.items ≡ map (program schema.now) programs.now.texts.items }
-    ensures text { IfOk result (λ printed. printed.text.items ≡ said_text schema.now form programs.now.texts.items given.now) }
-    ensures failed { IfOk result (λ printed. printed.failed ≡ list_any (λ r. failed r.standing) given.now.programs) }
+    ensures { IfOk result (PrintsRun schema.now options programs.now.texts.items given.now (said_text schema.now options.form programs.now.texts.items given.now)) }
 {
-    let text = match form {
-        AnswerForm::Plain => run_text(alloc, schema, programs.list.as_slice(), given)?,
-        _ => text_with_statements(alloc, schema, programs, form, given)?,
-    };
+    let beside = told_of_first(alloc, schema, programs, options, given)?;
+    let (units, reached) = (programs.texts.as_slice().len() as u8, given.programs.as_slice());
+    if never_ends(options.around, units, reached) {
+        return Ok(Printed::nothing(alloc, beside));
+    }
     Ok(Printed {
-        text,
-        failed: any_failed(given.programs.as_slice()),
+        text: text_of_run(alloc, schema, programs, options.form, given)?,
+        failed: any_failed(reached),
+        beside,
     })
 }
 
@@ -174,7 +209,7 @@ fn run_read<S: Source>(
 {
     let turns = turns_wanted(alloc, source)?;
     let given = run_wanted(alloc, known, programs.list.as_slice(), &turns, options)?;
-    Ok(print_run(alloc, known, programs, options.form, &given)?)
+    Ok(print_run(alloc, known, programs, options, &given)?)
 }
 
 // What is printed of the programs over a schema that was read.

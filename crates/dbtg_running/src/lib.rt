@@ -5,7 +5,7 @@
 mod check;
 mod command;
 mod echo;
-mod judging;
+mod first;
 mod laws;
 mod programs;
 mod scripts_on_threads;
@@ -13,6 +13,7 @@ mod threads;
 
 pub use check::check_programs;
 pub use command::{Printed, RunOptions, run, turns_wanted};
+pub use first::{never_ends, told_of_first};
 pub use laws::a_printed_run_is_read_back;
 pub use programs::{Programs, read_programs};
 pub use scripts_on_threads::{PrintedScripts, run_scripts_on_threads, threads_bytes};

@@ -16,10 +16,9 @@ ghost use Rattle.dbtg_command.specs.Sources.{ReadSchema, ToldOfRun};
 ghost use Rattle.dbtg_command.specs.declared.order.Order.TheVariants as by;
 ghost use Rattle.dbtg_command.specs.declared.order.OrderKind.TheVariants.{Serial};
 
-use crate::judging::read_scripts_on_threads;
 use dbtg_command::{AtHand, Fault, Order, Source, copy_each_script};
 use dbtg_replay::replay::{AnswerForm, Shown, push_given, schema_for_run};
-use dbtg_replay::{Scripts, first_turns, units_in_turn};
+use dbtg_replay::{Scripts, first_turns, read_scripts_with_texts, units_in_turn};
 use dbtg_run::{Database, NoGate, RunUnit, Settled, run_script, run_units};
 use dbtg_schema::{Row, Schema};
 use dbtg_script::turns_text;
@@ -233,7 +232,7 @@ fn threads_known<R: Threads + Wait + Sync, S: Source>(
     ensures done { IfOk result (λ said. ThreadsHeld (S.holds source.now) (S.count source.now) first form capacity said.printed.items said.turns.items) }
     ensures refused { IfErr result (λ fault. ToldOfRun (S.holds source.now) (S.fails source.now) fault (S.count source.now) Serial) }
 {
-    let Scripts { statements, texts } = read_scripts_on_threads(rt, alloc, source, known)?;
+    let Scripts { statements, texts } = read_scripts_with_texts(alloc, source, known)?;
     let shown = Shown {
         form,
         texts: texts.as_slice(),

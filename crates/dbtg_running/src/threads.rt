@@ -10,6 +10,7 @@ ghost use Rattle.dbtg_schema.specs.Sound.{IsSound};
 ghost use Rattle.std.specs.Prelude.{◌≡◌, ◌≤◌, IfErr, IfOk, length, map, true};
 
 use crate::command::{Printed, RunOptions, print_run};
+use crate::first::never_ends;
 use crate::programs::{Programs, read_programs};
 use dbtg_command::{Fault, Source, read_schema};
 use dbtg_replay::replay::check_count;
@@ -40,8 +41,12 @@ fn print_audited(
     requires are { programs.now.list.items ≡ map (program schema.now) programs.now.texts.items }
     ensures { IfOk result (IsPrintedOf schema.now options programs.now.texts.items on.now.turns.items on.now.given) }
 {
-    let mut printed = print_run(alloc, schema, programs, options.form, &on.given)?;
-    printed.text.extend_from_slice(b"AUDIT EQUAL\n")?;
+    let given = &on.given;
+    let mut printed = print_run(alloc, schema, programs, options, given)?;
+    let units = programs.texts.as_slice().len() as u8;
+    if !never_ends(options.around, units, given.programs.as_slice()) {
+        printed.text.extend_from_slice(b"AUDIT EQUAL\n")?;
+    }
     Ok(PrintedOnThreads {
         printed,
         turns: turns_text(alloc, on.turns.as_slice())?,

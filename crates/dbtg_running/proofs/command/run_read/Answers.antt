@@ -6,4 +6,4 @@ pub returns-clause-done : goal.returns-clause-done
 returns-clause-done g c =
     let programs = c.requires.programs in
     run_is_read _ c.args.known.now _ _ c.args.options c.as_slice.result.now c.args.programs.now.texts.items c.in_ok-turns.turns c.in_ok-given.given c.in_ok-print_run.field-0 c.requires.counted c.requires.schema
-    (programs.0, c.as_slice.ensures.value ∙ programs.1, programs.2) c.in_ok-turns.ensures.read c.in_ok-given.ensures c.in_ok-print_run.ensures.text c.in_ok-print_run.ensures.failed
+    (programs.0, c.as_slice.ensures.value ∙ programs.1, programs.2) c.in_ok-turns.ensures.read c.in_ok-given.ensures c.in_ok-print_run.ensures
