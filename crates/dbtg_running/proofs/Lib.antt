@@ -7,3 +7,4 @@ mod ReadBack
 mod ScriptsOnThreads
 mod SavedTurns
 mod TextsAtHand
+mod RunAgain
