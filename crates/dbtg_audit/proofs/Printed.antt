@@ -1,8 +1,9 @@
 -- The audit of a trace that was printed is equal.
-use Rattle.std.proofs.Common.{◌≡◌, ℕ, ◌+◌, Bool, true, false, ◌&&◌, ◌||◌, List, [], ◌∷◌, length, map, Option, Some, None, refl, sym, ap, ◌∙◌, true≢false}
+use Rattle.std.proofs.Common.{◌≡◌, ℕ, ◌+◌, Bool, true, false, ◌&&◌, ◌||◌, List, [], ◌∷◌, ◌++◌, drop, length, map, Option, Some, None, refl, sym, ap, ◌∙◌, true≢false}
 use Rattle.std.specs.List.{range_with_len}
 use Rattle.std.proofs.lemmas.Bool.{and_from, eq-eqb}
-use Rattle.std.proofs.lemmas.List.{length-map}
+use Rattle.std.proofs.Math.Seq.{drop-append_seam}
+use Rattle.std.proofs.lemmas.List.{length-map, map-append}
 use Rattle.dbtg_schema.specs.Lists.{Lists}
 use Rattle.dbtg_cells.specs.Keys.{key_eq, values_eq}
 use Rattle.dbtg_cells.specs.declared.key.DbKey.{DbKey}
@@ -14,10 +15,9 @@ use Rattle.dbtg_unit.specs.Database.Laws.Replay.{IsHistoryOf, answers, opening_s
 use Rattle.dbtg_unit.specs.Database.Laws.Replaying.{statements_of}
 use Rattle.dbtg_unit.specs.Database.Statements.Codes.{status_code}
 use Rattle.dbtg_unit.proofs.Public.{statements_determine}
-use Rattle.dbtg_trace.specs.Laws.{all_said, as_said}
-use Rattle.dbtg_trace.specs.declared.traced.Traced.{Traced}
+use Rattle.dbtg_trace.specs.Laws.{IsReadBack, all_said, as_said}
 use Rattle.dbtg_audit.specs.declared.auditing.Audited.TheVariants.{Equal, Differs}
-use Rattle.dbtg_audit.specs.Auditing.{agrees, all_so, asked, is_so}
+use Rattle.dbtg_audit.specs.Auditing.{agrees, all_so, asked, behind_load, is_so, loads, units_with}
 use Rattle.dbtg_audit.specs.Laws.{PrintedTraceIsEqual, recorded_of}
 
 -- WHAT IS SAID OF ENTRIES HOLDS OF THEM
@@ -73,10 +73,18 @@ same_history schema capacity units xs ys is_xs is_ys s =
 
 -- THE AUDIT
 
+-- the statements of the script that is made first, and those of the trace
+all_asked : (schema : Lists) (texts : List (List ℕ)) (load : Option (List Statement)) (begin entries : List Entry) → statements_of begin ≡ loads (length texts) load → IsReadBack schema texts entries
+    → loads (length texts) load ++ asked (recorded_of schema texts load entries).traced ≡ statements_of (begin ++ entries)
+all_asked schema texts load begin entries begun back =
+    (λ i. sym begun i ++ (ap asked back.1 ∙ own_asked 1 entries) i) ∙ sym (map-append (λ (e : Entry). (e.unit, e.statement)) begin entries)
+
 pub printed_is_equal : PrintedTraceIsEqual
-printed_is_equal schema capacity texts history back is statuses (Equal given) audited =
-    same_history schema capacity (length texts) given.history history audited.leads.history_of is (audited.statements_are ∙ ap asked back.1 ∙ own_asked 1 history)
-printed_is_equal schema capacity texts history back is statuses (Differs found) audited =
-    let asked_is : statements_of history ≡ asked (recorded_of schema texts history).traced = sym (ap asked back.1 ∙ own_asked 1 history) in
-    let so : all_so statuses (recorded_of schema texts history).traced history ≡ true = ap (λ (ts : List Traced). all_so statuses ts history) back.1 ∙ own_all_so statuses 1 history in
-    absurd (true≢false (sym so ∙ audited.1 history (record { statements_are = asked_is; history_of = is })))
+printed_is_equal schema capacity texts load begin entries begun back is statuses (Equal given) audited =
+    same_history schema capacity (units_with (length texts) load) given.history (begin ++ entries) audited.leads.history_of is (audited.statements_are ∙ all_asked schema texts load begin entries begun back)
+printed_is_equal schema capacity texts load begin entries begun back is statuses (Differs found) audited =
+    let recorded = recorded_of schema texts load entries in
+    let long : length (loads (length texts) load) ≡ length begin = sym (ap length begun) ∙ length-map begin (λ (e : Entry). (e.unit, e.statement)) in
+    let behind : behind_load recorded (begin ++ entries) ≡ entries = ap (λ n. drop n (begin ++ entries)) long ∙ drop-append_seam begin entries in
+    let so : all_so statuses recorded.traced (behind_load recorded (begin ++ entries)) ≡ true = (λ i. all_so statuses (back.1 i) (behind i)) ∙ own_all_so statuses 1 entries in
+    absurd (true≢false (sym so ∙ audited.1 (begin ++ entries) (record { statements_are = sym (all_asked schema texts load begin entries begun back); history_of = is })))

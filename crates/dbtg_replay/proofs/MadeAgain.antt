@@ -57,7 +57,7 @@ few_each lists (text ∷ texts) accepted zero below j at =
     subst (λ n. n ≤ MOST_STATEMENTS) e (few_statements lists text accepted.0)
 few_each lists (text ∷ texts) accepted (suc k) below j at = few_each lists texts accepted.1 k (omega (arith, below)) j at
 
-numbers : (n : ℕ) (es : List Entry) → n ≤ 99 → AllWithin n es → list_all is_unit_number (map (λ (e : Entry). e.unit) es) ≡ true
+pub numbers : (n : ℕ) (es : List Entry) → n ≤ 99 → AllWithin n es → list_all is_unit_number (map (λ (e : Entry). e.unit) es) ≡ true
 numbers n [] most within = refl
 numbers n (e ∷ es) most within =
     let low : 1 ≤ e.unit = omega (arith, within.0) in

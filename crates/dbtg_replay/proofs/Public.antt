@@ -5,3 +5,8 @@
 pub use Rattle.dbtg_replay.proofs.MadeAgain.{made_again, made_again_behind}
 -- after this many statements there is room for a line without a fault that holds a statement
 pub use Rattle.dbtg_replay.proofs.ScriptLength.{room_for}
+-- in a history of this many units in which none makes more statements than it has left, each entry is of one of them, and there are not more
+-- entries than statements
+pub use Rattle.dbtg_replay.proofs.UnitEntries.{AllWithin, all_made, all_within, total_few}
+-- units up to 99 are numbers that turns may name
+pub use Rattle.dbtg_replay.proofs.MadeAgain.{numbers}

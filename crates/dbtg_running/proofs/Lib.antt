@@ -6,3 +6,4 @@ mod ReadBack
 mod ScriptsOnThreads
 mod SavedTurns
 mod TextsAtHand
+mod RunAgain

@@ -23,6 +23,7 @@ use Rattle.dbtg_running.specs.Reading.{AllAccepted, ReadPrograms}
 use Rattle.dbtg_running.specs.declared.threads.PrintedOnThreads.{PrintedOnThreads}
 use Rattle.dbtg_running.specs.Running.{PrintsRun, ReadsTurns, RunsHeld, run_text}
 use Rattle.dbtg_running.specs.Threading.{IsPrintedOf, RunsOnThreads}
+use Rattle.dbtg_running.proofs.RunAgain.{saved_again}
 
 accepted_behind : (lists : Lists) (front : List (List ℕ)) (text : List ℕ) → AllAccepted lists front → program_refusal lists text ≡ None → AllAccepted lists (front ++ text ∷ [])
 accepted_behind lists [] text all one = (one, tt)
@@ -80,6 +81,10 @@ pub runs_on_threads : (holds : TextPlace → List ℕ → Type 0) (lists : Lists
     → is_count count ≡ true → ReadSchema holds lists → (read : ReadPrograms holds lists count) × (programs ≡ map (program lists) read.texts) × (texts ≡ read.texts)
     → IsRunOnThreads lists options.capacity programs options.around turns given → IsPrintedOf lists options texts turns given said → RunsOnThreads holds count options said
 runs_on_threads holds lists count options programs texts turns given said right schema read run printed =
+    let is_run = subst (λ ps. IsRunOnThreads lists options.capacity ps options.around turns given) read.1 run in
+    let printed_is = subst (λ ts. IsPrintedOf lists options ts turns given said) read.2 printed in
+    let few = few_programs holds lists count programs texts right read in
+    let saved = saved_again lists options read.0.texts turns given said (let long = ap length read.2 in omega (arith, long, few.2)) is_run printed_is in
     record {
       counted = right;
       lists = lists;
@@ -87,6 +92,8 @@ runs_on_threads holds lists count options programs texts turns given said right 
       programs = read.0;
       turns = turns;
       given = given;
-      is_run = subst (λ ps. IsRunOnThreads lists options.capacity ps options.around turns given) read.1 run;
-      printed = subst (λ ts. IsPrintedOf lists options ts turns given said) read.2 printed;
+      is_run = is_run;
+      printed = printed_is;
+      turns_too = saved.0;
+      again = saved.1;
     }

@@ -1,13 +1,15 @@
 -- What `run` prints of programs on threads.
 -- texts are bytes, lists is the schema that a text says; programs stand in the places of scripts.
-use Rattle.std.specs.Prelude.{ℕ, ◌≡◌, ◌++◌, true, List, [], ◌∷◌, codes, map}
+use Rattle.std.specs.Prelude.{ℕ, ◌≡◌, ◌++◌, true, List, [], ◌∷◌, Some, None, codes, map}
 use Rattle.dbtg_schema.specs.Lists.{Lists}
 use Rattle.dbtg_script.specs.Printing.WordTexts.{turns_text}
+use Rattle.dbtg_script.specs.Turns.{turns_refusal}
 use Rattle.dbtg_program.specs.Reading.{program}
 use Rattle.dbtg_going.specs.declared.going.ProgramRun.{ProgramRun}
+use Rattle.dbtg_going.specs.Turns.{IsRunOf, turns_of}
 use Rattle.dbtg_threading.specs.Threading.{IsRunOnThreads}
 use Rattle.dbtg_command.specs.declared.place.TextPlace.{TextPlace}
-use Rattle.dbtg_command.specs.Refusals.{is_count}
+use Rattle.dbtg_command.specs.Refusals.{is_count, turns_in}
 use Rattle.dbtg_command.specs.Sources.{ReadSchema}
 use Rattle.dbtg_running.specs.declared.command.RunOptions.{RunOptions}
 use Rattle.dbtg_running.specs.declared.threads.PrintedOnThreads.{PrintedOnThreads}
@@ -23,8 +25,8 @@ pub record IsPrintedOf (lists : Lists) (options : RunOptions) (texts : List (Lis
   pub is_printed : PrintsRun lists options texts given (run_text lists options.form texts given ++ audit_line) said.printed
   pub turns_are : said.turns.items ≡ turns_text turns
 
--- 1 to 8 programs, nothing is refused, and what is printed is that of a run of them on threads, with its turns: what `run` prints by these
--- turns, and the line of the audit
+-- 1 to 8 programs, nothing is refused, and what is printed is that of a run of them on threads, with its turns. The turns are accepted, and
+-- what `run` prints by them is the same except for the last line
 pub record RunsOnThreads (holds : TextPlace → List ℕ → Type 0) (count : ℕ) (options : RunOptions) (said : PrintedOnThreads) : Type 0 where
   pub counted : is_count count ≡ true
   pub lists : Lists
@@ -34,3 +36,6 @@ pub record RunsOnThreads (holds : TextPlace → List ℕ → Type 0) (count : �
   pub given : ProgramRun
   pub is_run : IsRunOnThreads lists options.capacity (map (program lists) programs.texts) options.around turns given
   pub printed : IsPrintedOf lists options programs.texts turns given said
+  pub turns_too : turns_refusal said.turns.items ≡ None
+  pub again : (by : ProgramRun) → IsRunOf lists options.capacity (map (program lists) programs.texts) (turns_of lists options.capacity (map (program lists) programs.texts) options.around (Some (turns_in said.turns.items))) by
+      → PrintsRun lists options programs.texts by (run_text lists options.form programs.texts by ++ audit_line) said.printed

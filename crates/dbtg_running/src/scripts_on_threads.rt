@@ -1,5 +1,5 @@
 //! The command `threads`: running scripts on threads, and the text of the result.
-ghost use Rattle.std.specs.Prelude.{◌≡◌, ◌<◌, ◌++◌, ℕ, All, List, IfErr, IfOk, IfSome, false, length, map, true};
+ghost use Rattle.std.specs.Prelude.{◌≡◌, ◌<◌, ◌++◌, ℕ, All, List, IfErr, IfNone, IfOk, IfSome, false, length, map, true};
 ghost use Rattle.dbtg_schema.specs.Sound.{IsSound};
 ghost use Rattle.dbtg_unit.specs.Database.Statements.Fits.{fits};
 ghost use Rattle.dbtg_script.specs.Printing.WordTexts.{turns_text};
@@ -84,6 +84,7 @@ fn said_of(
 ) -> Result<Option<PrintedScripts>, AllocError>
     ensures printed { IfOk result (λ found. IfSome found (λ said. said.printed.items ≡ shown_text schema.now shown.entry.form shown.entry.texts.now given.now ++ audit_line)) }
     ensures turns { IfOk result (λ found. IfSome found (λ said. (behind : List ℕ) × (map (λ e. e.unit) given.now.history ≡ first.now ++ behind) × (said.turns.items ≡ turns_text behind))) }
+    ensures none { IfOk result (λ found. IfNone found ((behind : List ℕ) → map (λ e. e.unit) given.now.history ≡ first.now ++ behind → ⊥)) }
 {
     let units = units_in_turn(alloc, given.history.as_slice())?;
     let Some(behind) = units.as_slice().strip_prefix(first) else {

@@ -57,7 +57,7 @@ and_no : (b : Bool) → (b && false) ≡ false
 and_no true = refl
 and_no false = refl
 
-same_unit : (u : ℕ) → (u == u) ≡ true
+pub same_unit : (u : ℕ) → (u == u) ≡ true
 same_unit u = grind arith
 
 module _ (around : Around) (units : ℕ) where
@@ -75,7 +75,7 @@ module _ (around : Around) (units : ℕ) where
       let f = others around units + 1 in
       ap (λ b. not (b && f == f) && is_heard around units f) first ∙ ap (λ b. not b && is_heard around units f) (same_unit f)
 
-  last_is_not : around.last ≡ true → is_between around units units ≡ false
+  pub last_is_not : around.last ≡ true → is_between around units units ≡ false
   last_is_not last =
       let front = not (around.first && units == others around units + 1) in
       ap (λ b. front && not (b && units == units)) last ∙ ap (λ b. front && not b) (same_unit units) ∙ and_no front
@@ -97,20 +97,20 @@ module _ (around : Around) (units : ℕ) where
       sym (ap (filter p) is.turns_are ∙ filter-append p fronts (between ++ backs) ∙ ap (λ vs. vs ++ filter p (between ++ backs)) (fronts_left_out around.first refl is.front is.front_none)
       ∙ filter-append p between backs ∙ (λ i. all_kept p between is.others_only i ++ backs_left_out around.last refl is.back is.back_none i) ∙ append-nil between)
 
+  pub not_first : (u : ℕ) → around.first ≡ true → is_between around units u ≡ true → u ≢ others around units + 1
+  not_first u first between same =
+      let apart = (and_parts (not (around.first && u == others around units + 1)) (is_heard around units u) between).0 in
+      let eq : (u == others around units + 1) ≡ true = grind (arith, nat_tests, same) in
+      let both : (around.first && u == others around units + 1) ≡ true = ap (λ b. b && u == others around units + 1) first ∙ eq in
+      let fails : not (around.first && u == others around units + 1) ≡ false = ap not both in
+      absurd (cc (fails, apart))
+
   -- none of them belongs to the first unit
   miss_first : around.first ≡ true → (us : List ℕ) → list_all (is_between around units) us ≡ true → Miss (others around units + 1) us
   miss_first first [] all = tt
   miss_first first (u ∷ us) all =
       let parts = and_parts (is_between around units u) (list_all (is_between around units) us) all in
-      let apart = (and_parts (not (around.first && u == others around units + 1)) (is_heard around units u) parts.0).0 in
-      (other u apart, miss_first first us parts.1)
-    where
-      other : (u : ℕ) → not (around.first && u == others around units + 1) ≡ true → u ≢ others around units + 1
-      other u apart same =
-          let eq : (u == others around units + 1) ≡ true = grind (arith, nat_tests, same) in
-          let both : (around.first && u == others around units + 1) ≡ true = ap (λ b. b && u == others around units + 1) first ∙ eq in
-          let fails : not (around.first && u == others around units + 1) ≡ false = ap not both in
-          absurd (cc (fails, apart))
+      (not_first u first parts.0, miss_first first us parts.1)
 
 one_less_is_less : (b : Bool) (n : ℕ) → one_less b n ≤ n
 one_less_is_less true n = omega arith

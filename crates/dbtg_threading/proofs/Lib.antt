@@ -2,3 +2,4 @@ pub mod Gone
 pub mod Crosses
 pub mod Again
 pub mod Around
+mod Found

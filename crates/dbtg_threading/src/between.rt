@@ -4,7 +4,7 @@ ghost use Rattle.dbtg_threading.specs.Inside.Between.{AreBetween};
 ghost use Rattle.dbtg_threading.specs.Threading.{is_between};
 ghost use Rattle.dbtg_unit.specs.declared.limits.TheConstants.{MOST_STATEMENTS as most};
 ghost use Rattle.std.specs.List.{list_all};
-ghost use Rattle.std.specs.Prelude.{◌≡◌, ◌≢◌, ◌≤◌, IfSome, drop, false, length, replicate, take, true};
+ghost use Rattle.std.specs.Prelude.{◌≡◌, ◌≢◌, ◌<◌, ◌≤◌, ℕ, IfNone, IfSome, List, drop, false, length, replicate, slice_index, take, true};
 
 use dbtg_going::Around;
 use dbtg_unit::MOST_STATEMENTS;
@@ -14,6 +14,7 @@ fn leading(turns: &[u8], unit: u8) -> usize
     ensures within { result ≤ length turns.now }
     ensures few { result ≤ most }
     ensures are { take result turns.now ≡ replicate result unit }
+    ensures all { result < length turns.now → result < most → slice_index turns.now result ≢ unit }
 {
     let mut count = 0;
     while count < turns.len() && count < MOST_STATEMENTS && turns[count] == unit {
@@ -34,6 +35,7 @@ fn is_between(around: Around, units: u8, unit: u8) -> bool
 fn leading_between(around: Around, units: u8, turns: &[u8]) -> usize
     ensures within { result ≤ length turns.now }
     ensures are { list_all (is_between around units) (take result turns.now) ≡ true }
+    ensures all { result < length turns.now → is_between around units (slice_index turns.now result) ≡ false }
 {
     let mut count = 0;
     while count < turns.len() && is_between(around, units, turns[count]) {
@@ -48,13 +50,15 @@ fn leading_if(there: bool, turns: &[u8], unit: u8) -> usize
     ensures few { result ≤ most }
     ensures are { take result turns.now ≡ replicate result unit }
     ensures none { there ≡ false → result ≡ 0 }
+    ensures all { there ≡ true → result < length turns.now → result < most → slice_index turns.now result ≢ unit }
 {
     if there { leading(turns, unit) } else { 0 }
 }
 
 // Is the first unit, if there is one, other than the last?
 fn are_apart(there: bool, first: u8, last: u8) -> bool
-    ensures { result ≡ true → there ≡ true → first ≢ last }
+    ensures apart { result ≡ true → there ≡ true → first ≢ last }
+    ensures one { result ≡ false → (there ≡ true) × (first ≡ last) }
 {
     !there || first != last
 }
@@ -72,7 +76,8 @@ fn cut(turns: &[u8], count: usize) -> (&[u8], &[u8])
 /// after them.
 pub fn turns_between(around: Around, units: u8, turns: &[u8]) -> Option<&[u8]>
     requires { units ≤ 8 }
-    ensures { IfSome result (λ between. AreBetween around units turns.now between.now) }
+    ensures found { IfSome result (λ between. AreBetween around units turns.now between.now) }
+    ensures none { IfNone result ((between : List ℕ) → AreBetween around units turns.now between → ⊥) }
 {
     let first = around.others(units) + 1;
     let front = leading_if(around.first, turns, first);

@@ -4,7 +4,7 @@ ghost use Rattle.dbtg_schema.specs.Sound.{IsSound};
 ghost use Rattle.dbtg_threading.specs.Inside.Gone.{HaveMade, IsHistoryOfAll, each_reached};
 ghost use Rattle.dbtg_threading.specs.Inside.Between.{AreBetween};
 ghost use Rattle.dbtg_threading.specs.Threading.{IsRunOnThreads};
-ghost use Rattle.std.specs.Prelude.{◌≡◌, ◌≤◌, [], IfOk, IfSome, length, map};
+ghost use Rattle.std.specs.Prelude.{◌≡◌, ◌≤◌, ℕ, [], IfNone, IfOk, IfSome, List, length, map};
 
 use crate::abreast::{Lineup, run_around};
 use crate::between::turns_between;
@@ -55,6 +55,13 @@ fn settled_of<R: Threads + Wait + Sync>(
     }
 }
 
+// The units of the entries, in their order.
+fn units_in_turn(alloc: Global, history: &[Entry]) -> Result<Vec<u8>, AllocError>
+    ensures { IfOk result (λ units. units.items ≡ map (λ e. e.unit) history.now) }
+{
+    history.iter().map(|entry| entry.unit).collect(alloc)
+}
+
 // What a history means if the first program made its statements before all others and the last one after them.
 fn said_of(
     alloc: Global,
@@ -67,8 +74,9 @@ fn said_of(
     requires made { HaveMade schema.now programs.now history.now }
     ensures programs { IfOk result (λ found. IfSome found (λ said. said.programs ≡ each_reached schema.now 1 programs.now history.now)) }
     ensures turns { IfOk result (λ found. IfSome found (λ said. AreBetween around (length programs.now) (map (λ e. e.unit) history.now) said.turns.items)) }
+    ensures none { IfOk result (λ found. IfNone found ((between : List ℕ) → AreBetween around (length programs.now) (map (λ e. e.unit) history.now) between → ⊥)) }
 {
-    let units: Vec<u8> = history.iter().map(|entry| entry.unit).collect(alloc)?;
+    let units = units_in_turn(alloc, history)?;
     let Some(between) = turns_between(around, programs.len() as u8, units.as_slice()) else {
         return Ok(None);
     };
