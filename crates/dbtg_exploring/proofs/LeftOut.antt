@@ -1,5 +1,6 @@
 -- Turns that make nothing can be left out.
-use Rattle.std.proofs.Common.{◌≡◌, ℕ, List, [], ◌∷◌, ◌++◌, length, map, Option, Some, None, ◌⊎◌, inl, inr, refl, sym, ap, ◌∙◌, subst}
+use Rattle.std.proofs.Common.{◌≡◌, ℕ, false, List, [], ◌∷◌, ◌++◌, length, map, Option, Some, None, ◌⊎◌, inl, inr, refl, sym, ap, ◌∙◌, subst}
+use Rattle.std.specs.Prelude.{filter}
 use Rattle.std.proofs.lemmas.List.{append-nil, append_assoc}
 use Rattle.dbtg_schema.specs.Lists.{Lists}
 use Rattle.dbtg_unit.specs.declared.statement.Statement.{Statement}
@@ -7,7 +8,8 @@ use Rattle.dbtg_unit.specs.declared.unit.Entry.{Entry}
 use Rattle.dbtg_unit.specs.Database.Statements.Effect.{StatementEffect}
 use Rattle.dbtg_unit.specs.Database.Laws.Replay.{opening_state, effect_of_unit, replay}
 use Rattle.dbtg_program.specs.declared.program.Program.{Program}
-use Rattle.dbtg_going.specs.Turns.{after_turn, after_turns, made, statement_of, with_effect_of}
+use Rattle.dbtg_going.specs.Turns.{after_turn, after_turns, is_heard, made, statement_of, turns_of, with_effect_of}
+use Rattle.dbtg_going.proofs.FirstAndLast.{all_heard}
 
 -- the units of the statements, in turn
 abbrev pub units : List Entry → List ℕ
@@ -52,8 +54,15 @@ module _ (schema : Lists) (capacity : ℕ) (programs : List Program) where
   same_made history [] = ([], sym (append-nil history), sym (append-nil history))
   same_made history (u ∷ turns) = by_turn history u turns (made_one history u (statement_of schema programs history u)) (λ new. same_made new turns)
 
+  -- if programs do not wait for others, all turns are taken
+  pub all_taken : (turns : List ℕ) → turns_of schema capacity programs (record { first = false; last = false }) (Some turns) ≡ turns
+  all_taken turns = append-nil (filter (is_heard (record { first = false; last = false }) (length programs)) turns) ∙ all_heard (length programs) turns
+
   -- the same for all that turns make from the beginning
   pub begins_alike : (turns : List ℕ) → after [] (units (after [] turns)) ≡ after [] turns
   begins_alike turns =
       let rest = same_made [] turns in
       subst (λ h. after [] (units h) ≡ h) (sym rest.1) rest.2
+
+  pub begins_after : (turns : List ℕ) (history : List Entry) (begun : List ℕ) → history ≡ after [] turns → begun ≡ units history → after [] begun ≡ after [] turns
+  begins_after turns history begun made are = ap (after []) (are ∙ ap units made) ∙ begins_alike turns

@@ -15,10 +15,10 @@ use Rattle.dbtg_running.specs.declared.command.Printed.{Printed}
 use Rattle.dbtg_running.specs.Reading.{ReadPrograms}
 use Rattle.dbtg_running.specs.Running.{ReadsTurns}
 use Rattle.dbtg_exploring.specs.declared.setting.Exploring.{Exploring}
-use Rattle.dbtg_exploring.specs.Exploring.{ExploresHeld, GivesUp, IsExploration, ReadMeeting, ToldOfExploring, programs_in, told_in}
+use Rattle.dbtg_exploring.specs.Exploring.{ExploresHeld, GivesUp, IsListed, IsTooLarge, ReadMeeting, ToldOfExploring, programs_in, told_in}
 
 -- want of memory can always be reported
-pub without_memory : (schema : Lists) (programs : List Program) (told : List ℕ) (asked : Exploring) → GivesUp schema programs told asked Memory
+pub without_memory : (schema : Lists) (programs : List Program) (told : List ℕ) (asked : Exploring) → IsTooLarge schema programs told asked Memory
 without_memory schema programs told asked = (turns_before asked.around (length programs) (Some told), refl, tt)
 
 module _ (holds : TextPlace → List ℕ → Type 0) (count : ℕ) (which : OrderKind) (lists : Lists) (programs : List Program) (turns : Option (List ℕ)) (told : List ℕ)
@@ -30,8 +30,8 @@ module _ (holds : TextPlace → List ℕ → Type 0) (count : ℕ) (which : Orde
   of_all_read : (Of : Lists → List Program → List ℕ → Type 0) → Of lists programs told → Of lists (programs_in all_read) (told_in all_read)
   of_all_read Of of = subst (λ ps. Of lists ps (unwrap_or turns [])) are (subst (λ ts. Of lists programs ts) told_are of)
 
-  pub explores : (asked : Exploring) (printed : Printed) → IsExploration lists programs told asked printed → ExploresHeld holds count which asked printed
-  explores asked printed is = (all_read, of_all_read (λ schema programs told. IsExploration schema programs told asked printed) is)
+  pub explores : (asked : Exploring) (texts : List (List ℕ)) (printed : Printed) → texts ≡ read.texts → IsListed lists programs texts told asked printed → ExploresHeld holds count which asked printed
+  explores asked texts printed same is = (all_read, of_all_read (λ schema programs told. IsListed schema programs read.texts told asked printed) (subst (λ ts. IsListed lists programs ts told asked printed) same is))
 
   pub gives_up : (fails : TextPlace → Fault → Type 0) (asked : Exploring) (fault : Fault) → GivesUp lists programs told asked fault → ToldOfExploring holds fails fault count which asked
   gives_up fails asked fault over = inr (all_read, of_all_read (λ schema programs told. GivesUp schema programs told asked fault) over)

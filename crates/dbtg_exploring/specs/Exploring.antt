@@ -1,17 +1,20 @@
 -- What `explore` prints of the texts that a source gives, and which fault it reports.
 -- told are the turns that are given, none if the source gives none; asked is what an exploration is asked for.
-use Rattle.std.specs.Prelude.{ℕ, ◌≡◌, ◌≤◌, true, not, List, [], Option, Some, ◌⊎◌, ◌==◌, ◌||◌, is_some, length, map, unwrap_or}
+use Rattle.std.specs.Prelude.{ℕ, ◌≡◌, ◌≤◌, Bool, true, false, not, List, [], Option, Some, ◌⊎◌, ◌==◌, ◌||◌, is_some, length, map, unwrap_or}
 use Rattle.dbtg_schema.specs.Lists.{Lists}
 use Rattle.dbtg_program.specs.declared.program.Program.{Program}
 use Rattle.dbtg_program.specs.Reading.{program}
-use Rattle.dbtg_going.specs.Turns.{after_turns, turns_before}
+use Rattle.dbtg_going.specs.declared.going.ProgramRun.{ProgramRun}
+use Rattle.dbtg_going.specs.Turns.{IsRunOf, after_turns, turns_before}
 use Rattle.dbtg_command.specs.declared.fault.Fault.{Fault}
 use Rattle.dbtg_command.specs.declared.fault.Fault.TheVariants as fault
+use Rattle.dbtg_command.specs.declared.fault.Fault.TheVariants.{Memory}
 use Rattle.dbtg_command.specs.declared.order.OrderKind.{OrderKind}
 use Rattle.dbtg_command.specs.declared.place.TextPlace.{TextPlace}
 use Rattle.dbtg_command.specs.Refusals.{is_count}
 use Rattle.dbtg_command.specs.Sources.{ReadSchema}
 use Rattle.dbtg_running.specs.declared.command.Printed.{Printed}
+use Rattle.dbtg_running.specs.First.{never_ends, told_of_first}
 use Rattle.dbtg_running.specs.Reading.{ReadPrograms}
 use Rattle.dbtg_running.specs.Running.{ReadsTurns, ToldOfRun}
 use Rattle.dbtg_explore.specs.declared.explored.Explored.{Explored}
@@ -35,6 +38,10 @@ meeting_of schema programs asked begun = record {
 abbrev pub Begins : Lists → List Program → List ℕ → Exploring → List ℕ → Type 0
 Begins schema programs told asked begun =
     after_turns schema asked.capacity programs [] begun ≡ after_turns schema asked.capacity programs [] (turns_before asked.around (length programs) (Some told))
+
+-- the run of the turns before programs meet: those of the first program, and the given ones
+abbrev pub IsRunBefore : Lists → List Program → List ℕ → Exploring → ProgramRun → Type 0
+IsRunBefore schema programs told asked before = IsRunOf schema asked.capacity programs (turns_before asked.around (length programs) (Some told)) before
 
 -- the text lists what the programs can come to from there on, in no more states than the limit; the flag says whether a program fails,
 -- or the programs can go on for ever
@@ -62,8 +69,26 @@ IsOver m limit (fault.Unreadable path) = ⊥
 IsOver m limit fault.ScriptCount = ⊥
 
 -- the same for the programs from there on
+abbrev pub IsTooLarge : Lists → List Program → List ℕ → Exploring → Fault → Type 0
+IsTooLarge schema programs told asked fault = (begun : List ℕ) × Begins schema programs told asked begun × IsOver (meeting_of schema programs asked begun) asked.limit fault
+
+-- nothing is listed if the first program does not end, and else what the programs can come to
+abbrev pub IsListedIf : Bool → Lists → List Program → List ℕ → Exploring → Printed → Type 0
+IsListedIf true schema programs told asked printed = (printed.text.items ≡ []) × (printed.failed ≡ true)
+IsListedIf false schema programs told asked printed = IsExploration schema programs told asked printed
+
+-- after the run of the turns before, beside which it is told of the first program
+pub record IsListed (schema : Lists) (programs : List Program) (texts : List (List ℕ)) (told : List ℕ) (asked : Exploring) (printed : Printed) : Type 0 where
+  pub before : ProgramRun
+  pub is_before : IsRunBefore schema programs told asked before
+  pub beside_is : printed.beside.items ≡ told_of_first schema asked.capacity asked.around texts before
+  pub listed : IsListedIf (never_ends asked.around (length programs) before.programs) schema programs told asked printed
+
+-- memory ran out; or the first program ends, and there are too many states
 abbrev pub GivesUp : Lists → List Program → List ℕ → Exploring → Fault → Type 0
-GivesUp schema programs told asked fault = (begun : List ℕ) × Begins schema programs told asked begun × IsOver (meeting_of schema programs asked begun) asked.limit fault
+GivesUp schema programs told asked fault =
+    (fault ≡ Memory)
+    ⊎ ((before : ProgramRun) × IsRunBefore schema programs told asked before × (never_ends asked.around (length programs) before.programs ≡ false) × IsTooLarge schema programs told asked fault)
 
 -- what is read before programs meet: 1 to 8 programs, and the turns that are given, and nothing is refused
 pub record ReadMeeting (holds : TextPlace → List ℕ → Type 0) (count : ℕ) (which : OrderKind) : Type 0 where
@@ -82,7 +107,7 @@ told_in read = unwrap_or read.turns []
 
 -- what is printed of texts that are held
 abbrev pub ExploresHeld : (TextPlace → List ℕ → Type 0) → ℕ → OrderKind → Exploring → Printed → Type 0
-ExploresHeld holds count which asked printed = (read : ReadMeeting holds count which) × IsExploration read.schema (programs_in read) (told_in read) asked printed
+ExploresHeld holds count which asked printed = (read : ReadMeeting holds count which) × IsListed read.schema (programs_in read) read.programs_read.texts (told_in read) asked printed
 
 -- a fault that is reported as for a run; or everything is read, and there are too many states
 abbrev pub ToldOfExploring : (TextPlace → List ℕ → Type 0) → (TextPlace → Fault → Type 0) → Fault → ℕ → OrderKind → Exploring → Type 0

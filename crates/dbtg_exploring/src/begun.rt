@@ -1,13 +1,14 @@
 //! The turns that were taken before programs meet.
 
-ghost use Rattle.dbtg_exploring.specs.Exploring.{Begins};
+ghost use Rattle.dbtg_exploring.specs.Exploring.{Begins, IsRunBefore};
 ghost use Rattle.dbtg_going.specs.Turns.{first_turns, is_heard, turns_before};
 ghost use Rattle.dbtg_schema.specs.Sound.{IsSound};
-ghost use Rattle.std.specs.Prelude.{◌≡◌, ◌≤◌, ◌++◌, IfOk, OnOk, Some, filter, length, map};
+ghost use Rattle.std.specs.Prelude.{◌≡◌, ◌≤◌, ◌++◌, IfOk, OnOk, Some, filter, length};
 
 use crate::setting::Setting;
-use dbtg_going::{Around, programs_after};
-use dbtg_unit::{Entry, LAST_UNIT, MOST_STATEMENTS};
+use dbtg_going::{Around, ProgramRun, run_programs};
+use dbtg_replay::units_in_turn;
+use dbtg_unit::{LAST_UNIT, MOST_STATEMENTS};
 use std::alloc::{AllocError, Global};
 
 // The turns in which the first program goes to its end, if there is one.
@@ -49,33 +50,43 @@ fn turns_before(
     Ok(turns)
 }
 
-// The units of the statements, in turn.
-fn units_of(alloc: Global, history: &[Entry]) -> Result<Vec<u8>, AllocError>
-    ensures { IfOk result (λ units. units.items ≡ map (λ e. e.unit) history.now) }
-{
-    let mut units = Vec::new(alloc);
-    for entry in history {
-        units.push(entry.unit)?;
-    }
-    Ok(units)
-}
-
-/// The turns that were taken, without those that make no statement: the first program is given as many turns as a unit can have, and each
-/// state that is made anew would take them all.
-pub fn begun_turns(alloc: Global, setting: &Setting) -> Result<Vec<u8>, AllocError>
+/// The run of these turns.
+pub fn run_before(alloc: Global, setting: &Setting) -> Result<ProgramRun, AllocError>
     requires sound { IsSound setting.now.schema.now }
     requires few { length setting.now.programs.now ≤ LAST_UNIT }
+    ensures { IfOk result (IsRunBefore setting.now.schema.now setting.now.programs.now setting.now.told.now setting.now.asked) }
+{
+    let Setting {
+        schema,
+        programs,
+        told,
+        asked,
+    } = *setting;
+    let turns = turns_before(alloc, asked.around, programs.len() as u8, told)?;
+    // The first program's turns are among these.
+    let alike = Around {
+        first: false,
+        last: false,
+    };
+    run_programs(
+        alloc,
+        schema,
+        asked.capacity,
+        programs,
+        alike,
+        Some(turns.as_slice()),
+    )
+}
+
+/// The turns of its statements. Those that make no statement are left out: the first program is given as many turns as a unit can have, and
+/// each state that is made anew would take them all.
+pub fn begun_turns(
+    alloc: Global,
+    setting: &Setting,
+    before: &ProgramRun,
+) -> Result<Vec<u8>, AllocError>
+    requires { IsRunBefore setting.now.schema.now setting.now.programs.now setting.now.told.now setting.now.asked before.now }
     ensures { IfOk result (λ begun. Begins setting.now.schema.now setting.now.programs.now setting.now.told.now setting.now.asked begun.items) }
 {
-    let asked = setting.asked;
-    let units = setting.programs.len() as u8;
-    let turns = turns_before(alloc, asked.around, units, setting.told)?;
-    let (database, goings) = programs_after(
-        alloc,
-        setting.schema,
-        asked.capacity,
-        setting.programs,
-        turns.as_slice(),
-    )?;
-    units_of(alloc, database.history())
+    units_in_turn(alloc, before.run.history.as_slice())
 }

@@ -4,19 +4,22 @@ ghost use Rattle.dbtg_command.specs.Refusals.{is_count};
 ghost use Rattle.dbtg_command.specs.Sources.{ReadSchema};
 ghost use Rattle.dbtg_explore.specs.Explored.{IsExplored};
 ghost use Rattle.dbtg_explore.specs.Orders.{IsMeeting};
-ghost use Rattle.dbtg_exploring.specs.Exploring.{ExploresHeld, GivesUp, IsExploration, IsOver, ToldOfExploring};
+ghost use Rattle.dbtg_exploring.specs.Exploring.{ExploresHeld, GivesUp, IsExploration, IsListed, IsOver, IsRunBefore, IsTooLarge, ToldOfExploring};
 ghost use Rattle.dbtg_program.specs.Reading.{program};
 ghost use Rattle.dbtg_running.specs.Reading.{ReadPrograms};
 ghost use Rattle.dbtg_running.specs.Running.{ReadsTurns};
 ghost use Rattle.dbtg_schema.specs.Sound.{IsSound};
 ghost use Rattle.std.specs.Prelude.{◌≡◌, ◌≤◌, ◌++◌, IfErr, IfOk, Some, filter, length, map, option_map, true, unwrap_or, []};
 
-use crate::begun::begun_turns;
+use crate::begun::{begun_turns, run_before};
 use crate::setting::{Exploring, Setting};
 use dbtg_command::{Fault, Source, read_schema};
 use dbtg_explore::{Explored, Meeting, explore};
-use dbtg_replay::replay::check_count;
-use dbtg_running::{Printed, read_programs, turns_wanted};
+use dbtg_going::ProgramRun;
+use dbtg_replay::replay::{AnswerForm, check_count};
+use dbtg_running::{
+    Printed, Programs, RunOptions, never_ends, read_programs, told_of_first, turns_wanted,
+};
 use dbtg_schema::{Row, Schema};
 use dbtg_states::{Stop, Watch};
 use dbtg_unit::LAST_UNIT;
@@ -41,14 +44,22 @@ fn explored<W: Watch>(
     }
 }
 
-// What is printed of programs that meet.
-fn explore_setting<W: Watch>(alloc: Global, watch: &W, setting: &Setting) -> Result<Printed, Fault>
+// What is printed of programs that meet after this run.
+fn explore_behind<W: Watch>(
+    alloc: Global,
+    watch: &W,
+    setting: &Setting,
+    before: &ProgramRun,
+    beside: Vec<u8>,
+) -> Result<Printed, Fault>
     requires sound { IsSound setting.now.schema.now }
     requires few { length setting.now.programs.now ≤ LAST_UNIT }
+    requires before { IsRunBefore setting.now.schema.now setting.now.programs.now setting.now.told.now setting.now.asked before.now }
     ensures done { IfOk result (IsExploration setting.now.schema.now setting.now.programs.now setting.now.told.now setting.now.asked) }
-    ensures refused { IfErr result (GivesUp setting.now.schema.now setting.now.programs.now setting.now.told.now setting.now.asked) }
+    ensures beside { IfOk result (λ printed. printed.beside ≡ beside) }
+    ensures refused { IfErr result (IsTooLarge setting.now.schema.now setting.now.programs.now setting.now.told.now setting.now.asked) }
 {
-    let begun = begun_turns(alloc, setting)?;
+    let begun = begun_turns(alloc, setting, before)?;
     let meeting = Meeting {
         schema: setting.schema,
         capacity: setting.asked.capacity,
@@ -60,8 +71,37 @@ fn explore_setting<W: Watch>(alloc: Global, watch: &W, setting: &Setting) -> Res
     Ok(Printed {
         text: setting.exploration_text(alloc, &all)?,
         failed: !all.failures.is_empty() || all.endless.is_some(),
-        beside: Vec::new(alloc),
+        beside,
     })
+}
+
+// What is printed of programs that meet. If the first one does not end, the others never meet.
+fn explore_setting<W: Watch>(
+    alloc: Global,
+    watch: &W,
+    setting: &Setting,
+    programs: &Programs,
+) -> Result<Printed, Fault>
+    requires sound { IsSound setting.now.schema.now }
+    requires few { length programs.now.texts.items ≤ LAST_UNIT }
+    requires are { programs.now.list.items ≡ map (program setting.now.schema.now) programs.now.texts.items }
+    requires same { setting.now.programs.now ≡ programs.now.list.items }
+    ensures done { IfOk result (IsListed setting.now.schema.now setting.now.programs.now programs.now.texts.items setting.now.told.now setting.now.asked) }
+    ensures refused { IfErr result (GivesUp setting.now.schema.now setting.now.programs.now setting.now.told.now setting.now.asked) }
+{
+    let asked = setting.asked;
+    let before = run_before(alloc, setting)?;
+    let options = RunOptions {
+        capacity: asked.capacity,
+        around: asked.around,
+        form: AnswerForm::Plain,
+    };
+    let beside = told_of_first(alloc, setting.schema, programs, options, &before)?;
+    let units = setting.programs.len() as u8;
+    if never_ends(asked.around, units, before.programs.as_slice()) {
+        return Ok(Printed::nothing(alloc, beside));
+    }
+    explore_behind(alloc, watch, setting, &before, beside)
 }
 
 // The turns; none if none are given.
@@ -96,7 +136,7 @@ fn explore_known<S: Source, W: Watch>(
         told: told_of(&turns),
         asked,
     };
-    explore_setting(alloc, watch, &setting)
+    explore_setting(alloc, watch, &setting, &programs)
 }
 
 /// What `explore` prints of the schema, the programs and the turns that a source gives, or the first fault: everything that the programs

@@ -1,9 +1,15 @@
-use Rattle.std.proofs.Common.{rules}
-use Rattle.dbtg_exploring.proofs.LeftOut.{begins_alike}
+use Rattle.std.proofs.Common.{rules, length, Some, ◌≡◌, List, ℕ, []}
+use Rattle.dbtg_going.specs.Turns.{after_turns, turns_before}
+use Rattle.dbtg_exploring.proofs.LeftOut.{begins_after, units}
 use Rattle.dbtg_exploring.proofs.begun.begun_turns.Goals as goal
 
 pub returns : goal.returns
 returns c =
-    let setting = c.args.setting.now in
-    let alike = begins_alike setting.schema.now setting.asked.capacity setting.programs.now c.in_ok-turns.turns.items in
-    search (rules, alike, c.in_ok-turns.ensures, c.in_ok-database.ensures, c.history.ensures)
+    let schema = c.args.setting.now.schema.now in
+    let asked = c.args.setting.now.asked in
+    let programs = c.args.setting.now.programs.now in
+    let history = c.args.before.now.run.history in
+    let turns = turns_before asked.around (length programs) (Some c.args.setting.now.told.now) in
+    let after : (begun : List ℕ) → begun ≡ units history → after_turns schema asked.capacity programs [] begun ≡ after_turns schema asked.capacity programs [] turns
+    = λ begun are. begins_after schema asked.capacity programs turns history begun c.requires.run.history_is are in
+    search (rules, after, c.units_in_turn.ensures, c.as_slice.ensures)

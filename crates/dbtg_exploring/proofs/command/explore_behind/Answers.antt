@@ -1,6 +1,6 @@
 use Rattle.std.proofs.Common.{rules}
 use Rattle.dbtg_exploring.proofs.MeetingsRead.{without_memory}
-use Rattle.dbtg_exploring.proofs.command.explore_setting.Goals as goal
+use Rattle.dbtg_exploring.proofs.command.explore_behind.Goals as goal
 
 pub returns-in_err-begun-clause-refused : goal.returns-in_err-begun-clause-refused
 returns-in_err-begun-clause-refused g c =
