@@ -74,7 +74,8 @@ same_history schema capacity units xs ys is_xs is_ys s =
 -- THE AUDIT
 
 -- the statements of the script that is made first, and those of the trace
-all_asked : (schema : Lists) (texts : List (List ℕ)) (load : Option (List Statement)) (begin entries : List Entry) → statements_of begin ≡ loads (length texts) load → IsReadBack schema texts entries
+all_asked : (schema : Lists) (texts : List (List ℕ)) (load : Option (List Statement)) (begin entries : List Entry)
+    → statements_of begin ≡ loads (length texts) load → IsReadBack schema texts entries
     → loads (length texts) load ++ asked (recorded_of schema texts load entries).traced ≡ statements_of (begin ++ entries)
 all_asked schema texts load begin entries begun back =
     (λ i. sym begun i ++ (ap asked back.1 ∙ own_asked 1 entries) i) ∙ sym (map-append (λ (e : Entry). (e.unit, e.statement)) begin entries)

@@ -26,6 +26,8 @@ EndsIn history (Differs found) = ⊥
 -- entries behind it, which is read back, is equal, and leads to just this history
 abbrev pub PrintedTraceIsEqual : Type 0
 PrintedTraceIsEqual =
-    (schema : Lists) (capacity : ℕ) (texts : List (List ℕ)) (load : Option (List Statement)) (begin entries : List Entry) → statements_of begin ≡ loads (length texts) load → IsReadBack schema texts entries
+    (schema : Lists) (capacity : ℕ) (texts : List (List ℕ)) (load : Option (List Statement)) (begin entries : List Entry)
+    → statements_of begin ≡ loads (length texts) load → IsReadBack schema texts entries
     → IsHistoryOf schema capacity (units_with (length texts) load) (begin ++ entries)
-    → (statuses : Bool) (audited : Audited) → IsAudited statuses schema capacity (recorded_of schema texts load entries) audited → EndsIn (begin ++ entries) audited
+    → (statuses : Bool) (audited : Audited) → IsAudited statuses schema capacity (recorded_of schema texts load entries) audited
+    → EndsIn (begin ++ entries) audited

@@ -54,7 +54,8 @@ pub script_told : (n : ℕ) (lists : Lists) (text : List ℕ) (fault : ScriptFau
 script_told n lists text (script.Refused line cause) refused at_once = ((refl, refused), λ is. cc (is))
 script_told n lists text script.Memory refused at_once = (tt, λ is. inr (unseen (first (script_faults_at_once lists text)) (λ f seen. let no = at_once f seen in cc (no))))
 
-pub program_told : (n : ℕ) (lists : Lists) (text : List ℕ) (fault : ProgramFault) → ProgramRefuses fault (program_refusal lists text) → ((f : SeenProgramFault) → first (too_long text) ≡ Some f → fault ≡ program.Refused f.line f.cause)
+pub program_told : (n : ℕ) (lists : Lists) (text : List ℕ) (fault : ProgramFault) → ProgramRefuses fault (program_refusal lists text)
+    → ((f : SeenProgramFault) → first (too_long text) ≡ Some f → fault ≡ program.Refused f.line f.cause)
     → RefusesProgramText (program_fault n fault) n lists text
 program_told n lists text (program.Refused line cause) refused at_once = ((refl, refused), λ is. cc (is))
 program_told n lists text program.Memory refused at_once =
@@ -64,7 +65,8 @@ program_told n lists text program.Memory refused at_once =
     long : (text : List ℕ) → SCRIPT_BYTES < length text → first (too_long text) ≡ Some (record { line = 1; cause = AsInScript TooMuch })
     long text h = let e : nat_lt SCRIPT_BYTES (length text) ≡ true = grind (arith, nat_tests) in rw e refl
 
-pub trace_told : (lists : Lists) (units : ℕ) (text : List ℕ) (fault : TraceFault) → TraceRefuses fault (trace_refusal lists units text) → ((f : SeenTraceFault) → first (trace_faults_at_once lists units text) ≡ Some f → fault ≡ trace.Refused f.line f.cause)
+pub trace_told : (lists : Lists) (units : ℕ) (text : List ℕ) (fault : TraceFault) → TraceRefuses fault (trace_refusal lists units text)
+    → ((f : SeenTraceFault) → first (trace_faults_at_once lists units text) ≡ Some f → fault ≡ trace.Refused f.line f.cause)
     → RefusesTraceText (trace_fault fault) lists units text
 trace_told lists units text (trace.Refused line cause) refused at_once = (refused, λ is. cc (is))
 trace_told lists units text trace.Memory refused at_once = (tt, λ is. inr (unseen (first (trace_faults_at_once lists units text)) (λ f seen. let no = at_once f seen in cc (no))))
