@@ -1,3 +1,4 @@
 pub mod Turns
 pub mod Programs
+pub mod Saved
 pub mod Inside
