@@ -1,8 +1,8 @@
 -- What is told of a line.
-use Rattle.std.proofs.Common.{◌≡◌, ℕ, Bool, true, false, Option, ◌+◌, ◌-◌, List, [], ◌∷◌, ◌++◌, length, Some, slice_get, inl, inr, ap, sym, ◌∙◌, subst, arith, length-append, IfOk, Result, Ok, Err, None}
+use Rattle.std.proofs.Common.{◌≡◌, ℕ, true, false, Option, ◌+◌, ◌-◌, List, [], ◌∷◌, ◌++◌, length, Some, slice_get, inl, inr, ap, sym, ◌∙◌, subst, arith, length-append, IfOk, Result, Ok, Err, None}
 use Rattle.std.specs.Prelude.{◌==◌, ◌&&◌, OnErr, codes, if◌then◌else◌, option_map}
 use Rattle.std.specs.Str.{bytes_eq}
-use Rattle.std.proofs.lemmas.Bool.{and_parts, ne_eqb}
+use Rattle.std.proofs.lemmas.Bool.{and_parts}
 use Rattle.std.proofs.lemmas.Slice.Eq.{bytes_eq-Decides}
 use Rattle.dbtg_schema.specs.Lists.{Lists}
 use Rattle.dbtg_cells.proofs.Public.{get_behind}
@@ -13,7 +13,7 @@ use Rattle.dbtg_script.specs.Printing.Spelling.{behind, in_front}
 use Rattle.dbtg_script.specs.Printing.Texts.{units_text}
 use Rattle.dbtg_script.specs.declared.fault.Cause.{Cause}
 use Rattle.dbtg_session.specs.Asking.{asked_of, asks_undo, behind_spaces, is_unit, turn_after, turn_behind, turn_given}
-use Rattle.dbtg_session.specs.Replies.{IsFaultText, answer_reply, database_text, explained_text, fault_page, no_unit_text, shown_by, status_page, unit_shown}
+use Rattle.dbtg_session.specs.Replies.{IsFaultText, answer_reply, database_text, explained_text, fault_page, no_unit_text, shown_by, unit_shown}
 use Rattle.dbtg_session.specs.Sessions.{Answers, IsLastAnswer, IsText, IsUnmade, NotesAsked, Prints, RefusesLine, TakesAsked, TakesLine, Typed}
 use Rattle.dbtg_session.specs.declared.asked.Asked.{Asked}
 use Rattle.dbtg_session.specs.declared.commands.Reply.{Reply}
@@ -24,7 +24,7 @@ use Rattle.dbtg_explain.specs.declared.topic.Kind.{Kind}
 use Rattle.dbtg_explain.specs.declared.topic.Kind.TheVariants as kind
 use Rattle.dbtg_explain.specs.declared.topic.Topic.{Topic}
 use Rattle.dbtg_explain.specs.declared.topic.Topic.TheVariants.{All, Done, Fault, Status}
-use Rattle.dbtg_explain.specs.Explaining.{IsFault, IsStatus, fault_text, kind_row, status_rows, status_text, topic_text}
+use Rattle.dbtg_explain.specs.Explaining.{IsFault, fault_text, kind_row, topic_text}
 
 -- THE LAST ENTRY
 
@@ -40,27 +40,12 @@ is_last typed schema one out at same told = λ before e is.
     let entry : one ≡ e = cc (found) in
     subst (λ (s : Lists). out ≡ answer_reply s e) same (subst (λ (x : Entry). out ≡ answer_reply schema x) entry told)
 
--- PAGES
-
--- what `explain` says of a topic is the page of its fault, or of its status
+-- what `explain` says of a topic is the page of its fault
 pub page_of_fault : (n : ℕ) (topic : Topic) (out : List ℕ) → IsFault kind.Script n (Some topic) → out ≡ topic_text topic → Some out ≡ fault_page n
 page_of_fault n (Fault which row) out is told = ap Some told ∙ ap (λ (w : Kind). Some (fault_text (kind_row w) row.now)) is.0 ∙ sym (ap (option_map (fault_text (kind_row kind.Script))) is.1)
 page_of_fault n All out is told = absurd is
 page_of_fault n Done out is told = absurd is
 page_of_fault n (Status row cause) out is told = absurd is
-
-pub page_of_status : (code : ℕ) (topic : Topic) (out : List ℕ) → IsStatus code (Some topic) → out ≡ topic_text topic → Some out ≡ status_page code
-page_of_status code Done out is told = ap Some told ∙ sym (ap status_page is)
-page_of_status code (Status row cause) out is told =
-    ap Some told ∙ sym (ap (λ (zero : Bool). if zero then Some (topic_text Done) else option_map (λ (rows : List ℕ × List ℕ). status_text rows.0 rows.1) (status_rows code)) (ne_eqb code 0 is.1)
-    ∙ ap (option_map (λ (rows : List ℕ × List ℕ). status_text rows.0 rows.1)) is.0)
-page_of_status code All out is told = absurd is
-page_of_status code (Fault which row) out is told = absurd is
-
-pub no_page_of_status : (code : ℕ) → IsStatus code None → status_page code ≡ None
-no_page_of_status code is =
-    ap (λ (zero : Bool). if zero then Some (topic_text Done) else option_map (λ (rows : List ℕ × List ℕ). status_text rows.0 rows.1) (status_rows code)) (ne_eqb code 0 is.1)
-    ∙ ap (option_map (λ (rows : List ℕ × List ℕ). status_text rows.0 rows.1)) is.0
 
 -- WHAT IS TOLD
 

@@ -126,7 +126,7 @@ impl<'a> Shell<'a> {
 
     /// Is this one of the directories that were noted?
     pub fn has_saved(&self, directory: &str) -> bool
-        ensures { result ≡ list_any (bytes_eq directory.now) (map string_bytes self.now.saved.items) }
+        ensures { result ≡ list_any (λ saved. bytes_eq directory.now (string_bytes saved)) self.now.saved.items }
     {
         self.saved.iter().any(|saved| directory == saved.as_str())
     }
@@ -245,10 +245,11 @@ impl<'a> Shell<'a> {
     {
         self.fault = None;
         let mut out = room;
+        let schema = self.session.schema();
         let Some(entry) = self.session.last() else {
             return Reply::Untold;
         };
-        match push_answer_reply(&mut out, self.session.schema(), entry) {
+        match push_answer_reply(&mut out, schema, entry) {
             Ok(()) => Reply::Text(out),
             Err(_) => Reply::Untold,
         }

@@ -1,4 +1,3 @@
 pub mod Turns
 pub mod Programs
-pub mod Saved
 pub mod Inside

@@ -1,6 +1,6 @@
 //! Saving a session: a file for the script of each unit, and one for the turns.
 ghost use Rattle.std.specs.Prelude.{◌≡◌, ◌++◌, ◌∷◌, [], IfOk, map, string_bytes};
-ghost use Rattle.dbtg_shell.specs.Saved.{saved_paths};
+ghost use Rattle.dbtg_shell.specs.Inside.Saved.{saved_paths};
 
 use crate::turns::turns_of;
 use crate::writing::write_file;
@@ -94,7 +94,10 @@ fn command_for(alloc: Global, call: &Call<'_>, paths: &[String]) -> Result<Strin
 
 /// The first of these files that is there, if there is one, and what is said of it.
 pub fn first_there(rt: &HostRuntime, paths: &[String]) -> Result<Option<String>, AllocError> {
-    match paths.iter().find(|path| fs::metadata(rt, path.as_str()).is_ok()) {
+    match paths
+        .iter()
+        .find(|path| fs::metadata(rt, path.as_str()).is_ok())
+    {
         None => Ok(None),
         Some(path) => Ok(Some(format!(in rt.alloc();
             "{path} is there, and this shell has not saved it: name another directory\n"
