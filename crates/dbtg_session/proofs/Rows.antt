@@ -1,6 +1,6 @@
 -- Worked rows: what commands ask for, and which of them show something.
 -- Promises: a row computes from the definitions alone.
-use Rattle.std.proofs.Common.{◌≡◌, ℕ, true, false, None, Some, refl}
+use Rattle.std.proofs.Common.{◌≡◌, ℕ, Option, true, false, None, Some, refl}
 use Rattle.std.specs.Prelude.{codes}
 use Rattle.dbtg_draw.specs.Listing.{schema_lines}
 use Rattle.dbtg_step.specs.Core.Whole.{Making}
@@ -46,12 +46,12 @@ the_turn_stays : turn_given 2 1 (codes "3") ≡ 1
 the_turn_stays = refl
 
 -- the schema of any session is shown by its command, and by no longer one
-schema_shown : (m : Making) (turn : ℕ) → shown_by m turn (codes "schema ") ≡ Some (schema_lines m.schema)
-schema_shown m turn = refl
+schema_shown : (m : Making) (turn : ℕ) (fault : Option ℕ) → shown_by m turn fault (codes "schema ") ≡ Some (schema_lines m.schema)
+schema_shown m turn fault = refl
 
-schema_and_a_word : (m : Making) (turn : ℕ) → shown_by m turn (codes "schema all") ≡ None
-schema_and_a_word m turn = refl
+schema_and_a_word : (m : Making) (turn : ℕ) (fault : Option ℕ) → shown_by m turn fault (codes "schema all") ≡ None
+schema_and_a_word m turn fault = refl
 
 -- nothing is said here of what other commands print
-help_is_not_shown : (m : Making) (turn : ℕ) → shown_by m turn (codes "help") ≡ None
-help_is_not_shown m turn = refl
+help_is_not_shown : (m : Making) (turn : ℕ) (fault : Option ℕ) → shown_by m turn fault (codes "help") ≡ None
+help_is_not_shown m turn fault = refl

@@ -19,7 +19,7 @@ use Rattle.dbtg_script.specs.Statements.{line_statement, prepend, script}
 use Rattle.dbtg_script.proofs.Public.{is_read_behind, nothing_read}
 use Rattle.dbtg_session.specs.Inside.Sessions.{HasGrown, HasMadeLine, IsAsBefore, IsOwnScript, IsScriptOf, IsSession, MakesLine}
 use Rattle.dbtg_explain.specs.Units.{is_count}
-use Rattle.dbtg_session.specs.Sessions.{HasScripts, RefusesBehind, RefusesLine, Takes, Typed, text_of}
+use Rattle.dbtg_session.specs.Sessions.{HasScripts, IsNote, RefusesBehind, RefusesLine, Takes, Typed, text_of}
 use Rattle.dbtg_session.specs.declared.session.Refusal.{Refusal}
 use Rattle.dbtg_session.specs.declared.session.Script.{Script}
 
@@ -227,7 +227,11 @@ module _ (schema : Lists) (capacity : ℕ) (old new : Making) (scripts : List Sc
     room = subst (λ (t : List ℕ). length t + length line < SCRIPT_BYTES) (sym (text_at old scripts u one at)) m.room;
     texts_are = texts_set scripts (u - 1) next ∙ ap (slice_set (texts_in scripts) (u - 1)) (m.entered.text ∙ ap (λ (t : List ℕ). t ++ line ++ 10 ∷ []) (sym (text_at old scripts u one at)));
   }
-  typed_then false m = (typed_same m.0 m.1, subst (λ (s : Lists). line_statement s (trimmed line) ≡ None) (sym session.schema_is) m.2)
+  typed_then false m = (
+    typed_same m.0 m.1,
+    subst (λ (s : Lists). IsNote s (length (entries_of u old.history)) line) (sym session.schema_is)
+        (subst (λ (n : ℕ). IsNote schema n line) own.is_script.count_is m.2),
+  )
 
   pub typed_refused : (refusal : Refusal) → RefusesBehind refusal schema (length one.begins.items) (length one.text.items) line → RefusesLine refusal (typed old scripts) u line
   typed_refused refusal h =

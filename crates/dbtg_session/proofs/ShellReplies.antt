@@ -1,26 +1,30 @@
 -- What is told of a line.
 use Rattle.std.proofs.Common.{◌≡◌, ℕ, true, false, Option, ◌+◌, ◌-◌, List, [], ◌∷◌, ◌++◌, length, Some, slice_get, inl, inr, ap, sym, ◌∙◌, subst, arith, length-append, IfOk, Result, Ok, Err, None}
-use Rattle.std.specs.Prelude.{◌==◌, ◌&&◌, OnErr, codes, if◌then◌else◌}
+use Rattle.std.specs.Prelude.{◌==◌, ◌&&◌, OnErr, codes, if◌then◌else◌, option_map}
 use Rattle.std.specs.Str.{bytes_eq}
 use Rattle.std.proofs.lemmas.Bool.{and_parts}
 use Rattle.std.proofs.lemmas.Slice.Eq.{bytes_eq-Decides}
 use Rattle.dbtg_schema.specs.Lists.{Lists}
-use Rattle.std.proofs.lemmas.Option.{none-some}
 use Rattle.dbtg_cells.proofs.Public.{get_behind}
 use Rattle.dbtg_step.specs.Core.Whole.{Making, state_now}
 use Rattle.dbtg_draw.specs.Listing.{schema_lines}
-use Rattle.dbtg_refusal.specs.Said.{said_in}
 use Rattle.dbtg_unit.specs.declared.unit.Entry.{Entry}
 use Rattle.dbtg_script.specs.Printing.Spelling.{behind, in_front}
 use Rattle.dbtg_script.specs.Printing.Texts.{units_text}
 use Rattle.dbtg_script.specs.declared.fault.Cause.{Cause}
 use Rattle.dbtg_session.specs.Asking.{asked_of, asks_undo, behind_spaces, is_unit, turn_after, turn_behind, turn_given}
-use Rattle.dbtg_session.specs.Replies.{IsFaultText, answer_reply, database_text, no_unit_text, shown_by, unit_shown}
-use Rattle.dbtg_session.specs.Sessions.{Answers, IsLastAnswer, IsLastSaid, IsText, IsUnmade, Prints, RefusesLine, TakesAsked, TakesLine, Typed}
+use Rattle.dbtg_session.specs.Replies.{IsFaultText, answer_reply, database_text, explained_text, fault_page, no_unit_text, shown_by, unit_shown}
+use Rattle.dbtg_session.specs.Sessions.{Answers, IsLastAnswer, IsText, IsUnmade, NotesAsked, Prints, RefusesLine, TakesAsked, TakesLine, Typed}
 use Rattle.dbtg_session.specs.declared.asked.Asked.{Asked}
 use Rattle.dbtg_session.specs.declared.commands.Reply.{Reply}
 use Rattle.dbtg_session.specs.declared.commands.Reply.TheVariants as reply
-use Rattle.dbtg_session.specs.declared.session.Refusal.TheVariants.{Fault}
+use Rattle.dbtg_session.specs.declared.commands.TheConstants.{UNTOLD}
+use Rattle.dbtg_session.specs.declared.session.Refusal.TheVariants as refusal
+use Rattle.dbtg_explain.specs.declared.topic.Kind.{Kind}
+use Rattle.dbtg_explain.specs.declared.topic.Kind.TheVariants as kind
+use Rattle.dbtg_explain.specs.declared.topic.Topic.{Topic}
+use Rattle.dbtg_explain.specs.declared.topic.Topic.TheVariants.{All, Done, Fault, Status}
+use Rattle.dbtg_explain.specs.Explaining.{IsFault, fault_text, kind_row, topic_text}
 
 -- THE LAST ENTRY
 
@@ -36,18 +40,12 @@ is_last typed schema one out at same told = λ before e is.
     let entry : one ≡ e = cc (found) in
     subst (λ (s : Lists). out ≡ answer_reply s e) same (subst (λ (x : Entry). out ≡ answer_reply schema x) entry told)
 
--- what is said of the last entry
-pub said_last : {E V : Type 0} (items : V → List ℕ) (typed : Typed) (one : Entry) (told : Result V E) → Some one ≡ slice_get typed.making.history (length typed.making.history - 1)
-    → IfOk told (λ out. items out ≡ said_in typed.making.schema typed.making.capacity (state_now typed.making) one) → IfOk told (λ out. IsLastSaid typed (items out))
-said_last items typed one (Ok out) at said = λ before e is.
-    let found : Some one ≡ Some e = at ∙ last_entry typed.making.history before e is in
-    let entry : one ≡ e = cc (found) in
-    subst (λ (x : Entry). items out ≡ said_in typed.making.schema typed.making.capacity (state_now typed.making) x) entry said
-said_last items typed one (Err error) at said = said
-
--- nothing is said where no statement was made
-pub said_nothing : (typed : Typed) → None ≡ slice_get typed.making.history (length typed.making.history - 1) → IsLastSaid typed []
-said_nothing typed at = λ before e is. absurd (none-some e (at ∙ last_entry typed.making.history before e is))
+-- what `explain` says of a topic is the page of its fault
+pub page_of_fault : (n : ℕ) (topic : Topic) (out : List ℕ) → IsFault kind.Script n (Some topic) → out ≡ topic_text topic → Some out ≡ fault_page n
+page_of_fault n (Fault which row) out is told = ap Some told ∙ ap (λ (w : Kind). Some (fault_text (kind_row w) row.now)) is.0 ∙ sym (ap (option_map (fault_text (kind_row kind.Script))) is.1)
+page_of_fault n All out is told = absurd is
+page_of_fault n Done out is told = absurd is
+page_of_fault n (Status row cause) out is told = absurd is
 
 -- WHAT IS TOLD
 
@@ -62,7 +60,7 @@ on_err (Err e) P p = p
 
 is_text : (A B : List ℕ → Type 0) (r : Reply) → ((out : List ℕ) → A out → B out) → IsText A r → IsText B r
 is_text A B (reply.Text out) f told = f out.items told
-is_text A B reply.Untold f told = told
+is_text A B reply.Untold f told = f UNTOLD.now told
 is_text A B (reply.Save directory) f told = told
 is_text A B (reply.Load path) f told = told
 is_text A B (reply.Run path) f told = told
@@ -75,14 +73,15 @@ undo_keeps_turn units turn command asks =
     ap (λ (w : List ℕ). if bytes_eq w (codes "unit") then turn_given units turn (behind_spaces (behind 32 command)) else turn) word
 
 -- and shows nothing
-pub undo_shows : {E : Type 0} (m : Making) (turn : ℕ) (command : List ℕ) (told : Result Reply E) → asks_undo command ≡ true → IfOk told (Prints (shown_by m turn command))
-undo_shows m turn command told asks =
+pub undo_shows : {E : Type 0} (m : Making) (turn : ℕ) (fault : Option ℕ) (command : List ℕ) (told : Result Reply E) → asks_undo command ≡ true → IfOk told (Prints (shown_by m turn fault command))
+undo_shows m turn fault command told asks =
     let word : in_front 32 command ≡ codes "undo" = (bytes_eq-Decides (in_front 32 command) (codes "undo")).0 (and_parts _ _ asks).0 in
     let rest : List ℕ = behind_spaces (behind 32 command) in
-    let none : shown_by m turn command ≡ None = ap (λ (w : List ℕ). if bytes_eq w (codes "unit") then unit_shown m turn rest
+    let none : shown_by m turn fault command ≡ None = ap (λ (w : List ℕ). if bytes_eq w (codes "unit") then unit_shown m turn rest
     else (if bytes_eq w (codes "units") && (length rest == 0) then Some (units_text m.schema (state_now m).units)
     else (if bytes_eq w (codes "schema") && (length rest == 0) then Some (schema_lines m.schema)
-    else (if bytes_eq w (codes "database") && (length rest == 0) then Some (database_text m) else None)))) word in
+    else (if bytes_eq w (codes "database") && (length rest == 0) then Some (database_text m)
+    else (if bytes_eq w (codes "explain") && (length rest == 0) then Some (explained_text m fault) else None))))) word in
     subst (λ (text : Option (List ℕ)). IfOk told (Prints text)) (sym none) (if_ok told (Unit {0}) tt)
 
 -- a line comes to nothing if there is no such unit, and where it has a fault
@@ -97,18 +96,24 @@ module _ {E : Type 0} (u : ℕ) (old new : Typed) (line : List ℕ) (result : Re
   pub without_unit : is_unit old.making.units u ≡ false → IfOk result (IsText (λ out. out ≡ no_unit_text old.making.units)) → TakesLine u old line result new
   without_unit none told = unmade (λ out. out ≡ no_unit_text old.making.units) (λ out h. inl (none, h)) told
 
-  pub with_fault : (cause : Cause) → RefusesLine (Fault cause) old u line → IfOk result (IsText (IsFaultText old.making.schema line cause)) → TakesLine u old line result new
+  pub with_fault : (cause : Cause) → RefusesLine (refusal.Fault cause) old u line → IfOk result (IsText (IsFaultText old.making.schema line cause)) → TakesLine u old line result new
   with_fault cause refused told = unmade (IsFaultText old.making.schema line cause) (λ out h. inr (inr (cause, refused, h))) told
 
 -- WHAT A LINE ASKS FOR IS DONE
 
-pub answered : {E : Type 0} (line : List ℕ) (turn turn_now : ℕ) (old new : Typed) (told : Result Reply E) (one asked : Asked)
-    → asked_of line (behind_spaces line) one → one ≡ asked → TakesAsked turn old asked told new → IfOk told (λ x. turn_now ≡ turn_after old.making.units turn asked) → OnErr told (turn_now ≡ turn)
-    → Answers line turn old told turn_now new
-answered line turn turn_now old new told one asked read is done given kept = record {
+pub answered : {E : Type 0} (line : List ℕ) (turn turn_now : ℕ) (fault fault_now : Option ℕ) (old new : Typed) (told : Result Reply E) (one asked : Asked)
+    → asked_of line (behind_spaces line) one → one ≡ asked → TakesAsked turn fault old asked told new → IfOk told (λ x. turn_now ≡ turn_after old.making.units turn asked) → IfOk told (λ x. NotesAsked turn old fault asked new fault_now)
+    → OnErr told ((turn_now ≡ turn) × (fault_now ≡ fault)) → Answers line turn fault old told turn_now fault_now new
+answered line turn turn_now fault fault_now old new told one asked read is done given noted kept = record {
   one = one;
   is_read = read;
-  is_done = subst (λ (it : Asked). TakesAsked turn old it told new) (sym is) done;
+  is_done = subst (λ (it : Asked). TakesAsked turn fault old it told new) (sym is) done;
   given = subst (λ (it : Asked). IfOk told (λ x. turn_now ≡ turn_after old.making.units turn it)) (sym is) given;
+  noted = subst (λ (it : Asked). IfOk told (λ x. NotesAsked turn old fault it new fault_now)) (sym is) noted;
   kept = kept;
 }
+
+-- of two that are kept where memory is refused
+pub on_err_both : {A E : Type 0} (result : Result A E) (P Q : Type 0) → OnErr result P → OnErr result Q → OnErr result (P × Q)
+on_err_both (Ok x) P Q p q = tt
+on_err_both (Err e) P Q p q = (p, q)

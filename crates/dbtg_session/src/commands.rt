@@ -1,18 +1,21 @@
 //! The commands of the shell, and what each line does.
-ghost use Rattle.std.specs.Prelude.{◌≡◌, ◌≤◌, ◌<◌, [], IfNone, IfOk, IfSome, OnErr, is_some};
+ghost use Rattle.std.specs.List.{list_any};
+ghost use Rattle.std.specs.Prelude.{◌≡◌, ◌≤◌, ◌<◌, ◌++◌, ◌∷◌, [], IfNone, IfOk, IfSome, None, OnErr, OnOk, Some, is_some, map, option_map, string_bytes};
+ghost use Rattle.std.specs.Str.{bytes_eq};
+ghost use Rattle.dbtg_script.specs.Printing.Causes.{cause_number};
 ghost use Rattle.dbtg_script.specs.declared.fault.Cause.TheVariants.{LineNotAllowed};
 ghost use Rattle.dbtg_session.specs.Asking.{asks_undo, bare_command, is_unit, means_unit, turn_behind, turn_given};
-ghost use Rattle.dbtg_session.specs.Replies.{IsFaultText, listed_by, no_unit_text, shown_by, unit_shown};
-ghost use Rattle.dbtg_session.specs.Sessions.{Answers, IsLastAnswer, IsText, MayBeText, Prints, TakesBack, TakesCommand, TakesLine};
+ghost use Rattle.dbtg_session.specs.Replies.{IsFaultText, explained_text, listed_by, no_unit_text, shown_by, unit_shown};
+ghost use Rattle.dbtg_session.specs.Sessions.{Answers, IsAnswered, IsText, NotesCommand, NotesLine, Prints, TakesBack, TakesCommand, TakesLine, printed};
 
 use crate::asked::{Asked, asks, asks_undo, behind_spaces, read_asked};
 use crate::replies::{
-    database_reply, fault_reply, no_unit_reply, push_answer_reply, undone_reply, unit_reply,
-    units_reply, with_here,
+    answer_page, database_reply, fault_page, fault_reply, no_unit_reply, push_answer_reply,
+    undone_reply, unit_reply, units_reply,
 };
 use crate::session::{Refusal, Session};
 use dbtg_draw::schema_lines;
-use dbtg_explain::{Kind, Topic, explained, fault_topic, status_topic, topic_of};
+use dbtg_explain::{explained, topic_of};
 use dbtg_script::{Cause, behind, in_front, is_number, number};
 use std::alloc::{AllocError, Global};
 
@@ -29,26 +32,33 @@ pub enum Reply<'a> {
     Quit,
 }
 
-/// What `.explain` alone explains.
-#[derive(Clone, Copy)]
-enum Last {
-    Nothing,
-    Status(u16),
-    Fault(u8),
+impl<'a> Reply<'a> {
+    /// What is printed of a reply that is a text.
+    pub fn text(&self) -> Option<&[u8]>
+        ensures { option_map (λ text. text.now) result ≡ printed self.now }
+    {
+        match self {
+            Reply::Text(text) => Some(text.as_slice()),
+            Reply::Untold => Some(UNTOLD.as_bytes()),
+            _ => None,
+        }
+    }
 }
 
-/// A session, the unit whose turn it is, and what was told last.
+/// A session, the unit whose turn it is, and the number of the fault that was told, if no statement was made or taken back since.
 #[derive(Drop)]
 pub struct Shell<'a> {
     pub session: Session<'a>,
     pub turn: u8,
+    pub fault: Option<u8>,
     alloc: Global,
-    last: Last,
-    saved: Option<String>,
+    saved: Vec<String>,
 }
 
 // No answer's line is longer: sixteen items, each with its name and its value, have at most 1,568 bytes of it.
 const ANSWER_BYTES: usize = 2048;
+
+const UNTOLD: &str = "made, and there is no room for its answer\n";
 
 const HELP: &str = "\
 STATEMENT         is made by the unit whose turn it is
@@ -102,30 +112,35 @@ impl<'a> Shell<'a> {
     pub fn new(alloc: Global, session: Session<'a>) -> Self
         ensures session { result.session ≡ session.entry }
         ensures turn { result.turn ≡ 1 }
+        ensures fault { result.fault ≡ None }
+        ensures saved { result.saved.items ≡ [] }
     {
         Shell {
             session,
             turn: 1,
+            fault: None,
             alloc,
-            last: Last::Nothing,
-            saved: None,
+            saved: Vec::new(alloc),
         }
     }
 
-    /// Is this the directory in which the session was saved last?
-    pub fn has_saved(&self, directory: &str) -> bool {
-        match &self.saved {
-            Some(saved) => saved.as_str() == directory,
-            None => false,
-        }
+    /// Is this one of the directories that were noted?
+    pub fn has_saved(&self, directory: &str) -> bool
+        ensures { result ≡ list_any (λ saved. bytes_eq directory.now (string_bytes saved)) self.now.saved.items }
+    {
+        self.saved.iter().any(|saved| directory == saved.as_str())
     }
 
-    /// Notes the directory in which the session is saved.
+    /// Notes a directory in which the session is saved.
     pub fn note_saved(&mut self, directory: &str) -> Result<(), AllocError>
+        ensures noted { OnOk result (map string_bytes self.new.saved.items ≡ map string_bytes self.old.saved.items ++ directory.now ∷ []) }
+        ensures refused { OnErr result (self.new.saved.items ≡ self.old.saved.items) }
         ensures unchanged { self.new.session ≡ self.old.session }
         ensures turn { self.new.turn ≡ self.old.turn }
+        ensures fault { self.new.fault ≡ self.old.fault }
     {
-        self.saved = Some(String::from_str(self.alloc, directory)?);
+        let saved = String::from_str(self.alloc, directory)?;
+        self.saved.push(saved)?;
         Ok(())
     }
 
@@ -135,9 +150,9 @@ impl<'a> Shell<'a> {
         Ok(Reply::Text(Vec::from_slice(self.alloc, text.as_bytes())?))
     }
 
-    /// Carries out a line. Without memory the session and the turn stay as they were.
+    /// Carries out a line. Without memory the session, the turn and the fault stay as they were.
     pub fn take_line<'b>(&mut self, line: &'b [u8]) -> Result<Reply<'b>, AllocError>
-        ensures { Answers line.now self.old.turn self.old.session result self.new.turn self.new.session }
+        ensures { Answers line.now self.old.turn self.old.fault self.old.session result self.new.turn self.new.fault self.new.session }
     {
         match read_asked(line) {
             Asked::Command(command) => self.carry_out(command),
@@ -151,6 +166,8 @@ impl<'a> Shell<'a> {
         ensures unchanged { self.new.session ≡ self.old.session }
         ensures turn { self.new.turn ≡ self.old.turn }
         ensures told { IfOk result (IsText (IsFaultText self.old.session.making.schema [] LineNotAllowed)) }
+        ensures noted { IfOk result (λ _. self.new.fault ≡ Some (cause_number LineNotAllowed)) }
+        ensures kept { OnErr result (self.new.fault ≡ self.old.fault) }
     {
         self.tell_fault(b"", Cause::LineNotAllowed)
     }
@@ -180,15 +197,19 @@ impl<'a> Shell<'a> {
         ensures unchanged { self.new.session ≡ self.old.session }
         ensures turn { self.new.turn ≡ self.old.turn }
         ensures told { IfOk result (IsText (IsFaultText self.old.session.making.schema line.now cause)) }
+        ensures noted { IfOk result (λ _. self.new.fault ≡ Some (cause_number cause)) }
+        ensures kept { OnErr result (self.new.fault ≡ self.old.fault) }
     {
         let told = fault_reply(self.alloc, self.session.schema(), line, cause)?;
-        self.last = Last::Fault(cause.number());
+        self.fault = Some(cause.number());
         Ok(Reply::Text(told))
     }
 
     /// A statement of the unit with this number, if there is one.
     pub fn make_for<'b>(&mut self, unit: u64, line: &[u8]) -> Result<Reply<'b>, AllocError>
         ensures taken { TakesLine unit self.old.session line.now result self.new.session }
+        ensures noted { IfOk result (λ _. NotesLine unit self.old.session self.old.fault line.now self.new.session self.new.fault) }
+        ensures kept { OnErr result (self.new.fault ≡ self.old.fault) }
         ensures turn { self.new.turn ≡ self.old.turn }
     {
         match self.unit_of(unit) {
@@ -201,6 +222,8 @@ impl<'a> Shell<'a> {
         requires low { 0 < unit }
         requires high { unit ≤ self.old.session.making.units }
         ensures taken { TakesLine unit self.old.session line.now result self.new.session }
+        ensures noted { IfOk result (λ _. NotesLine unit self.old.session self.old.fault line.now self.new.session self.new.fault) }
+        ensures kept { OnErr result (self.new.fault ≡ self.old.fault) }
         ensures turn { self.new.turn ≡ self.old.turn }
     {
         let room = Vec::with_capacity(self.alloc, ANSWER_BYTES)?;
@@ -217,14 +240,15 @@ impl<'a> Shell<'a> {
         requires { room.items ≡ [] }
         ensures unchanged { self.new.session ≡ self.old.session }
         ensures turn { self.new.turn ≡ self.old.turn }
-        ensures told { MayBeText (IsLastAnswer self.old.session) result }
+        ensures told { IsText (IsAnswered self.old.session) result }
+        ensures fault { self.new.fault ≡ None }
     {
+        self.fault = None;
         let mut out = room;
         let schema = self.session.schema();
         let Some(entry) = self.session.last() else {
             return Reply::Untold;
         };
-        self.last = Last::Status(entry.answer.status.code(&entry.statement));
         match push_answer_reply(&mut out, schema, entry) {
             Ok(()) => Reply::Text(out),
             Err(_) => Reply::Untold,
@@ -235,10 +259,13 @@ impl<'a> Shell<'a> {
     fn take_back<'b>(&mut self) -> Result<Reply<'b>, AllocError>
         ensures undone { TakesBack self.old.session result self.new.session }
         ensures turn { self.new.turn ≡ self.old.turn }
+        ensures noted { IfOk result (λ _. NotesCommand self.old.session self.old.fault self.new.session self.new.fault) }
+        ensures kept { OnErr result (self.new.fault ≡ self.old.fault) }
     {
         let told = undone_reply(self.alloc, &self.session)?;
-        self.session.undo()?;
-        self.last = Last::Nothing;
+        if self.session.undo()? {
+            self.fault = None;
+        }
         Ok(Reply::Text(told))
     }
 
@@ -246,9 +273,10 @@ impl<'a> Shell<'a> {
     #[tactic(auto, using(crate::proofs::ShellReplies::undo_keeps_turn, crate::proofs::ShellReplies::undo_shows))]
     fn carry_out<'b>(&mut self, command: &'b [u8]) -> Result<Reply<'b>, AllocError>
         ensures done { TakesCommand (asks_undo (bare_command command.now)) self.old.session result self.new.session }
-        ensures shown { IfOk result (Prints (shown_by self.old.session.making self.old.turn (bare_command command.now))) }
+        ensures shown { IfOk result (Prints (shown_by self.old.session.making self.old.turn self.old.fault (bare_command command.now))) }
         ensures turn { IfOk result (λ _. self.new.turn ≡ turn_behind self.old.session.making.units self.old.turn (bare_command command.now)) }
-        ensures kept { OnErr result (self.new.turn ≡ self.old.turn) }
+        ensures noted { IfOk result (λ _. NotesCommand self.old.session self.old.fault self.new.session self.new.fault) }
+        ensures kept { OnErr result ((self.new.turn ≡ self.old.turn) × (self.new.fault ≡ self.old.fault)) }
     {
         let command = behind_spaces(in_front(command, b'\r'));
         if asks_undo(command) {
@@ -262,7 +290,7 @@ impl<'a> Shell<'a> {
 
     // A command that changes neither the session nor the turn.
     fn show<'b>(&self, command: &'b [u8]) -> Result<Reply<'b>, AllocError>
-        ensures { IfOk result (Prints (listed_by self.now.session.making command.now)) }
+        ensures { IfOk result (Prints (listed_by self.now.session.making self.now.fault command.now)) }
     {
         if asks(b"units", command) {
             return Ok(Reply::Text(units_reply(self.alloc, &self.session)?));
@@ -273,17 +301,20 @@ impl<'a> Shell<'a> {
         if asks(b"database", command) {
             return Ok(Reply::Text(database_reply(self.alloc, &self.session)?));
         }
+        if asks(b"explain", command) {
+            return self.explain_last();
+        }
         match str::from_utf8(command) {
             Ok(command) => self.reply_to(command),
             Err(_) => self.text(NO_COMMAND),
         }
     }
 
-    // A command that shows nothing of the session, or only what was told last.
+    // A command that shows nothing of the session.
     fn reply_to<'b>(&self, command: &'b str) -> Result<Reply<'b>, AllocError> {
         let (name, rest) = command_of(command);
         match name.as_bytes() {
-            b"explain" => self.explain(rest),
+            b"explain" if !rest.is_empty() => self.explain(rest),
             b"load" => self.named(rest, NO_FILE, Reply::Load(rest)),
             b"run" => self.named(rest, NO_FILE, Reply::Run(rest)),
             b"save" => self.named(rest, NO_DIRECTORY, Reply::Save(rest)),
@@ -327,6 +358,7 @@ impl<'a> Shell<'a> {
     // Gives the turn to the unit that is named, if there is one.
     fn give_turn<'b>(&mut self, rest: &[u8]) -> Result<Reply<'b>, AllocError>
         ensures unchanged { self.new.session ≡ self.old.session }
+        ensures fault { self.new.fault ≡ self.old.fault }
         ensures shown { IfOk result (Prints (unit_shown self.old.session.making self.old.turn rest.now)) }
         ensures turn { IfOk result (λ _. self.new.turn ≡ turn_given self.old.session.making.units self.old.turn rest.now) }
         ensures kept { OnErr result (self.new.turn ≡ self.old.turn) }
@@ -341,18 +373,7 @@ impl<'a> Shell<'a> {
         }
     }
 
-    fn last_topic(&self) -> Option<Topic> {
-        match self.last {
-            Last::Nothing => None,
-            Last::Status(code) => status_topic(code),
-            Last::Fault(number) => fault_topic(Kind::Script, number as u16),
-        }
-    }
-
     fn explain<'b>(&self, rest: &str) -> Result<Reply<'b>, AllocError> {
-        if rest.is_empty() {
-            return self.explain_last();
-        }
         let words = words_of(self.alloc, rest)?;
         match topic_of(words.as_slice()) {
             Some(topic) => Ok(Reply::Text(explained(self.alloc, &topic)?)),
@@ -360,17 +381,17 @@ impl<'a> Shell<'a> {
         }
     }
 
-    fn explain_last<'b>(&self) -> Result<Reply<'b>, AllocError> {
-        let Some(topic) = self.last_topic() else {
-            return self.text(NOTHING_YET);
+    // The page of the fault that was told, or otherwise of the last answer.
+    fn explain_last<'b>(&self) -> Result<Reply<'b>, AllocError>
+        ensures { IfOk result (IsText (λ out. out ≡ explained_text self.now.session.making self.now.fault)) }
+    {
+        let page = match self.fault {
+            Some(number) => fault_page(self.alloc, number)?,
+            None => answer_page(self.alloc, &self.session)?,
         };
-        let page = explained(self.alloc, &topic)?;
-        match self.last {
-            Last::Status(_) => {
-                let said = self.session.last_said()?;
-                Ok(Reply::Text(with_here(self.alloc, said.as_slice(), page)?))
-            }
-            _ => Ok(Reply::Text(page)),
+        match page {
+            Some(page) => Ok(Reply::Text(page)),
+            None => self.text(NOTHING_YET),
         }
     }
 }

@@ -1,16 +1,18 @@
 //! What the shell replies to a line: answers, faults and currents, as texts.
 ghost use Rattle.std.specs.List.{list_any};
-ghost use Rattle.std.specs.Prelude.{◌≡◌, ◌-◌, ◌%◌, ◌≤◌, ◌<◌, [], ◌∷◌, ◌++◌, codes, decimal, IfOk, length, OnOk, Some, option_map, slice_get};
+ghost use Rattle.std.specs.Prelude.{◌≡◌, ◌-◌, ◌%◌, ◌≤◌, ◌<◌, [], ◌∷◌, ◌++◌, codes, decimal, IfOk, length, OnOk, Some, option_and_then, option_map, slice_get};
 ghost use Rattle.std.specs.Str.{bytes_eq};
 ghost use Rattle.dbtg_script.specs.Printing.Texts.{units_text};
 ghost use Rattle.dbtg_step.specs.Core.Whole.{state_now};
-ghost use Rattle.dbtg_session.specs.Replies.{IsFaultText, answer_reply, cause_name, database_text, help_words, hint_for, no_unit_text, quit_words, said_or, undone_text, unit_said};
+ghost use Rattle.dbtg_session.specs.Replies.{IsFaultText, answer_page, answer_reply, cause_name, database_text, fault_page, help_words, hint_for, no_unit_text, quit_words, said_or, undone_text, unit_said, with_here};
 ghost use Rattle.dbtg_session.specs.Sessions.{last_made};
-ghost use Rattle.dbtg_session.specs.Inside.Sessions.{with_here};
 
 use crate::session::Session;
 use crate::words::unit_words;
-use dbtg_explain::{CAUSES, Kind, field, line_at, meaning_of, row_with, said_of_word};
+use dbtg_explain::{
+    CAUSES, Kind, explained, fault_topic, field, line_at, meaning_of, row_with, said_of_word,
+    status_topic,
+};
 use dbtg_schema::Schema;
 use dbtg_script::{
     Cause, behind, image_text, in_front, push_answer, push_named_answer, push_number, units_text,
@@ -109,8 +111,8 @@ pub fn fault_reply(
     fault_line(alloc, number, meaning, word.as_slice(), hint_for(line))
 }
 
-/// The page of a status, with what is said of the refusal as its second line.
-pub fn with_here(alloc: Global, said: &[u8], page: Vec<u8>) -> Result<Vec<u8>, AllocError>
+// The page of a status, with what is said of the refusal as its second line.
+fn with_here(alloc: Global, said: &[u8], page: Vec<u8>) -> Result<Vec<u8>, AllocError>
     ensures { IfOk result (λ out. out.items ≡ with_here said.now page.items) }
 {
     if said.is_empty() {
@@ -122,6 +124,31 @@ pub fn with_here(alloc: Global, said: &[u8], page: Vec<u8>) -> Result<Vec<u8>, A
     out.push(b'\n')?;
     out.extend_from_slice(behind(page.as_slice(), b'\n'))?;
     Ok(out)
+}
+
+/// What `explain` says of a fault of a line, if there is one of this number.
+pub fn fault_page(alloc: Global, number: u8) -> Result<Option<Vec<u8>>, AllocError>
+    ensures { IfOk result (λ page. option_map (λ p. p.items) page ≡ fault_page number) }
+{
+    match fault_topic(Kind::Script, number as u16) {
+        Some(topic) => Ok(Some(explained(alloc, &topic)?)),
+        None => Ok(None),
+    }
+}
+
+/// What `explain` says of the status of the last answer, if there is one, with what was in the way of its statement.
+pub fn answer_page(alloc: Global, session: &Session<'_>) -> Result<Option<Vec<u8>>, AllocError>
+    ensures { IfOk result (λ page. option_map (λ p. p.items) page ≡ option_and_then (answer_page session.now.making) (last_made session.now)) }
+{
+    let Some(entry) = session.last() else {
+        return Ok(None);
+    };
+    let Some(topic) = status_topic(entry.answer.status.code(&entry.statement)) else {
+        return Ok(None);
+    };
+    let said = session.last_said()?;
+    let page = explained(alloc, &topic)?;
+    Ok(Some(with_here(alloc, said.as_slice(), page)?))
 }
 
 /// The line that says which numbers units have, for a number that no unit has.

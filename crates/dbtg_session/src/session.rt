@@ -6,7 +6,7 @@ ghost use Rattle.dbtg_unit.specs.Database.State.Image.{image_of};
 ghost use Rattle.dbtg_unit.specs.Database.Laws.Replay.{IsHistoryOf, entries_of};
 ghost use Rattle.dbtg_step.specs.Core.Whole.{HasMade, state_now};
 ghost use Rattle.dbtg_explain.specs.Units.{is_count};
-ghost use Rattle.dbtg_session.specs.Sessions.{HasScripts, IsLastSaid, RefusesBehind, RefusesLine, Takes, Undoes, last_made};
+ghost use Rattle.dbtg_session.specs.Sessions.{HasScripts, RefusesBehind, RefusesLine, Takes, Undoes, last_made, last_said};
 ghost use Rattle.dbtg_session.specs.Inside.Sessions.{BeginsHistory, HasEntered, HasNoRoom, IsAsBefore, MakesLine};
 ghost use Rattle.dbtg_session.specs.declared.session.Refusal.TheVariants.{Fault, Memory};
 
@@ -321,7 +321,7 @@ impl<'a> Session<'a> {
 
     /// What is in the way of the last statement; nothing if it was done.
     pub fn last_said(&self) -> Result<Vec<u8>, AllocError>
-        ensures { IfOk result (λ said. IsLastSaid self.now said.items) }
+        ensures { IfOk result (λ said. said.items ≡ last_said self.now) }
     {
         match self.last() {
             Some(entry) => said_of(self.alloc, self.schema, &self.database, entry),

@@ -7,7 +7,7 @@ ghost use Rattle.dbtg_shell.specs.Programs.{Following, HasBegun, HasGoneOn, HasR
 ghost use Rattle.dbtg_shell.specs.Inside.Programs.{IsFollowed, MakesDue, MayHaveMade, MayHaveTyped, TypesLine, end_text, seen};
 
 use crate::running::{Followed, shown_line};
-use crate::saved::{first_there, save};
+use crate::saved::{first_there, save, saved_paths};
 use dbtg_command::reason::reason;
 use dbtg_command::{Call, Fault, Files, Order, Paths, program_of};
 use dbtg_going::lines_of;
@@ -24,8 +24,6 @@ const LINE_BYTES: u64 = 8192;
 const PROGRAM_BYTES: u64 = 1_048_577;
 
 const WANT_OF_MEMORY: &str = "want of memory\n";
-
-const UNTOLD: &str = "made, and there is no room for its answer\n";
 
 const LOADING: &str = "a file that is loaded cannot load another\n";
 
@@ -100,13 +98,14 @@ fn saved(
     call: &Call<'_>,
     directory: &str,
 ) -> Result<String, AllocError> {
+    let paths = saved_paths(rt.alloc(), directory, shell.session.scripts().len())?;
     if !shell.has_saved(directory) {
-        if let Some(told) = first_there(rt, &shell.session, directory)? {
+        if let Some(told) = first_there(rt, paths.as_slice())? {
             return Ok(told);
         }
         shell.note_saved(directory)?;
     }
-    save(rt, &shell.session, call.capacity, call.schema, directory)
+    save(rt, &shell.session, call, directory, paths.as_slice())
 }
 
 fn write_saved(
@@ -174,12 +173,11 @@ fn write_refusal(rt: &HostRuntime, call: &Call<'_>, path: &str, fault: &Fault) -
     }
 }
 
-// Prints the answer to a line of a program.
-fn write_answer(rt: &HostRuntime, reply: &Reply<'_>) -> Result<(), Broken> {
-    match reply {
-        Reply::Text(text) => write(rt, text.as_slice()),
-        Reply::Untold => write(rt, UNTOLD.as_bytes()),
-        _ => Ok(()),
+// Prints a reply that is a text.
+fn write_text(rt: &HostRuntime, reply: &Reply<'_>) -> Result<(), Broken> {
+    match reply.text() {
+        Some(text) => write(rt, text),
+        None => Ok(()),
     }
 }
 
@@ -193,7 +191,7 @@ fn type_line(rt: &HostRuntime, shell: &mut Shell<'_>, line: &[u8]) -> Result<boo
     write(rt, shown.as_slice())?;
     let before = shell.session.count();
     let reply = shell.make_for(shell.turn as u64, line)?;
-    write_answer(rt, &reply)?;
+    write_text(rt, &reply)?;
     Ok(shell.session.count() > before)
 }
 
@@ -316,12 +314,11 @@ fn write_reply(
     reply: &Result<Reply<'_>, AllocError>,
 ) -> Result<bool, Broken> {
     match reply {
-        Ok(Reply::Text(text)) => write(rt, text.as_slice()),
-        Ok(Reply::Untold) => write(rt, UNTOLD.as_bytes()),
         Ok(Reply::Save(directory)) => write_saved(rt, shell, call, *directory),
         Ok(Reply::Load(_)) => write(rt, LOADING.as_bytes()),
         Ok(Reply::Run(path)) => run_file(rt, shell, call, *path),
         Ok(Reply::Quit) => return Ok(false),
+        Ok(text) => write_text(rt, text),
         Err(_) => write(rt, WANT_OF_MEMORY.as_bytes()),
     }?;
     Ok(true)

@@ -1,10 +1,26 @@
 //! Saving a session: a file for the script of each unit, and one for the turns.
+ghost use Rattle.std.specs.Prelude.{◌≡◌, ◌++◌, ◌∷◌, [], IfOk, map, string_bytes};
+ghost use Rattle.dbtg_shell.specs.Inside.Saved.{saved_paths};
 
 use crate::turns::turns_of;
 use crate::writing::write_file;
-use dbtg_session::{Script, Session};
-use std::alloc::AllocError;
+use dbtg_command::Call;
+use dbtg_session::Session;
+use std::alloc::{AllocError, Global};
 use std::fs;
+
+/// The path of each file that is written where a session of this many units is saved in a directory: the script of each unit, then the turns.
+pub fn saved_paths(alloc: Global, directory: &str, units: usize) -> Result<Vec<String>, AllocError>
+    ensures { IfOk result (λ paths. map string_bytes paths.items ≡ saved_paths directory.now units) }
+{
+    let mut paths = Vec::new(alloc);
+    for i in 0..units {
+        let number = i.saturating_add(1);
+        paths.push(format!(in alloc; "{directory}/script.{number}")?)?;
+    }
+    paths.push(format!(in alloc; "{directory}/turns")?)?;
+    Ok(paths)
+}
 
 // The result of writing a file: nothing to say, or the line that says it cannot be written.
 fn written(rt: &HostRuntime, path: &str, bytes: &[u8]) -> Result<Option<String>, AllocError> {
@@ -14,51 +30,18 @@ fn written(rt: &HostRuntime, path: &str, bytes: &[u8]) -> Result<Option<String>,
     }
 }
 
-fn save_script(
+// Saves a text in each of the files, up to the first that cannot be written.
+fn save_all(
     rt: &HostRuntime,
-    directory: &str,
-    number: usize,
-    text: &[u8],
+    paths: &[String],
+    texts: &[&[u8]],
 ) -> Result<Option<String>, AllocError> {
-    let path = format!(in rt.alloc(); "{directory}/script.{number}")?;
-    written(rt, path.as_str(), text)
-}
-
-// Saves the scripts, up to the first that cannot be written.
-fn save_each_script(
-    rt: &HostRuntime,
-    directory: &str,
-    scripts: &[Script],
-) -> Result<Option<String>, AllocError> {
-    for (i, script) in scripts.iter().enumerate() {
-        let number = i.saturating_add(1);
-        if let Some(told) = save_script(rt, directory, number, script.text.as_slice())? {
+    for (path, text) in paths.iter().zip(texts.iter()) {
+        if let Some(told) = written(rt, path.as_str(), *text)? {
             return Ok(Some(told));
         }
     }
     Ok(None)
-}
-
-fn save_turns(
-    rt: &HostRuntime,
-    directory: &str,
-    session: &Session<'_>,
-) -> Result<Option<String>, AllocError> {
-    let turns = turns_of(rt.alloc(), session)?;
-    let path = format!(in rt.alloc(); "{directory}/turns")?;
-    written(rt, path.as_str(), turns.as_slice())
-}
-
-// Saves the scripts and the turns, up to the first file that cannot be written.
-fn save_all(
-    rt: &HostRuntime,
-    directory: &str,
-    session: &Session<'_>,
-) -> Result<Option<String>, AllocError> {
-    match save_each_script(rt, directory, session.scripts())? {
-        Some(told) => Ok(Some(told)),
-        None => save_turns(rt, directory, session),
-    }
 }
 
 // Does a shell take the byte as it stands?
@@ -94,76 +77,65 @@ fn push_path(told: &mut String, path: &str) -> Result<(), AllocError> {
     push_quoted(told, path)
 }
 
-fn push_script(
-    rt: &HostRuntime,
-    told: &mut String,
-    directory: &str,
-    number: usize,
-) -> Result<(), AllocError> {
-    let path = format!(in rt.alloc(); "{directory}/script.{number}")?;
-    push_path(told, path.as_str())
-}
-
-// The command that makes the statements of the saved scripts again.
-fn command_for(
-    rt: &HostRuntime,
-    count: usize,
-    capacity: u16,
-    schema: &str,
-    directory: &str,
-) -> Result<String, AllocError> {
-    let alloc = rt.alloc();
+// The command that makes the statements of the saved scripts again. The turns are the last file.
+fn command_for(alloc: Global, call: &Call<'_>, paths: &[String]) -> Result<String, AllocError> {
+    let capacity = call.capacity;
     let mut told = format!(in alloc; "saved: dbtg replay --capacity {capacity} --turns")?;
-    let turns = format!(in alloc; "{directory}/turns")?;
-    push_path(&mut told, turns.as_str())?;
-    push_path(&mut told, schema)?;
-    for i in 0..count {
-        push_script(rt, &mut told, directory, i.saturating_add(1))?;
+    if let Some((turns, scripts)) = paths.split_last() {
+        push_path(&mut told, turns.as_str())?;
+        push_path(&mut told, call.schema)?;
+        for script in scripts {
+            push_path(&mut told, script.as_str())?;
+        }
     }
     told.push_str("\n")?;
     Ok(told)
 }
 
-// Reports a file that exists.
-fn if_there(rt: &HostRuntime, path: &str) -> Result<Option<String>, AllocError> {
-    if fs::metadata(rt, path).is_err() {
-        return Ok(None);
+/// The first of these files that is there, if there is one, and what is said of it.
+pub fn first_there(rt: &HostRuntime, paths: &[String]) -> Result<Option<String>, AllocError> {
+    match paths
+        .iter()
+        .find(|path| fs::metadata(rt, path.as_str()).is_ok())
+    {
+        None => Ok(None),
+        Some(path) => Ok(Some(format!(in rt.alloc();
+            "{path} is there, and this shell has not saved it: name another directory\n"
+        )?)),
     }
-    let told = format!(in rt.alloc();
-        "{path} is there, and this shell has not saved it: name another directory\n"
-    )?;
-    Ok(Some(told))
 }
 
-/// The first file that saving a session in a directory would overwrite, if there is one, and what is said of it.
-pub fn first_there(
-    rt: &HostRuntime,
-    session: &Session<'_>,
-    directory: &str,
-) -> Result<Option<String>, AllocError> {
-    for i in 0..session.scripts().len() {
-        let number = i.saturating_add(1);
-        let path = format!(in rt.alloc(); "{directory}/script.{number}")?;
-        if let Some(told) = if_there(rt, path.as_str())? {
-            return Ok(Some(told));
-        }
+// The texts of a session, in the order of their files: the script of each unit, and the turns.
+fn texts_of<'a>(
+    alloc: Global,
+    session: &'a Session<'_>,
+    turns: &'a [u8],
+) -> Result<Vec<&'a [u8]>, AllocError>
+    ensures { IfOk result (λ texts. map (λ text. text.now) texts.items ≡ session.now.texts ++ turns.now ∷ []) }
+{
+    let mut texts = Vec::new(alloc);
+    for script in session.scripts() {
+        texts.push(script.text.as_slice())?;
     }
-    let path = format!(in rt.alloc(); "{directory}/turns")?;
-    if_there(rt, path.as_str())
+    texts.push(turns)?;
+    Ok(texts)
 }
 
-/// Writes the scripts and the turns of a session into a directory, which is created if necessary, and says how they are made
-/// again, or which file could not be written.
+/// Writes the scripts and the turns of a session into these files of a directory, which is created if necessary, and says how they are
+/// made again, or which file could not be written.
 pub fn save(
     rt: &HostRuntime,
     session: &Session<'_>,
-    capacity: u16,
-    schema: &str,
+    call: &Call<'_>,
     directory: &str,
+    paths: &[String],
 ) -> Result<String, AllocError> {
-    let command = command_for(rt, session.scripts().len(), capacity, schema, directory)?;
+    let alloc = rt.alloc();
+    let command = command_for(alloc, call, paths)?;
+    let turns = turns_of(alloc, session)?;
+    let texts = texts_of(alloc, session, turns.as_slice())?;
     if fs::create_dir_all(rt, directory).is_err() {
-        return format!(in rt.alloc(); "cannot write {directory}\n");
+        return format!(in alloc; "cannot write {directory}\n");
     }
-    Ok(save_all(rt, directory, session)?.unwrap_or(command))
+    Ok(save_all(rt, paths, texts.as_slice())?.unwrap_or(command))
 }

@@ -1,5 +1,5 @@
 -- What a session of the shell keeps: its scripts and their lines, what a line does to them, and the page of a refusal.
-use Rattle.std.specs.Prelude.{ℕ, ◌≡◌, ◌+◌, ◌≤◌, ◌<◌, ◌∷◌, ◌++◌, Bool, true, false, List, [], length, map, None, reverse, Some, slice_get, ◌==◌, codes, if◌then◌else◌}
+use Rattle.std.specs.Prelude.{ℕ, ◌≡◌, ◌+◌, ◌≤◌, ◌<◌, ◌∷◌, ◌++◌, Bool, true, false, List, [], length, map, None, reverse, Some, slice_get}
 use Rattle.dbtg_schema.specs.Lists.{Lists}
 use Rattle.dbtg_schema.specs.Lookups.{first}
 use Rattle.dbtg_schema.specs.Sound.{IsSound}
@@ -11,11 +11,11 @@ use Rattle.dbtg_script.specs.declared.limits.TheConstants.{SCRIPT_BYTES}
 use Rattle.dbtg_script.specs.Lines.{closes, trimmed}
 use Rattle.dbtg_script.specs.StatementFaults.{line_faults, refusal as script_refusal}
 use Rattle.dbtg_script.specs.Statements.{line_statement, script}
-use Rattle.dbtg_script.specs.Printing.Spelling.{behind, in_front}
 use Rattle.dbtg_script.specs.declared.fault.Cause.TheVariants.{TooMuch}
 use Rattle.dbtg_session.specs.declared.session.Refusal.{Refusal}
 use Rattle.dbtg_session.specs.declared.session.Refusal.TheVariants.{Fault, Memory}
 use Rattle.dbtg_session.specs.declared.session.Script.{Script}
+use Rattle.dbtg_session.specs.Sessions.{IsNote}
 use Rattle.dbtg_explain.specs.Units.{is_count}
 
 -- the script is accepted, and says the statements of these entries, each on a line of its own
@@ -81,14 +81,9 @@ pub record HasMadeLine (schema : Lists) (old : Making) (one : Script) (u : ℕ) 
 -- true: the line holds a statement, which was made; false: it holds none, and nothing changed
 abbrev pub MakesLine : Lists → Making → Script → ℕ → List ℕ → Bool → Making → Script → Type 0
 MakesLine schema old one u line true new next = HasMadeLine schema old one u line new next
-MakesLine schema old one u line false new next = (new ≡ old) × IsAsBefore one next × (line_statement schema (trimmed line) ≡ None)
+MakesLine schema old one u line false new next = (new ≡ old) × IsAsBefore one next × IsNote schema (length one.begins.items) line
 
 -- the script has no room for a line that would bring it to `size` bytes, unless memory ran out
 abbrev pub HasNoRoom : Refusal → ℕ → Type 0
 HasNoRoom Memory size = Unit {0}
 HasNoRoom (Fault cause) size = (cause ≡ TooMuch) × (SCRIPT_BYTES ≤ size)
-
--- the second line of the page of a status: what is said of the refusal
-abbrev pub with_here : List ℕ → List ℕ → List ℕ
-with_here said page =
-    if length said == 0 then page else in_front 10 page ++ 10 ∷ codes "Here: " ++ said ++ 10 ∷ behind 10 page

@@ -1,4 +1,4 @@
-use Rattle.std.proofs.Common.{◌≡◌, ◌∙◌, ℕ, ap, sym, subst, true}
+use Rattle.std.proofs.Common.{◌≡◌, ◌∙◌, ℕ, ap, refl, sym, subst, true}
 use Rattle.std.specs.Prelude.{⊤}
 use Rattle.std.proofs.lemmas.Option.{MatchOption-at_some}
 use Rattle.dbtg_schema.specs.Lists.{Lists}
@@ -24,3 +24,11 @@ returns-in_ok-make_and_enter-in-Ok-Some-clause-taken c = record {
   made = c.in_ok-make_and_enter-in-Ok-Some.ensures.made;
   entered = c.in_ok-make_and_enter-in-Ok-Some.ensures.entered;
 }
+
+pub returns-in-Ok-None-clause-taken : goal.returns-in-Ok-None-clause-taken
+returns-in-Ok-None-clause-taken c = (
+  refl,
+  record { text = refl; begins = refl },
+  sym c.in-Ok-None.ensures.statement ∙ c.in-Ok-None.field-0-is,
+  ap (λ (n : ℕ). first (line_faults c.args.schema.now n (trimmed c.args.line.now))) (sym (c.len.ensures ∙ c.args.script.now.begins.ok.0)) ∙ c.in-Ok-None.ensures.accepted,
+)
