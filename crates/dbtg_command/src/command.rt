@@ -395,7 +395,9 @@ pub fn command<'a>(alloc: Global) -> Result<Command<'a>, AllocError>
         .propagate_version(true)
         .subcommand_required(true)
         .arg_required_else_help(true)
-        .after_help("Example: dbtg explore --first load.program inventory.schema one.program two.program");
+        .after_help(
+            "Example: dbtg explore --first load.program inventory.schema one.program two.program",
+        );
     for named in &ALL {
         command = command.subcommand(command_of(alloc, *named, name_of(*named))?)?;
     }

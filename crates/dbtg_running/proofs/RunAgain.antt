@@ -121,9 +121,10 @@ units_named schema capacity programs turns given most is =
     let few = few_after schema capacity programs turns [] (λ u. omega arith) in
     let all = all_made (lefts programs) h (subst (λ n. AllWithin n h) (sym many) within) (λ u k at. subst (λ n. length (entries_of u h) ≤ n) (unit_left programs u k at) (few u)) in
     let total = total_few (lefts programs) MOST_STATEMENTS (λ k below j at. let e = each_left programs k j at in omega (arith, e)) in
-    let made = all.1 in
-    (ap (λ es. list_all is_unit_number (map (λ (e : Entry). e.unit) es)) is.run.history_is ∙ numbers (length programs) h (omega (arith, most)) within,
-      let same = ap length is.run.history_is in omega (arith, made, total, many, most, same))
+    let made = all.1 in (
+      ap (λ es. list_all is_unit_number (map (λ (e : Entry). e.unit) es)) is.run.history_is ∙ numbers (length programs) h (omega (arith, most)) within,
+      let same = ap length is.run.history_is in omega (arith, made, total, many, most, same),
+    )
 
 -- TWO RUNS BY THE SAME TURNS ARE THE SAME
 
@@ -132,8 +133,8 @@ unfolding unit_at
 same_run schema capacity programs turns a b is_a is_b =
     let history = is_a.run.history_is ∙ sym is_b.run.history_is in
     let each = same_lists a.programs b.programs (is_a.count ∙ sym is_b.count) (λ k below.
-        let p = there programs k (let n = is_a.count in omega (arith, below, n)) in
-        is_a.reached_are (suc k) p.0 p.1 ∙ ap (λ es. Some (reached schema p.0 (suc k) es)) history ∙ sym (is_b.reached_are (suc k) p.0 p.1)) in
+    let p = there programs k (let n = is_a.count in omega (arith, below, n)) in
+    is_a.reached_are (suc k) p.0 p.1 ∙ ap (λ es. Some (reached schema p.0 (suc k) es)) history ∙ sym (is_b.reached_are (suc k) p.0 p.1)) in
     λ i. record {
       run = record {
         results = (is_a.run.results_are ∙ sym is_b.run.results_are) i;
@@ -161,8 +162,10 @@ saved_again lists options texts turns given said most on printed =
     let long = length-map given.run.history (λ (e : Entry). e.unit) in
     let short = ap length on.turns_are in
     let back = turns_read_back turns (ap (list_all is_unit_number) on.turns_are ∙ kept_all is_unit_number p units named.0) (let all = named.1 in omega (arith, all, fewer, long, short)) in
-    let read : turns_in said.turns.items ≡ turns = ap turns_in printed.turns_are ∙ back.1 in
-    (ap turns_refusal printed.turns_are ∙ back.0, λ by is.
-      let again = subst (λ us. IsRunOf lists options.capacity programs (turns_of lists options.capacity programs options.around (Some us)) by) read is in
-      let same = same_run lists options.capacity programs (turns_of lists options.capacity programs options.around (Some turns)) given by on.is_run again in
-      subst (λ g. PrintsRun lists options texts g (run_text lists options.form texts g ++ audit_line) said.printed) same printed.is_printed)
+    let read : turns_in said.turns.items ≡ turns = ap turns_in printed.turns_are ∙ back.1 in (
+      ap turns_refusal printed.turns_are ∙ back.0,
+      λ by is.
+          let again = subst (λ us. IsRunOf lists options.capacity programs (turns_of lists options.capacity programs options.around (Some us)) by) read is in
+          let same = same_run lists options.capacity programs (turns_of lists options.capacity programs options.around (Some turns)) given by on.is_run again in
+          subst (λ g. PrintsRun lists options texts g (run_text lists options.form texts g ++ audit_line) said.printed) same printed.is_printed,
+    )

@@ -143,7 +143,10 @@ pub fn print_run(
     ensures { IfOk result (PrintsRun schema.now options programs.now.texts.items given.now (said_text schema.now options.form programs.now.texts.items given.now)) }
 {
     let beside = told_of_first(alloc, schema, programs, options, given)?;
-    let (units, reached) = (programs.texts.as_slice().len() as u8, given.programs.as_slice());
+    let (units, reached) = (
+        programs.texts.as_slice().len() as u8,
+        given.programs.as_slice(),
+    );
     if never_ends(options.around, units, reached) {
         return Ok(Printed::nothing(alloc, beside));
     }

@@ -31,9 +31,9 @@ returns-then-back-rest-clause-none c between is =
     let back = c.leading_if-back in
     let first = ap (λ n. n + 1) c.others-first.ensures in
     let found = all_found c.args.around c.args.units c.args.turns.now between is c.cut.result.1.now c.cut-2.result.1.now front.result count.result back.result
-        c.cut.ensures.behind c.cut-2.ensures.behind
-        front.ensures.within (front.ensures.are ∙ ap (replicate front.result) first) front.ensures.none (λ there below fewer same. front.ensures.all there below fewer (same ∙ sym first))
-        count.ensures.within count.ensures.are count.ensures.all back.ensures.within back.ensures.are back.ensures.none back.ensures.all in
+    c.cut.ensures.behind c.cut-2.ensures.behind
+    front.ensures.within (front.ensures.are ∙ ap (replicate front.result) first) front.ensures.none (λ there below fewer same. front.ensures.all there below fewer (same ∙ sym first))
+    count.ensures.within count.ensures.are count.ensures.all back.ensures.within back.ensures.are back.ensures.none back.ensures.all in
     let less = c.if-back-rest.true in
     omega (arith, found.0, less)
 
@@ -44,9 +44,9 @@ returns-then-not-are_apart-clause-none c between is =
     let back = c.leading_if-back in
     let first = ap (λ n. n + 1) c.others-first.ensures in
     let found = all_found c.args.around c.args.units c.args.turns.now between is c.cut.result.1.now c.cut-2.result.1.now front.result count.result back.result
-        c.cut.ensures.behind c.cut-2.ensures.behind
-        front.ensures.within (front.ensures.are ∙ ap (replicate front.result) first) front.ensures.none (λ there below fewer same. front.ensures.all there below fewer (same ∙ sym first))
-        count.ensures.within count.ensures.are count.ensures.all back.ensures.within back.ensures.are back.ensures.none back.ensures.all in
+    c.cut.ensures.behind c.cut-2.ensures.behind
+    front.ensures.within (front.ensures.are ∙ ap (replicate front.result) first) front.ensures.none (λ there below fewer same. front.ensures.all there below fewer (same ∙ sym first))
+    count.ensures.within count.ensures.are count.ensures.all back.ensures.within back.ensures.are back.ensures.none back.ensures.all in
     let some = c.if-back-eq0.false in
     let together : c.are_apart.result ≡ false = search (rules, c.if-not-are_apart.true) in
     let one = c.are_apart.ensures.one together in
