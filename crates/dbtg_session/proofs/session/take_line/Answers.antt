@@ -29,6 +29,8 @@ pub returns-in-Ok-None-clause-taken : goal.returns-in-Ok-None-clause-taken
 returns-in-Ok-None-clause-taken c = (
   refl,
   record { text = refl; begins = refl },
-  sym c.in-Ok-None.ensures.statement ∙ c.in-Ok-None.field-0-is,
-  ap (λ (n : ℕ). first (line_faults c.args.schema.now n (trimmed c.args.line.now))) (sym (c.len.ensures ∙ c.args.script.now.begins.ok.0)) ∙ c.in-Ok-None.ensures.accepted,
+  (
+    sym c.in-Ok-None.ensures.statement ∙ c.in-Ok-None.field-0-is,
+    ap (λ (n : ℕ). first (line_faults c.args.schema.now n (trimmed c.args.line.now))) (sym (c.len.ensures ∙ c.args.script.now.begins.ok.0)) ∙ c.in-Ok-None.ensures.accepted,
+  ),
 )
