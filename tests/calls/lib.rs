@@ -1,5 +1,5 @@
 //! Makes public calls of the crates as their callers do: a module for each crate, and `dbtg_calls` for what scripts state. These tests
-//! are run, not proved: see `tests/try-calls`.
+//! are run, not proved: see `tests/program/try-calls`.
 #![tactic(auto)]
 
 #[cfg(test)]

@@ -1,7 +1,7 @@
 //! Makes the public calls of a run of two scripts by moves, one after another, and each that tells of want of memory once more: so a run
 //! of which one growth of memory was refused ends as one of which none was. Prints what `dbtg check schema script.1 script.2` and
 //! `dbtg replay --moves moves schema script.1 script.2` do, and on standard error the call that met the refusal, or how a call was not
-//! as it must be. It stands in the place of the program's main file, whose modules are put beside `hands`. See tests/refuse-calls.
+//! as it must be. It stands in the place of the program's main file, whose modules are put beside `hands`. See tests/program/refuse-calls.
 #![tactic(auto)]
 
 mod hands;

@@ -5,7 +5,6 @@ import multiprocessing
 import os
 import resource
 import signal
-import sys
 from dataclasses import dataclass, field
 
 from kit import ROOT
@@ -124,9 +123,3 @@ class Runner:
 def workers(start, words):
     """Processes, one for each processor, each of which first calls `start`."""
     return multiprocessing.get_context("fork").Pool(os.cpu_count(), start, words)
-
-
-def end(what, passed, failed):
-    """Prints the last line of a test, and ends it."""
-    print(f"{what}: {passed} passed, {failed} failed")
-    sys.exit(1 if failed or not passed else 0)

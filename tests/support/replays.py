@@ -1,4 +1,4 @@
-"""The replayed workloads of tests/workloads, on which tests measure what the program takes, and the page that says how much it may."""
+"""The replayed workloads of tests/tools/workloads, on which tests measure what the program takes, and the page that says how much it may."""
 
 import os
 import subprocess
@@ -29,9 +29,9 @@ def replay_in(folder, name, capacity, scripts):
 
 
 def replays(wanted, *options):
-    """These workloads, or all if none is named, as tests/workloads writes them by these options; they are gone after the last."""
+    """These workloads, or all if none is named, as tests/tools/workloads writes them by these options; they are gone after the last."""
     with tempfile.TemporaryDirectory() as folder:
-        subprocess.run([f"{ROOT}/tests/workloads", *options, folder], check=True)
+        subprocess.run([f"{ROOT}/tests/tools/workloads", *options, folder], check=True)
         for name, command, capacity, scripts in (line.split() for line in text_of(f"{folder}/list").splitlines()):
             if command == "replay" and (not wanted or name in wanted):
                 yield replay_in(f"{folder}/{name}", name, capacity, int(scripts))

@@ -43,7 +43,7 @@ def run_tests(program=None, nice=0):
     lines = [line.split() for line in kit.text_of(f"{kit.ROOT}/tests/tests.list").splitlines() if line and not line.startswith("#")]
     tests = [[program if it == "PROGRAM" else it for it in words] for words in lines if ("PROGRAM" in words) == bool(program)]
     with ThreadPoolExecutor(len(os.sched_getaffinity(0)) if program else 1) as pool:
-        return list(pool.map(lambda it: ran(it[1:], nice, next(word for word in it[1:] if word != "tests/watched"), least=int(it[0])), tests))
+        return list(pool.map(lambda it: ran(it[1:], nice, next(word for word in it[1:] if word != "tests/tools/watched"), least=int(it[0])), tests))
 
 
 def sum_up(done, *lines):

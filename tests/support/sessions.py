@@ -2,10 +2,10 @@
 
 import os
 import re
-import subprocess
 import tempfile
 
 from kit import ROOT
+from runs import ran
 
 TYPED = re.compile(r"([1-8])> (.*)")
 
@@ -26,10 +26,8 @@ def told(program, schema, lines):
     """What the shell prints when these lines come from a pipe, line by line."""
     with workplace() as folder:
         given = "".join(f"{it}\n" for it in lines)
-        ran = subprocess.run([program, "shell", schema], cwd=folder, input=given, capture_output=True, text=True, timeout=60, check=False)
-    if ran.returncode or ran.stderr:
-        return [f"status {ran.returncode}", ran.stderr]
-    return ran.stdout.splitlines()
+        it = ran(program, ["shell", schema], folder, input=given.encode())
+    return [f"status {it.status}", it.err] if it.status or it.err else it.out.splitlines()
 
 
 def transcript(program, schema, lines):

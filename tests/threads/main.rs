@@ -1,6 +1,6 @@
 //! Makes calls of `dbtg_run` on threads, as its first word says: `chance` runs units by chance, `meetings` lets two units meet, and one
 //! wait in vain, `alone CAPACITY SCHEMA SCRIPT` makes a script with no tries, `refused` makes calls again that found no memory, and
-//! `pace HOW CAPACITY SCHEMA SCRIPT..` is to be measured. See tests/run-threads, tests/refuse-threads and tests/pace.
+//! `pace HOW CAPACITY SCHEMA SCRIPT..` is to be measured. See tests/program/run-threads, tests/program/refuse-threads and tests/tools/pace.
 #![tactic(auto)]
 
 mod alone;

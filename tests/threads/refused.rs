@@ -1,6 +1,6 @@
 //! Makes calls of `dbtg_run`, and each that tells of want of memory once more: so a run of which one growth of memory was refused ends
 //! as one of which none was. Prints what comes of it, and on standard error the call that met the refusal, or how a call was not as it
-//! must be. See tests/refuse-threads.
+//! must be. See tests/program/refuse-threads.
 
 use super::shop::{DELETE, FIRST, SECOND, SHOP, is_done};
 use super::texts::settled_text;
