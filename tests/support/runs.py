@@ -3,7 +3,7 @@
 import subprocess
 from typing import NamedTuple
 
-# A run that takes longer is ended, and has failed.
+# A run that takes longer is ended, and its test fails.
 SECONDS = 60
 
 
@@ -15,14 +15,19 @@ class Ran(NamedTuple):
     err: str
 
 
-def ran_raw(program, words, folder=None, **how):
-    """Runs the program on these words, in a folder, and gives the bytes that it wrote. `how` says what its streams are: by default nothing is
-    given to it, and it writes to nobody else."""
-    how = {"stdin": subprocess.DEVNULL, "stdout": subprocess.PIPE, "stderr": subprocess.PIPE, "timeout": SECONDS} | how
-    if "input" in how:
-        del how["stdin"]
-    it = subprocess.run([program, *words], cwd=folder, check=False, **how)
-    return Ran(it.returncode, it.stdout or b"", it.stderr or b"")
+def ran_raw(program, words, folder=None, given=b"", seconds=SECONDS, meanwhile=None, **how):
+    """Runs the program on these words, in a folder, with these bytes as its standard input, and gives the bytes that it wrote. `meanwhile` is
+    called with the process beside it. `how` says what else is done with its streams, and in front of the program."""
+    how = {"stdin": subprocess.PIPE, "stdout": subprocess.PIPE, "stderr": subprocess.PIPE} | how
+    with subprocess.Popen([program, *words], cwd=folder, **how) as process:
+        try:
+            if meanwhile:
+                meanwhile(process)
+            out, err = process.communicate(given if process.stdin else None, seconds)
+        except BaseException:
+            process.kill()
+            raise
+    return Ran(process.returncode, out or b"", err or b"")
 
 
 def ran(program, words, folder=None, **how):

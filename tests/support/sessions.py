@@ -26,7 +26,7 @@ def told(program, schema, lines):
     """What the shell prints when these lines come from a pipe, line by line."""
     with workplace() as folder:
         given = "".join(f"{it}\n" for it in lines)
-        it = ran(program, ["shell", schema], folder, input=given.encode())
+        it = ran(program, ["shell", schema], folder, given=given.encode())
     return [f"status {it.status}", it.err] if it.status or it.err else it.out.splitlines()
 
 
