@@ -1,4 +1,4 @@
-use Rattle.std.proofs.Common.{rules, ◌≡◌, ℕ, ◌+◌, ◌<◌, List, [], ◌∷◌, ◌++◌, sym, subst, arith}
+use Rattle.std.proofs.Common.{rules, ℕ, ◌+◌, ◌<◌, List, ◌∷◌, ◌++◌, sym, subst, arith}
 use Rattle.dbtg_script.specs.Printing.Appending.{Appends}
 use Rattle.std.proofs.lemmas.Fmt.{decimal_digit}
 use Rattle.dbtg_script.specs.Printing.Texts.{four_digits}
