@@ -10,8 +10,8 @@ returns-in-Ok-clause-told c =
     let whole : c.push_answer_reply.new.out.items ≡ answer = c.in-Ok.ensures.items ∙ ap (λ (before : List ℕ). before ++ answer) c.requires.empty in
     is_answered c.args.self.now.session c.schema-schema.result.now c.in-Some.entry.now c.push_answer_reply.new.out.items c.in-Some.ensures c.schema-schema.ensures (inl whole)
 
-pub returns-in-Err-clause-told : goal.returns-in-Err-clause-told
-returns-in-Err-clause-told c =
+pub returns-clause-told : goal.returns-clause-told
+returns-clause-told c =
     let none : length c.args.room.items ≡ 0 = ap length c.requires.empty in
     let long : ANSWER_BYTES < length (answer_reply c.schema-schema.result.now c.in-Some.entry.now) = omega (arith, none, c.requires.enough, c.in-Err.ensures.full) in
     is_answered c.args.self.now.session c.schema-schema.result.now c.in-Some.entry.now _ c.in-Some.ensures c.schema-schema.ensures (inr (refl, long))
