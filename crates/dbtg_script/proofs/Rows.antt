@@ -1,12 +1,14 @@
 -- The worked rows: statements in which a word can be a keyword or a name. It is a keyword where one fits, else a name. At the end, notes
--- below answers.
+-- below answers, and a text that is appended.
 -- May use: all definitions, and the law that a line is read with keywords taken.
 -- Promises: each row is a theorem.
-use Rattle.std.proofs.Common.{◌≡◌, false, List, [], ◌∷◌, inl, inr, refl, codes}
+use Rattle.std.proofs.Common.{◌≡◌, ℕ, false, List, [], ◌∷◌, Err, arith, inl, inr, length, refl, codes, vec_capacity}
+use Rattle.std.specs.Global.{Vec}
 use Rattle.std.proofs.lemmas.Bool.{false≢true}
 use Rattle.dbtg_schema.specs.Texts.Forms.{labelled, Derives}
 use Rattle.dbtg_script.specs.declared.role.Role.{Role}
 use Rattle.dbtg_script.specs.declared.role.Role.TheVariants as role
+use Rattle.dbtg_script.specs.Printing.Appending.{Appends}
 use Rattle.dbtg_script.specs.Printing.Echo.{note_line, note_of}
 use Rattle.dbtg_script.specs.Derivations.{Derivation, TakesKeywords}
 use Rattle.dbtg_script.specs.StatementGrammar.{Labelled, currents, fits, statement, suppress}
@@ -105,3 +107,13 @@ not_noted = refl
 
 beyond_the_last_note : note_line (note_of ([] ∷ codes "area MAIN is not open" ∷ []) 2) ≡ []
 beyond_the_last_note = refl
+
+-- A TEXT IS APPENDED
+
+-- behind 3 of 8 bytes there is room for 5 more
+module _ (old new : Vec ℕ) (short : length old.items ≡ 3) (room : vec_capacity old ≡ 8) where
+  five_more_are_appended : Appends {E = ℕ} (codes "0000\n") old (Err 0) new → ⊥
+  five_more_are_appended told = let full = told.full in omega (arith, full, short, room)
+
+  six_more_may_fail : vec_capacity new ≡ 8 → Appends {E = ℕ} (codes "10000\n") old (Err 0) new
+  six_more_may_fail kept = record { items = tt; full = omega (arith, short, room); capacity = omega (arith, kept, room) }

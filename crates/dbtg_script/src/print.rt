@@ -1,5 +1,6 @@
 //! Keys, values, places and lines of printed texts, appended byte by byte.
 
+ghost use Rattle.dbtg_script.specs.Printing.Appending.{Appends};
 ghost use Rattle.dbtg_script.specs.Printing.Texts.{at_text, current_text, four_digits, generation_text, items_text, key_text, kept_entry, kept_text, mode_text, owner_text, place_text, spaced_key, type_name, value_text};
 ghost use Rattle.std.specs.List.{flat_map};
 ghost use Rattle.std.specs.Prelude.{◌≡◌, ◌+◌, ◌++◌, ◌∷◌, [], ◌<◌, OnOk, decimal};
@@ -13,7 +14,7 @@ use std::alloc::AllocError;
 #[tactic(auto, using(crate::proofs::Printing::DecimalSteps::one_digit))]
 fn push_digit(out: &mut Vec<u8>, digit: u64) -> Result<(), AllocError>
     requires { digit < 10 }
-    ensures { OnOk result (out.new.items ≡ out.old.items ++ decimal digit) }
+    ensures { Appends (decimal digit) out.old result out.new }
 {
     out.push(b'0' + digit as u8)?;
     Ok(())
@@ -22,7 +23,7 @@ fn push_digit(out: &mut Vec<u8>, digit: u64) -> Result<(), AllocError>
 #[tactic(auto, using(crate::proofs::Printing::DecimalSteps::two_digits))]
 fn push_two(out: &mut Vec<u8>, n: u64) -> Result<(), AllocError>
     requires { n < 100 }
-    ensures { OnOk result (out.new.items ≡ out.old.items ++ decimal n) }
+    ensures { Appends (decimal n) out.old result out.new }
 {
     if n < 10 {
         return push_digit(out, n);
@@ -34,7 +35,7 @@ fn push_two(out: &mut Vec<u8>, n: u64) -> Result<(), AllocError>
 #[tactic(auto, using(crate::proofs::Printing::DecimalSteps::three_digits))]
 fn push_three(out: &mut Vec<u8>, n: u64) -> Result<(), AllocError>
     requires { n < 1000 }
-    ensures { OnOk result (out.new.items ≡ out.old.items ++ decimal n) }
+    ensures { Appends (decimal n) out.old result out.new }
 {
     if n < 100 {
         return push_two(out, n);
@@ -52,7 +53,7 @@ fn push_three(out: &mut Vec<u8>, n: u64) -> Result<(), AllocError>
 #[tactic(auto, using(crate::proofs::Printing::DecimalSteps::digits_of_four))]
 fn push_four(out: &mut Vec<u8>, n: u64) -> Result<(), AllocError>
     requires { n < 10000 }
-    ensures { OnOk result (out.new.items ≡ out.old.items ++ decimal n) }
+    ensures { Appends (decimal n) out.old result out.new }
 {
     if n < 1000 {
         return push_three(out, n);
@@ -70,7 +71,7 @@ fn push_four(out: &mut Vec<u8>, n: u64) -> Result<(), AllocError>
 
 /// A number of at most eight digits is appended without a buffer.
 pub fn push_number(out: &mut Vec<u8>, n: u64) -> Result<(), AllocError>
-    ensures { OnOk result (out.new.items ≡ out.old.items ++ decimal n) }
+    ensures { Appends (decimal n) out.old result out.new }
 {
     if n < 10_000 {
         return push_four(out, n);
@@ -84,7 +85,7 @@ pub fn push_number(out: &mut Vec<u8>, n: u64) -> Result<(), AllocError>
 
 /// A byte, and a number behind it.
 pub fn push_marked_number(out: &mut Vec<u8>, mark: u8, n: u64) -> Result<(), AllocError>
-    ensures { OnOk result (out.new.items ≡ out.old.items ++ mark ∷ decimal n) }
+    ensures { Appends (mark ∷ decimal n) out.old result out.new }
 {
     out.push(mark)?;
     push_number(out, n)
@@ -93,7 +94,7 @@ pub fn push_marked_number(out: &mut Vec<u8>, mark: u8, n: u64) -> Result<(), All
 // A number of any length. It stands apart, since its buffer takes room at each call.
 #[inline(never)]
 fn push_long(out: &mut Vec<u8>, n: u64) -> Result<(), AllocError>
-    ensures { OnOk result (out.new.items ≡ out.old.items ++ decimal n) }
+    ensures { Appends (decimal n) out.old result out.new }
 {
     let mut buffer = Buffer::new();
     out.extend_from_slice(buffer.format(n).as_bytes())
@@ -101,7 +102,7 @@ fn push_long(out: &mut Vec<u8>, n: u64) -> Result<(), AllocError>
 
 // The last four digits of a number, with zeros in front.
 fn push_four_digits(out: &mut Vec<u8>, n: u16) -> Result<(), AllocError>
-    ensures { OnOk result (out.new.items ≡ out.old.items ++ four_digits n) }
+    ensures { Appends (four_digits n) out.old result out.new }
 {
     let digits = [
         b'0' + (n / 1000) as u8,
@@ -114,14 +115,14 @@ fn push_four_digits(out: &mut Vec<u8>, n: u16) -> Result<(), AllocError>
 
 /// A status as four digits.
 pub fn push_status(out: &mut Vec<u8>, status: u16) -> Result<(), AllocError>
-    ensures { OnOk result (out.new.items ≡ out.old.items ++ four_digits status) }
+    ensures { Appends (four_digits status) out.old result out.new }
 {
     push_four_digits(out, status)
 }
 
 /// The number of a unit and a status, each after a space. If the unit has one digit, all are appended at once.
 pub fn push_unit_and_status(out: &mut Vec<u8>, unit: u8, status: u16) -> Result<(), AllocError>
-    ensures { OnOk result (out.new.items ≡ out.old.items ++ 32 ∷ decimal unit ++ 32 ∷ four_digits status) }
+    ensures { Appends (32 ∷ decimal unit ++ 32 ∷ four_digits status) out.old result out.new }
 {
     if unit < 10 {
         let bytes = [
@@ -150,7 +151,7 @@ fn type_name(schema: &Schema, rtype: RecordNo) -> &[u8]
 }
 
 fn push_generation(out: &mut Vec<u8>, generation: u8) -> Result<(), AllocError>
-    ensures { OnOk result (out.new.items ≡ out.old.items ++ generation_text generation) }
+    ensures { Appends (generation_text generation) out.old result out.new }
 {
     if generation == 1 {
         return Ok(());
@@ -160,7 +161,7 @@ fn push_generation(out: &mut Vec<u8>, generation: u8) -> Result<(), AllocError>
 
 /// The name of the record type, the number, and the generation if it is above the first.
 pub fn push_key(out: &mut Vec<u8>, schema: &Schema, key: &DbKey) -> Result<(), AllocError>
-    ensures { OnOk result (out.new.items ≡ out.old.items ++ key_text schema.now key.now) }
+    ensures { Appends (key_text schema.now key.now) out.old result out.new }
 {
     out.extend_from_slice(type_name(schema, key.rtype))?;
     push_marked_number(out, b':', key.number as u64)?;
@@ -168,7 +169,7 @@ pub fn push_key(out: &mut Vec<u8>, schema: &Schema, key: &DbKey) -> Result<(), A
 }
 
 pub fn push_spaced_key(out: &mut Vec<u8>, schema: &Schema, key: &DbKey) -> Result<(), AllocError>
-    ensures { OnOk result (out.new.items ≡ out.old.items ++ spaced_key schema.now key.now) }
+    ensures { Appends (spaced_key schema.now key.now) out.old result out.new }
 {
     out.push(b' ')?;
     push_key(out, schema, key)
@@ -184,7 +185,7 @@ pub fn push_each_key(out: &mut Vec<u8>, schema: &Schema, keys: &[DbKey]) -> Resu
 }
 
 fn push_value(out: &mut Vec<u8>, value: &Value) -> Result<(), AllocError>
-    ensures { OnOk result (out.new.items ≡ out.old.items ++ value_text value.now) }
+    ensures { Appends (value_text value.now) out.old result out.new }
 {
     match value {
         Value::Num(n) => push_number(out, *n),
@@ -197,7 +198,7 @@ fn push_value(out: &mut Vec<u8>, value: &Value) -> Result<(), AllocError>
 }
 
 fn push_item(out: &mut Vec<u8>, name: &[u8], value: &Value) -> Result<(), AllocError>
-    ensures { OnOk result (out.new.items ≡ out.old.items ++ 32 ∷ name.now ++ 61 ∷ value_text value.now) }
+    ensures { Appends (32 ∷ name.now ++ 61 ∷ value_text value.now) out.old result out.new }
 {
     out.push(b' ')?;
     out.extend_from_slice(name)?;
@@ -207,7 +208,7 @@ fn push_item(out: &mut Vec<u8>, name: &[u8], value: &Value) -> Result<(), AllocE
 
 /// Each value after the name of its item.
 pub fn push_each_item(out: &mut Vec<u8>, values: &[Value], items: &[Item]) -> Result<(), AllocError>
-    ensures { OnOk result (out.new.items ≡ out.old.items ++ items_text values.now items.now) }
+    ensures { Appends (items_text values.now items.now) out.old result out.new }
 {
     for (i, value) in values.iter().enumerate() {
         if i >= items.len() {

@@ -1,5 +1,6 @@
 //! The printed texts: answers and units.
 
+ghost use Rattle.dbtg_script.specs.Printing.Appending.{Appends};
 ghost use Rattle.dbtg_script.specs.Printing.Texts.{answer_front, answer_text, answered_text, answers_text, current_text, found_text, named_answer_text, place_text, unit_text, units_text};
 ghost use Rattle.std.specs.List.{flat_map};
 ghost use Rattle.std.specs.Prelude.{◌≡◌, ◌++◌, IfOk, OnOk, codes, decimal, option_map};
@@ -22,7 +23,7 @@ fn push_found(
     key: Option<DbKey>,
     items: Option<&SharedItems>,
 ) -> Result<(), AllocError>
-    ensures { OnOk result (out.new.items ≡ out.old.items ++ found_text schema.now key (option_map (λ r. r.now) items.entry)) }
+    ensures { Appends (found_text schema.now key (option_map (λ r. r.now) items.entry)) out.old result out.new }
 {
     match key {
         None => Ok(()),
@@ -55,7 +56,7 @@ pub fn push_answered(
 }
 
 fn push_answer_front(out: &mut Vec<u8>, schema: &Schema, entry: &Entry) -> Result<(), AllocError>
-    ensures { OnOk result (out.new.items ≡ out.old.items ++ answer_front schema.now entry.now) }
+    ensures { Appends (answer_front schema.now entry.now) out.old result out.new }
 {
     push_number(out, entry.ticket)?;
     let answer = &entry.answer;
@@ -66,7 +67,7 @@ fn push_answer_front(out: &mut Vec<u8>, schema: &Schema, entry: &Entry) -> Resul
 
 /// Appends a line of a history: the ticket, unit and answer of an entry.
 pub fn push_answer(out: &mut Vec<u8>, schema: &Schema, entry: &Entry) -> Result<(), AllocError>
-    ensures { OnOk result (out.new.items ≡ out.old.items ++ answer_text schema.now entry.now) }
+    ensures { Appends (answer_text schema.now entry.now) out.old result out.new }
 {
     push_answer_front(out, schema, entry)?;
     out.extend_from_slice(b"\n")
@@ -79,7 +80,7 @@ pub fn push_named_answer(
     entry: &Entry,
     name: &[u8],
 ) -> Result<(), AllocError>
-    ensures { OnOk result (out.new.items ≡ out.old.items ++ named_answer_text schema.now entry.now name.now) }
+    ensures { Appends (named_answer_text schema.now entry.now name.now) out.old result out.new }
 {
     push_answer_front(out, schema, entry)?;
     out.push(b' ')?;

@@ -1,11 +1,12 @@
--- Worked rows: what commands ask for, and which of them show something.
+-- Worked rows: what commands ask for, and which of them show something; which answers are told.
 -- Promises: a row computes from the definitions alone.
-use Rattle.std.proofs.Common.{◌≡◌, ℕ, Option, true, false, None, Some, refl}
+use Rattle.std.proofs.Common.{◌≡◌, ℕ, List, Option, true, false, None, Some, arith, inl, inr, length, refl}
 use Rattle.std.specs.Prelude.{codes}
 use Rattle.dbtg_draw.specs.Listing.{schema_lines}
 use Rattle.dbtg_step.specs.Core.Whole.{Making}
 use Rattle.dbtg_session.specs.Asking.{asks_undo, is_command, means_unit, names_unit, turn_given}
 use Rattle.dbtg_session.specs.Replies.{shown_by}
+use Rattle.dbtg_session.specs.Sessions.{Tells}
 
 -- WHAT A LINE ASKS FOR
 
@@ -55,3 +56,14 @@ schema_and_a_word m turn fault = refl
 -- nothing is said here of what other commands print
 help_is_not_shown : (m : Making) (turn : ℕ) (fault : Option ℕ) → shown_by m turn fault (codes "help") ≡ None
 help_is_not_shown m turn fault = refl
+
+-- ANSWERS
+
+-- an answer of 2,048 bytes is told, and one of 2,049 may not be
+module _ (answer out : List ℕ) where
+  all_is_told : length answer ≡ 2048 → Tells answer out → out ≡ answer
+  all_is_told long (inl same) = same
+  all_is_told long (inr untold) = let more = untold.1 in absurd (omega (arith, long, more))
+
+  too_long_to_tell : length answer ≡ 2049 → Tells answer (codes "made, and there is no room for its answer\n")
+  too_long_to_tell long = inr (refl, omega (arith, long))

@@ -1,6 +1,6 @@
 -- What is told of a line.
 use Rattle.std.proofs.Common.{◌≡◌, ℕ, true, false, Option, ◌+◌, ◌-◌, List, [], ◌∷◌, ◌++◌, length, Some, slice_get, inl, inr, ap, sym, ◌∙◌, subst, arith, length-append, IfOk, Result, Ok, Err, None}
-use Rattle.std.specs.Prelude.{◌==◌, ◌&&◌, OnErr, codes, if◌then◌else◌, option_map}
+use Rattle.std.specs.Prelude.{◌==◌, ◌&&◌, IfSome, OnErr, codes, if◌then◌else◌, option_map}
 use Rattle.std.specs.Str.{bytes_eq}
 use Rattle.std.proofs.lemmas.Bool.{and_parts}
 use Rattle.std.proofs.lemmas.Slice.Eq.{bytes_eq-Decides}
@@ -14,7 +14,7 @@ use Rattle.dbtg_script.specs.Printing.Texts.{units_text}
 use Rattle.dbtg_script.specs.declared.fault.Cause.{Cause}
 use Rattle.dbtg_session.specs.Asking.{asked_of, asks_undo, behind_spaces, is_unit, turn_after, turn_behind, turn_given}
 use Rattle.dbtg_session.specs.Replies.{IsFaultText, answer_reply, database_text, explained_text, fault_page, no_unit_text, shown_by, unit_shown}
-use Rattle.dbtg_session.specs.Sessions.{Answers, IsLastAnswer, IsText, IsUnmade, NotesAsked, Prints, RefusesLine, TakesAsked, TakesLine, Typed}
+use Rattle.dbtg_session.specs.Sessions.{Answers, IsAnswered, IsText, IsUnmade, NotesAsked, Prints, RefusesLine, TakesAsked, TakesLine, Tells, Typed, last_made}
 use Rattle.dbtg_session.specs.declared.asked.Asked.{Asked}
 use Rattle.dbtg_session.specs.declared.commands.Reply.{Reply}
 use Rattle.dbtg_session.specs.declared.commands.Reply.TheVariants as reply
@@ -34,11 +34,9 @@ last_entry history before e is =
     let place : length history - 1 ≡ length before = omega (arith, many) in
     ap (slice_get history) place ∙ ap (λ (es : List Entry). slice_get es (length before)) is ∙ get_behind before e []
 
-pub is_last : (typed : Typed) (schema : Lists) (one : Entry) (out : List ℕ) → Some one ≡ slice_get typed.making.history (length typed.making.history - 1) → schema ≡ typed.making.schema → out ≡ answer_reply schema one → IsLastAnswer typed out
-is_last typed schema one out at same told = λ before e is.
-    let found : Some one ≡ Some e = at ∙ last_entry typed.making.history before e is in
-    let entry : one ≡ e = cc (found) in
-    subst (λ (s : Lists). out ≡ answer_reply s e) same (subst (λ (x : Entry). out ≡ answer_reply schema x) entry told)
+pub is_answered : (typed : Typed) (schema : Lists) (one : Entry) (out : List ℕ) → Some one ≡ last_made typed → schema ≡ typed.making.schema → Tells (answer_reply schema one) out → IsAnswered typed out
+is_answered typed schema one out at same told =
+    subst (λ (last : Option Entry). IfSome last (λ e. Tells (answer_reply typed.making.schema e) out)) at (subst (λ (s : Lists). Tells (answer_reply s one) out) same told)
 
 -- what `explain` says of a topic is the page of its fault
 pub page_of_fault : (n : ℕ) (topic : Topic) (out : List ℕ) → IsFault kind.Script n (Some topic) → out ≡ topic_text topic → Some out ≡ fault_page n

@@ -1,6 +1,6 @@
 -- A session of the shell: what was typed, and what each line does to it and prints. Each statement is made whole on one database, and its
 -- line is appended to the script of its unit.
-use Rattle.std.specs.Prelude.{ℕ, ◌≡◌, ◌+◌, ◌-◌, ◌≤◌, ◌<◌, ◌∷◌, ◌++◌, ◌⊎◌, Bool, true, false, IfOk, IsSomeAnd, OnErr, List, [], length, map, Option, None, Some, Result, Ok, Err, option_map, slice_get, slice_set, unwrap_or}
+use Rattle.std.specs.Prelude.{ℕ, ◌≡◌, ◌+◌, ◌-◌, ◌≤◌, ◌<◌, ◌∷◌, ◌++◌, ◌⊎◌, Bool, true, false, IfOk, IfSome, IsSomeAnd, OnErr, List, [], length, map, Option, None, Some, Result, Ok, Err, option_map, slice_get, slice_set, unwrap_or}
 use Rattle.dbtg_schema.specs.Lists.{Lists}
 use Rattle.dbtg_schema.specs.Lookups.{first}
 use Rattle.dbtg_unit.specs.Database.Laws.Replay.{entries_of}
@@ -20,7 +20,7 @@ use Rattle.dbtg_session.specs.declared.asked.Asked.{Asked}
 use Rattle.dbtg_session.specs.declared.asked.Asked.TheVariants as asked
 use Rattle.dbtg_session.specs.declared.commands.Reply.{Reply}
 use Rattle.dbtg_session.specs.declared.commands.Reply.TheVariants as reply
-use Rattle.dbtg_session.specs.declared.commands.TheConstants.{UNTOLD}
+use Rattle.dbtg_session.specs.declared.commands.TheConstants.{ANSWER_BYTES, UNTOLD}
 use Rattle.dbtg_session.specs.Asking.{asked_of, asks_undo, bare_command, behind_spaces, is_unit, turn_after}
 use Rattle.dbtg_session.specs.Replies.{IsFaultText, answer_reply, no_unit_text, shown_by, undone_text}
 use Rattle.dbtg_refusal.specs.Said.{said_in}
@@ -106,13 +106,13 @@ Prints (Some text) told = IsText (λ out. out ≡ text) told
 abbrev pub last_made : Typed → Option Entry
 last_made typed = slice_get typed.making.history (length typed.making.history - 1)
 
--- the answer of the last statement
-abbrev pub IsLastAnswer : Typed → List ℕ → Type 0
-IsLastAnswer typed out = (before : List Entry) (e : Entry) → typed.making.history ≡ before ++ e ∷ [] → out ≡ answer_reply typed.making.schema e
+-- this answer; or that there is no room for it, which is said only where it is longer than the room that is found for every answer
+abbrev pub Tells : List ℕ → List ℕ → Type 0
+Tells answer out = (out ≡ answer) ⊎ ((out ≡ UNTOLD.now) × (ANSWER_BYTES < length answer))
 
--- the same; or that it was not to be printed, since it is longer than the room that was found for it
+-- the answer of the last statement is told
 abbrev pub IsAnswered : Typed → List ℕ → Type 0
-IsAnswered typed out = IsLastAnswer typed out ⊎ (out ≡ UNTOLD.now)
+IsAnswered typed out = IfSome (last_made typed) (λ e. Tells (answer_reply typed.making.schema e) out)
 
 -- what is in the way of the last statement; nothing if it was done
 abbrev pub last_said : Typed → List ℕ

@@ -1,6 +1,6 @@
 //! The commands of the shell, and what each line does.
 ghost use Rattle.std.specs.List.{list_any};
-ghost use Rattle.std.specs.Prelude.{◌≡◌, ◌≤◌, ◌<◌, ◌++◌, ◌∷◌, [], IfNone, IfOk, IfSome, None, OnErr, OnOk, Some, is_some, map, option_map, string_bytes};
+ghost use Rattle.std.specs.Prelude.{◌≡◌, ◌≤◌, ◌<◌, ◌++◌, ◌∷◌, [], IfNone, IfOk, IfSome, None, OnErr, OnOk, Some, is_some, map, option_map, string_bytes, vec_capacity};
 ghost use Rattle.std.specs.Str.{bytes_eq};
 ghost use Rattle.dbtg_script.specs.Printing.Causes.{cause_number};
 ghost use Rattle.dbtg_script.specs.declared.fault.Cause.TheVariants.{LineNotAllowed};
@@ -237,7 +237,8 @@ impl<'a> Shell<'a> {
 
     // The answer of the last statement, in the room for it.
     fn tell_last<'b>(&mut self, room: Vec<u8>) -> Reply<'b>
-        requires { room.items ≡ [] }
+        requires empty { room.items ≡ [] }
+        requires enough { ANSWER_BYTES ≤ vec_capacity room }
         ensures unchanged { self.new.session ≡ self.old.session }
         ensures turn { self.new.turn ≡ self.old.turn }
         ensures told { IsText (IsAnswered self.old.session) result }

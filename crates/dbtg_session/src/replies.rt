@@ -1,7 +1,8 @@
 //! What the shell replies to a line: answers, faults and currents, as texts.
 ghost use Rattle.std.specs.List.{list_any};
-ghost use Rattle.std.specs.Prelude.{◌≡◌, ◌-◌, ◌%◌, ◌≤◌, ◌<◌, [], ◌∷◌, ◌++◌, codes, decimal, IfOk, length, OnOk, Some, option_and_then, option_map, slice_get};
+ghost use Rattle.std.specs.Prelude.{◌≡◌, ◌-◌, ◌%◌, ◌≤◌, ◌<◌, [], ◌∷◌, ◌++◌, codes, decimal, IfOk, length, Some, option_and_then, option_map, slice_get};
 ghost use Rattle.std.specs.Str.{bytes_eq};
+ghost use Rattle.dbtg_script.specs.Printing.Appending.{Appends};
 ghost use Rattle.dbtg_script.specs.Printing.Texts.{units_text};
 ghost use Rattle.dbtg_step.specs.Core.Whole.{state_now};
 ghost use Rattle.dbtg_session.specs.Replies.{IsFaultText, answer_page, answer_reply, cause_name, database_text, fault_page, help_words, hint_for, no_unit_text, quit_words, said_or, undone_text, unit_said, with_here};
@@ -28,14 +29,13 @@ fn cause_name(status: u16) -> Option<&'static [u8]>
     Some(field(row, 1))
 }
 
-/// The answer of an entry, as `replay` prints it; a refusal with the name of its cause.
+/// Appends the answer of an entry, as `replay` prints it; a refusal with the name of its cause.
 pub fn push_answer_reply(
     out: &mut Vec<u8>,
     schema: &Schema,
     entry: &Entry,
 ) -> Result<(), AllocError>
-    requires { out.old.items ≡ [] }
-    ensures { OnOk result (out.new.items ≡ answer_reply schema.now entry.now) }
+    ensures { Appends (answer_reply schema.now entry.now) out.old result out.new }
 {
     let status = entry.answer.status.code(&entry.statement);
     if status == 0 {

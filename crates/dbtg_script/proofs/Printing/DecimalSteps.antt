@@ -1,5 +1,5 @@
 -- The digits of a number.
-use Rattle.std.proofs.Common.{◌≡◌, ℕ, ◌+◌, ◌/◌, ◌%◌, ◌<◌, ◌≤◌, ◌^◌, List, [], ◌∷◌, ◌++◌, sym, ap, ◌∙◌, append_assoc, arith}
+use Rattle.std.proofs.Common.{◌≡◌, ℕ, ◌+◌, ◌/◌, ◌%◌, ◌<◌, ◌≤◌, ◌^◌, List, [], ◌∷◌, ◌++◌, ap, ◌∙◌, append_assoc, arith}
 use Rattle.std.specs.Prelude.{decimal}
 use Rattle.std.proofs.lemmas.Fmt.{decimal_digit, decimal_step}
 use Rattle.dbtg_script.specs.Printing.Texts.{four_digits}
@@ -22,7 +22,7 @@ pub digits_of_four : (n : ℕ) → 1000 ≤ n → n < 10000 → decimal n ≡ (4
 digits_of_four n h l = digit_more n _ (omega arith) (omega arith) (three_digits (n / 10) (omega arith) (omega arith))
 
 -- the last four digits after the others
-last_four : (n : ℕ) → 10000 ≤ n → n < 2 ^ 64 → decimal n ≡ decimal (n / 10000) ++ four_digits (n % 10000)
+pub last_four : (n : ℕ) → 10000 ≤ n → n < 2 ^ 64 → decimal n ≡ decimal (n / 10000) ++ four_digits (n % 10000)
 last_four n h small =
     let thousands = digit_more (n / 10 / 10 / 10) _ (omega arith) (omega arith) (λ i. decimal (n / 10 / 10 / 10 / 10)) in
     let hundreds = digit_more (n / 10 / 10) _ (omega arith) (omega arith) thousands in
@@ -42,10 +42,3 @@ last_four n h small =
     ∙ append_assoc (ds ++ w ∷ []) (x ∷ []) (y ∷ z ∷ [])
     ∙ append_assoc ds (w ∷ []) (x ∷ y ∷ z ∷ [])
     ∙ (λ i. decimal (front i) ++ (48 + a i) ∷ (48 + b i) ∷ (48 + c i) ∷ (48 + d i) ∷ [])
-
--- the same after what stands before
-pub with_last_four : (xs ys : List ℕ) (n : ℕ) → 10000 ≤ n → n < 2 ^ 64 → ys ≡ xs ++ decimal (n / 10000) → ys ++ four_digits (n % 10000) ≡ xs ++ decimal n
-with_last_four xs ys n h small e =
-    ap (λ (zs : List ℕ). zs ++ four_digits (n % 10000)) e
-    ∙ append_assoc xs (decimal (n / 10000)) (four_digits (n % 10000))
-    ∙ ap (λ (ds : List ℕ). xs ++ ds) (sym (last_four n h small))
