@@ -17,11 +17,10 @@ use crate::found::Found;
 use crate::meeting::Meeting;
 use crate::standing::failure;
 use crate::walk::Walk;
-use dbtg_schema::Row;
-use dbtg_states::{Numbers, as_numbers};
+use dbtg_states::Numbers;
 use std::alloc::{AllocError, Global};
 
-/// The first order to each result, and the failures.
+/// The place of the first order to each result, and the failures.
 #[derive(Drop)]
 pub struct Ends {
     pub results: Found,
@@ -88,23 +87,20 @@ impl Ends {
         note_each_failure(meeting, &mut self.failures, numbers, state)
     }
 
-    /// Notes the order that leads there, where no program can go on.
+    /// Notes the place of the order that leads there, where no program can go on.
     pub fn note_result(
         &mut self,
         alloc: Global,
         meeting: &Meeting,
-        order: Row<u8>,
+        place: usize,
         here: &Walk,
     ) -> Result<(), AllocError>
         requires meeting { IsMeeting meeting.now }
-        requires here { StandsAt meeting.now order here.now }
-        requires end { (u : ℕ) → can_go_on meeting.now (history_of meeting.now order) u ≡ false }
-        ensures result { OnOk result (NotesResult meeting.now order self.old.results self.new.results) }
+        requires here { IsPlace meeting.now here.now }
+        ensures result { OnOk result (IsEnteredAt self.old.results (state_text meeting.now (without_versions (state_after meeting.now here.now.database.making.history))) place self.new.results) }
         ensures failures { OnOk result (self.new.failures.items ≡ self.old.failures.items) }
     {
         let text = meeting.text(alloc, here)?;
-        let key = as_numbers(alloc, text.as_slice())?;
-        self.results.enter(key, order)?;
-        Ok(())
+        self.results.enter(text, place)
     }
 }

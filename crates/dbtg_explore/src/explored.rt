@@ -65,9 +65,8 @@ impl Search {
         if !meeting.is_at_end(&self.numbers, state) {
             return Ok(());
         }
-        let order = Row::of(self.found.order(alloc, place)?);
-        meeting.go_to(alloc, walk, order.as_slice())?;
-        ends.note_result(alloc, meeting, order, walk)
+        meeting.go_to(alloc, walk, &self.found, place)?;
+        ends.note_result(alloc, meeting, place, walk)
     }
 
     // The state to which the order at this place leads: notes its ends, and finds what can be next.
@@ -132,12 +131,13 @@ fn explored_by<'a, W: Watch>(
     ensures stopped { IfErr result (λ stop. stop ≡ States → HasMoreStates meeting.now limit) }
 {
     let (search, ends) = visit_all(alloc, watch, meeting, walk, limit)?;
-    let states = search.found.len() as u64;
-    let endless = endless_in(alloc, search)?;
     let Ends { results, failures } = ends;
+    let states = search.found.len() as u64;
+    let results = results.orders(alloc, &search.found)?;
+    let endless = endless_in(alloc, search)?;
     Ok(Explored {
         states,
-        results: results.into_orders(),
+        results,
         failures: Row::of(failures),
         endless,
     })
