@@ -1,15 +1,17 @@
 //! What is noted of the states that a search finds: the results, told apart by their texts, and the failures.
 
-ghost use Rattle.dbtg_explore.specs.Inside.Ends.{AreEndsOf, FailsIn, FailsSo, NotesResult};
+ghost use Rattle.dbtg_explore.specs.Inside.Ends.{AreEndsOf, FailsIn, FailsSo};
 ghost use Rattle.dbtg_explore.specs.Inside.Failures.{Take};
+ghost use Rattle.dbtg_explore.specs.Inside.Found.{IsEnteredAt};
 ghost use Rattle.dbtg_explore.specs.Inside.Parts.{IsNumberOf};
 ghost use Rattle.dbtg_explore.specs.Inside.Standing.{fails_in};
-ghost use Rattle.dbtg_explore.specs.Inside.Walks.{StandsAt};
-ghost use Rattle.dbtg_explore.specs.Orders.{IsMeeting, Meeting as MeetingOfPrograms, can_go_on, history_of};
-ghost use Rattle.dbtg_explore.specs.States.{state_after};
+ghost use Rattle.dbtg_explore.specs.Inside.Walks.{IsPlace};
+ghost use Rattle.dbtg_explore.specs.Orders.{IsMeeting, Meeting as MeetingOfPrograms};
+ghost use Rattle.dbtg_explore.specs.Results.{state_text};
+ghost use Rattle.dbtg_explore.specs.States.{state_after, without_versions};
 ghost use Rattle.dbtg_interned.specs.Arrays.{IsArray};
 ghost use Rattle.dbtg_unit.specs.declared.unit.Entry.{Entry};
-ghost use Rattle.std.specs.Prelude.{◌≡◌, ◌<◌, ℕ, List, [], false, OnOk};
+ghost use Rattle.std.specs.Prelude.{◌≡◌, ◌<◌, ℕ, List, [], OnOk};
 
 use crate::explored::Failure;
 use crate::failures::enter_failure;
@@ -64,7 +66,7 @@ fn note_each_failure(
 impl Ends {
     /// Nothing noted.
     pub fn none(alloc: Global) -> Self
-        ensures { (m : MeetingOfPrograms) → AreEndsOf m [] result }
+        ensures { (m : MeetingOfPrograms) (os : List (List ℕ)) → AreEndsOf m os [] result }
     {
         Self {
             results: Found::none(alloc),

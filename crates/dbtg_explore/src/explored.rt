@@ -3,7 +3,7 @@
 ghost use Rattle.dbtg_explore.specs.Explored.{IsExplored};
 ghost use Rattle.dbtg_explore.specs.Inside.Ends.{Notes};
 ghost use Rattle.dbtg_explore.specs.Inside.Visits.{HasVisited, IsThrough, IsVisited};
-ghost use Rattle.dbtg_explore.specs.Inside.Walks.{Stands, StandsAt};
+ghost use Rattle.dbtg_explore.specs.Inside.Walks.{StandsAmong, StandsAt};
 ghost use Rattle.dbtg_explore.specs.Orders.{IsMeeting};
 ghost use Rattle.dbtg_explore.specs.States.{HasMoreStates};
 ghost use Rattle.dbtg_states.specs.declared.stop.Stop.TheVariants.{States};
@@ -54,11 +54,11 @@ impl Search {
         place: usize,
     ) -> Result<(), AllocError>
         requires meeting { IsMeeting meeting.now }
-        requires stands { Stands meeting.now walk.old }
+        requires stands { StandsAmong meeting.now self.now.found.orders walk.old }
         requires visited { IsVisited meeting.now place self.now ends.old }
         requires within { place < length self.now.found.orders }
-        ensures stands { OnOk result (Stands meeting.now walk.new) }
-        ensures notes { OnOk result (Notes meeting.now (slice_index_or self.now.found.orders place []) ends.old ends.new) }
+        ensures stands { OnOk result (StandsAmong meeting.now self.now.found.orders walk.new) }
+        ensures notes { OnOk result (Notes meeting.now self.now.found.orders (slice_index_or self.now.found.orders place []) ends.old ends.new) }
     {
         let state = self.found.number(place);
         ends.note_failures(meeting, &self.numbers, state)?;
@@ -79,10 +79,10 @@ impl Search {
         place: usize,
     ) -> Result<(), Stop>
         requires meeting { IsMeeting meeting.now }
-        requires stands { Stands meeting.now walk.old }
+        requires stands { StandsAmong meeting.now self.old.found.orders walk.old }
         requires visited { IsVisited meeting.now place self.old ends.old }
         requires within { place < length self.old.found.orders }
-        ensures stands { OnOk result (Stands meeting.now walk.new) }
+        ensures stands { OnOk result (StandsAmong meeting.now self.new.found.orders walk.new) }
         ensures visited { OnOk result (HasVisited meeting.now place self.old self.new ends.new) }
         ensures stopped { IfErr result (λ stop. stop ≡ States → HasMoreStates meeting.now self.old.limit) }
     {
@@ -101,7 +101,6 @@ fn visit_all<'a, W: Watch>(
 ) -> Result<(Search, Ends), Stop>
     requires meeting { IsMeeting meeting.now }
     requires stands { StandsAt meeting.now [] walk.old }
-    ensures stands { OnOk result (Stands meeting.now walk.new) }
     ensures through { IfOk result (λ all. IsThrough meeting.now limit all.0 all.1) }
     ensures stopped { IfErr result (λ stop. stop ≡ States → HasMoreStates meeting.now limit) }
 {

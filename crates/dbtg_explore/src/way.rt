@@ -1,9 +1,8 @@
 //! The way from where a walk stands to the order at a place: which of its turns stay, and which are taken behind them.
 
-ghost use Rattle.dbtg_explore.specs.Inside.Found.{FoundOrders};
 ghost use Rattle.dbtg_explore.specs.Inside.Links.{GoOn, IsWay};
 ghost use Rattle.dbtg_explore.specs.Inside.Walks.{EndsWith, links_of};
-ghost use Rattle.std.specs.Prelude.{◌≡◌, ◌≤◌, ◌<◌, [], ℕ, true, length, IfOk};
+ghost use Rattle.std.specs.Prelude.{◌≡◌, ◌≤◌, ◌<◌, [], true, length, IfOk};
 
 use crate::known::Known;
 use crate::orders::Link;
