@@ -35,6 +35,10 @@ gone_there os o (j ∷ ls) zero l h there =
     subst (λ (x : Link). slice_get os x.before ≡ Some (o ++ [])) same (h.0 ∙ ap Some (sym (append-nil o)))
 gone_there os o (j ∷ ls) (suc k) l h there = gone_there os (o ++ j.unit ∷ []) ls k l h.1 there ∙ ap Some (append_assoc o (j.unit ∷ []) (units_of (take k ls)))
 
+-- one more of them
+pub further : (old mid new ls : List Link) (i : ℕ) (d : Link) → i < length ls → mid ≡ old ++ take i ls → new ≡ mid ++ get_or ls i d ∷ [] → new ≡ old ++ take (i + 1) ls
+further old mid new ls i d low at more = more ∙ ap (λ ks. ks ++ get_or ls i d ∷ []) at ∙ append_assoc old (take i ls) (get_or ls i d ∷ []) ∙ ap (λ ks. old ++ ks) (sym (take_more ls i d low))
+
 -- an order stays at its place when others are appended
 pub stays_there : (os more : List (List ℕ)) (i : ℕ) (o : List ℕ) → slice_get os i ≡ Some o → slice_get (os ++ more) i ≡ Some o
 stays_there os more i o there =
