@@ -130,16 +130,16 @@ module _ (old new : List (List ℕ)) (text : List ℕ) (n : ℕ) (once : IsOnce 
         elim text_entered [
           | inl before ↦ let low = before.0 in absurd (omega (arith, low, last, long))
           | inr fresh ↦ subst (λ g. IsEnteredAt g text place (record { texts = new; places = more })) f_is
-            (inr (record {
-              absent = λ c.
-                  let low = c.1 in
-                  let there : slice_get new c.0 ≡ Some text = ap (λ ts. slice_get ts c.0) fresh.1 ∙ stays_there old (text ∷ []) c.0 text (slice_get-get_or old c.0 text low ∙ ap Some c.2) in
-                  let same = once n c.0 text at there in
-                  let is = fresh.0 in
-                  omega (arith, same, is, low);
-              texts_are = fresh.1;
-              places_are = pushed;
-            }))
+              (inr (record {
+                absent = λ c.
+                    let low = c.1 in
+                    let there : slice_get new c.0 ≡ Some text = ap (λ ts. slice_get ts c.0) fresh.1 ∙ stays_there old (text ∷ []) c.0 text (slice_get-get_or old c.0 text low ∙ ap Some c.2) in
+                    let same = once n c.0 text at there in
+                    let is = fresh.0 in
+                    omega (arith, same, is, low);
+                texts_are = fresh.1;
+                places_are = pushed;
+              }))
         ]
 
     -- a text that is there
@@ -147,6 +147,6 @@ module _ (old new : List (List ℕ)) (text : List ℕ) (n : ℕ) (once : IsOnce 
     text_known other =
         elim text_entered [
           | inl before ↦ subst (λ g. IsEnteredAt g text place (record { texts = new; places = places })) f_is
-            (inl ((n, before.0, get_or_from_slice_get old n text _ (ap (λ ts. slice_get ts n) (sym before.1) ∙ at)), λ i. record { texts = before.1 i; places = places }))
+              (inl ((n, before.0, get_or_from_slice_get old n text _ (ap (λ ts. slice_get ts n) (sym before.1) ∙ at)), λ i. record { texts = before.1 i; places = places }))
           | inr fresh ↦ absurd (other (fresh.0 ∙ sym long))
         ]

@@ -1,6 +1,6 @@
 -- Turns one after another, each behind the order at its place, and the way from the turns of a walk to an order.
 -- os are orders, o is an order, ls are turns, ts are turns that were taken.
-use Rattle.std.proofs.Common.{◌≡◌, refl, sym, ◌∙◌, ap, subst, ℕ, zero, suc, ◌+◌, ◌-◌, ◌<◌, ◌≤◌, List, [], ◌∷◌, ◌++◌, length, get_or, map, take, drop, reverse, take-append-drop, append-nil, append_assoc, Some, arith, inl, inr, slice_get}
+use Rattle.std.proofs.Common.{◌≡◌, refl, sym, ◌∙◌, ap, subst, ℕ, zero, suc, ◌+◌, ◌-◌, ◌<◌, ◌≤◌, List, [], ◌∷◌, ◌++◌, length, get_or, take, drop, reverse, take-append-drop, append-nil, append_assoc, Some, arith, inl, inr, slice_get}
 use Rattle.std.proofs.lemmas.List.{get_or_append_left, length-append, map-append, reverse-append, take_more}
 use Rattle.std.proofs.lemmas.Option.{get_or_from_slice_get, slice_get-get_or, slice_get_within}
 use Rattle.std.specs.List.{take-map}
@@ -9,7 +9,7 @@ use Rattle.dbtg_explore.specs.declared.walk.Taken.{Taken}
 use Rattle.dbtg_explore.specs.declared.walk.Walk.{Walk}
 use Rattle.dbtg_explore.specs.declared.way.Way.{Way}
 use Rattle.dbtg_explore.specs.Inside.Found.{FoundOrders, IsEntered}
-use Rattle.dbtg_explore.specs.Inside.Links.{GoOn, IsLast, IsWay, order_by, units_of}
+use Rattle.dbtg_explore.specs.Inside.Links.{GoOn, IsLast, IsWay, units_of}
 use Rattle.dbtg_explore.specs.Inside.Walks.{EndsWith, Stands, StandsAmong, links_of, order_of}
 use Rattle.dbtg_explore.specs.Orders.{Meeting}
 

@@ -1,4 +1,4 @@
-use Rattle.std.proofs.Common.{◌≡◌, ◌∙◌, ap, length, sym, arith}
+use Rattle.std.proofs.Common.{◌∙◌, ap, length, sym, arith}
 use Rattle.dbtg_explore.specs.Inside.Found.{FoundPlaces}
 use Rattle.dbtg_explore.proofs.Entering.{text_known, text_new}
 use Rattle.dbtg_explore.proofs.found.Found.enter.Goals as goal

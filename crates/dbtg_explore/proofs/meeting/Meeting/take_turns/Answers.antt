@@ -34,7 +34,7 @@ loop-turn-preserved c =
     let low : i < length (units_of ls) = omega (arith, c.loop-turn-test.true, length-map ls (λ (l : Link). l.unit)) in
     let told = c.in_ok-take_turn.ensures in (
       stands_further m (order_of old.turns.items) (units_of ls) i mid new low c.loop-turn.invariant.0
-      (subst (λ u. StandsAt m (order_of mid.turns.items ++ u ∷ []) new) (sym (get_or-map (λ (l : Link). l.unit) ls i _ 0 c.loop-turn-test.true)) told.stands),
+          (subst (λ u. StandsAt m (order_of mid.turns.items ++ u ∷ []) new) (sym (get_or-map (λ (l : Link). l.unit) ls i _ 0 c.loop-turn-test.true)) told.stands),
       further (links_of old.turns.items) (links_of mid.turns.items) (links_of new.turns.items) ls i _ c.loop-turn-test.true c.loop-turn.invariant.1 told.links,
     )
 

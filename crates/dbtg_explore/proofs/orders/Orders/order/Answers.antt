@@ -1,4 +1,4 @@
-use Rattle.std.proofs.Common.{◌≡◌, ◌++◌, ◌∙◌, List, ℕ, [], ap, sym, get_or, reverse, append-nil, arith}
+use Rattle.std.proofs.Common.{◌++◌, ◌∙◌, List, ℕ, [], ap, sym, get_or, reverse, append-nil, arith}
 use Rattle.dbtg_explore.proofs.Links.{gone_back}
 use Rattle.dbtg_explore.proofs.orders.Orders.order.Goals as goal
 
