@@ -28,7 +28,8 @@ pub go_first : (os : List (List ℕ)) (o : List ℕ) (ls : List Link) (n : ℕ) 
 go_first os o ls n h = go_front os o (take n ls) (drop n ls) (subst (GoOn os o) (sym (take-append-drop n ls)) h)
 
 -- each is behind the order to which those in front of it lead
-gone_there : (os : List (List ℕ)) (o : List ℕ) (ls : List Link) (k : ℕ) (l : Link) → GoOn os o ls → slice_get ls k ≡ Some l → slice_get os l.before ≡ Some (o ++ units_of (take k ls))
+gone_there : (os : List (List ℕ)) (o : List ℕ) (ls : List Link) (k : ℕ) (l : Link) → GoOn os o ls → slice_get ls k ≡ Some l
+    → slice_get os l.before ≡ Some (o ++ units_of (take k ls))
 gone_there os o [] k l h there = absurd (cc (there))
 gone_there os o (j ∷ ls) zero l h there =
     let same : j ≡ l = cc (there) in
@@ -36,7 +37,8 @@ gone_there os o (j ∷ ls) zero l h there =
 gone_there os o (j ∷ ls) (suc k) l h there = gone_there os (o ++ j.unit ∷ []) ls k l h.1 there ∙ ap Some (append_assoc o (j.unit ∷ []) (units_of (take k ls)))
 
 -- one more of them
-pub further : (old mid new ls : List Link) (i : ℕ) (d : Link) → i < length ls → mid ≡ old ++ take i ls → new ≡ mid ++ get_or ls i d ∷ [] → new ≡ old ++ take (i + 1) ls
+pub further : (old mid new ls : List Link) (i : ℕ) (d : Link) → i < length ls → mid ≡ old ++ take i ls → new ≡ mid ++ get_or ls i d ∷ []
+    → new ≡ old ++ take (i + 1) ls
 further old mid new ls i d low at more = more ∙ ap (λ ks. ks ++ get_or ls i d ∷ []) at ∙ append_assoc old (take i ls) (get_or ls i d ∷ []) ∙ ap (λ ks. old ++ ks) (sym (take_more ls i d low))
 
 -- an order stays at its place when others are appended
@@ -65,7 +67,8 @@ pub first_links : (n : ℕ) (ts us : List Taken) → us ≡ take n ts → links_
 first_links n ts us first = ap links_of first ∙ sym (take-map (λ (t : Taken). record { before = t.place; unit = t.unit }) n ts)
 
 -- turns that go on from where they lead
-pub taken_on : (os : List (List ℕ)) (old new : List Taken) (ls : List Link) → GoOn os [] (links_of old) → GoOn os (order_of old) ls → links_of new ≡ links_of old ++ ls → GoOn os [] (links_of new)
+pub taken_on : (os : List (List ℕ)) (old new : List Taken) (ls : List Link) → GoOn os [] (links_of old) → GoOn os (order_of old) ls
+    → links_of new ≡ links_of old ++ ls → GoOn os [] (links_of new)
 taken_on os old new ls h g more = subst (GoOn os []) (sym more) (go_both os [] (links_of old) ls h (subst (λ o. GoOn os o ls) (sym (units_are old)) g))
 
 module _ (m : Meeting) where
@@ -73,12 +76,15 @@ module _ (m : Meeting) where
   pub among_more : (os more : List (List ℕ)) (w : Walk) → StandsAmong m os w → StandsAmong m (os ++ more) w
   among_more os more w h = record { stands = h.stands; go_on = go_later os more [] (links_of w.turns.items) h.go_on }
 
-  pub among_entered : {K : Type 0} (old : FoundOrders K) (key : K) (o : List ℕ) (new : FoundOrders K) (w : Walk) → IsEntered old key o new → StandsAmong m old.orders w → StandsAmong m new.orders w
+  pub among_entered : {K : Type 0} (old : FoundOrders K) (key : K) (o : List ℕ) (new : FoundOrders K) (w : Walk) → IsEntered old key o new
+      → StandsAmong m old.orders w → StandsAmong m new.orders w
   among_entered old key o new w (inl same) h = subst (λ (f : FoundOrders _). StandsAmong m f.orders w) (sym same.1) h
   among_entered old key o new w (inr put) h = subst (λ os. StandsAmong m os w) (sym put.orders_are) (among_more old.orders (o ∷ []) w h)
 
   -- one turn
-  pub among_one : (os : List (List ℕ)) (place u : ℕ) (link : Link) (old new : Walk) → StandsAmong m os old → place < length os → get_or os place [] ≡ order_of old.turns.items → link ≡ record { before = place; unit = u } → links_of new.turns.items ≡ links_of old.turns.items ++ link ∷ [] → Stands m new → StandsAmong m os new
+  pub among_one : (os : List (List ℕ)) (place u : ℕ) (link : Link) (old new : Walk) → StandsAmong m os old → place < length os
+      → get_or os place [] ≡ order_of old.turns.items → link ≡ record { before = place; unit = u }
+      → links_of new.turns.items ≡ links_of old.turns.items ++ link ∷ [] → Stands m new → StandsAmong m os new
   among_one os place u link old new h low here is more stands =
       let there : slice_get os link.before ≡ Some (order_of old.turns.items) = ap (λ (l : Link). slice_get os l.before) is ∙ slice_get-get_or os place [] low ∙ ap Some here in
       record { stands = stands; go_on = taken_on os old.turns.items new.turns.items (link ∷ []) h.go_on (there, tt) more }
@@ -125,7 +131,8 @@ module _ (os : List (List ℕ)) (place : ℕ) where
         }
 
     -- from where the first turns led that stay
-    pub way_from_turn : (ts : List Taken) (last : Link) (way : Way) → IsLast os at last → EndsWith ts way.stay last → way.stay ≤ length ts → GoOn os [] (links_of ts) → way.turns.items ≡ reverse rest → IsWay os (links_of ts) place way
+    pub way_from_turn : (ts : List Taken) (last : Link) (way : Way) → IsLast os at last → EndsWith ts way.stay last → way.stay ≤ length ts
+        → GoOn os [] (links_of ts) → way.turns.items ≡ reverse rest → IsWay os (links_of ts) place way
     way_from_turn ts last way is ends within taken turns =
         let ls = links_of ts in
         let n = way.stay - 1 in

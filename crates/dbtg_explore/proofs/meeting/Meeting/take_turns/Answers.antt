@@ -13,7 +13,8 @@ loop-turn-init c = (stands_still c.args.self.now c.args.walk.now c.requires.stan
 
 pub take_turn-requires-clause-stands : goal.take_turn-requires-clause-stands
 take_turn-requires-clause-stands c =
-    stands c.args.self.now (order_of c.args.walk.now.turns.items ++ take c.loop-turn.turn-index (units_of c.args.turns.now)) c.loop-turn.walk c.loop-turn.invariant.0
+    stands c.args.self.now
+    (order_of c.args.walk.now.turns.items ++ take c.loop-turn.turn-index (units_of c.args.turns.now)) c.loop-turn.walk c.loop-turn.invariant.0
 
 pub take_turn-requires-clause-turn : goal.take_turn-requires-clause-turn
 take_turn-requires-clause-turn c =
@@ -41,8 +42,10 @@ loop-turn-preserved c =
 pub returns-clause-stands : goal.returns-clause-stands
 returns-clause-stands c =
     let us = units_of c.args.turns.now in
-    subst (λ (vs : List ℕ). StandsAt c.args.self.now (order_of c.args.walk.now.turns.items ++ vs) c.loop-turn.walk) (take_all c.loop-turn.turn-index us (omega (arith, c.loop-turn-test.false, length-map c.args.turns.now (λ (l : Link). l.unit)))) c.loop-turn.invariant.0
+    subst (λ (vs : List ℕ). StandsAt c.args.self.now (order_of c.args.walk.now.turns.items ++ vs) c.loop-turn.walk)
+    (take_all c.loop-turn.turn-index us (omega (arith, c.loop-turn-test.false, length-map c.args.turns.now (λ (l : Link). l.unit)))) c.loop-turn.invariant.0
 
 pub returns-clause-links : goal.returns-clause-links
 returns-clause-links c =
-    c.loop-turn.invariant.1 ∙ ap (λ ks. links_of c.args.walk.now.turns.items ++ ks) (take_all c.loop-turn.turn-index c.args.turns.now (omega (arith, c.loop-turn-test.false)))
+    c.loop-turn.invariant.1
+    ∙ ap (λ ks. links_of c.args.walk.now.turns.items ++ ks) (take_all c.loop-turn.turn-index c.args.turns.now (omega (arith, c.loop-turn-test.false)))

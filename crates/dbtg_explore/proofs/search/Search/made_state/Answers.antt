@@ -36,11 +36,13 @@ number_after-requires-clause-before c =
     (state_at m s.numbers s.found.keys s.found.orders c.args.place c.number-before.result c.requires.at.known c.requires.within c.number-before.ensures)
 
 -- the history after the turn
-led_to : (c : In_ok-after) → c.number_after.new.walk.database.making.history ≡ history_of c.args.meeting.now (get_or c.args.self.now.found.orders c.args.place [] ++ c.args.unit ∷ [])
+led_to : (c : In_ok-after)
+    → c.number_after.new.walk.database.making.history ≡ history_of c.args.meeting.now (get_or c.args.self.now.found.orders c.args.place [] ++ c.args.unit ∷ [])
 led_to c =
     let m = c.args.meeting.now in
     let o = get_or c.args.self.now.found.orders c.args.place [] in
-    c.in_ok-after.ensures.stands.history_is ∙ ap (λ (p : List ℕ). history_of m (p ++ c.in_ok-turn.turn.unit ∷ [])) c.in_ok-go_to.ensures.stands.order_is ∙ ap (λ (l : Link). history_of m (o ++ l.unit ∷ [])) c.in_ok-turn.ensures
+    c.in_ok-after.ensures.stands.history_is ∙ ap (λ (p : List ℕ). history_of m (p ++ c.in_ok-turn.turn.unit ∷ [])) c.in_ok-go_to.ensures.stands.order_is
+    ∙ ap (λ (l : Link). history_of m (o ++ l.unit ∷ [])) c.in_ok-turn.ensures
 
 -- and the number of its state
 number_there : (c : In_ok-after) → IsNumberOf c.args.meeting.now c.number_after.new.numbers (history_of c.args.meeting.now (get_or c.args.self.now.found.orders c.args.place [] ++ c.args.unit ∷ [])) c.in_ok-after.after
@@ -82,7 +84,8 @@ remember-requires-clause-passed c =
             subst (λ (ns : List CellName). DueLooksAt m (history_of m o) u ns) (sym c.as_slice.ensures.value)
             (subst (λ (es : List Entry). DueLooksAt m es u c.in-Some.names.items) here.history_is cells);
         stay = λ none.
-            subst (λ (es : List Entry). SlotsStay m (sequential_after m (history_of m o)).database (sequential_after m es).database) (led_to (goal.at.remember-requires-clause-passed c).In_ok-after)
+            subst (λ (es : List Entry). SlotsStay m (sequential_after m (history_of m o)).database (sequential_after m es).database)
+            (led_to (goal.at.remember-requires-clause-passed c).In_ok-after)
             (slots_stay m v.database.making v.goings.items after.stands.is_place (history_of m o) (c.has_changed_record-changing.ensures none) (history_before m c.in_ok-turn.turn.unit w.database.making v.database.making v.goings.items after.turned ∙ here.history_is));
       },
     )
@@ -92,7 +95,8 @@ remember-requires-clause-seen c = seen_later c.args.meeting.now c.args.self.now.
 
 pub returns-in_ok-remember-clause-stands : goal.returns-in_ok-remember-clause-stands
 returns-in_ok-remember-clause-stands c =
-    subst (λ (f : FoundOrders ℕ). StandsAmong c.args.meeting.now f.orders c.number_after.new.walk) (sym (ap (λ (z : Search). z.found) c.in_ok-remember.ensures.rest)) (among_there (goal.at.returns-in_ok-remember-clause-stands c).In_ok-after)
+    subst (λ (f : FoundOrders ℕ). StandsAmong c.args.meeting.now f.orders c.number_after.new.walk)
+    (sym (ap (λ (z : Search). z.found) c.in_ok-remember.ensures.rest)) (among_there (goal.at.returns-in_ok-remember-clause-stands c).In_ok-after)
 
 pub returns-in_default-clause-stands : goal.returns-in_default-clause-stands
 returns-in_default-clause-stands c = among_there (goal.at.returns-in_default-clause-stands c).In_ok-after
@@ -103,7 +107,8 @@ returns-in_ok-remember-clause-reaches c =
     let s = c.args.self.now in
     let o = get_or s.found.orders c.args.place [] in
     let e = c.in_ok-remember.ensures.rest in
-    reaches m (o ++ c.args.unit ∷ []) s c.remember.new.self c.number_after.new.numbers c.in_ok-after.after (ap (λ (z : Search). z.found) e) (ap (λ (z : Search). z.edges.items) e) (ap (λ (z : Search). z.numbers) e) (ap (λ (z : Search). z.limit) e)
+    reaches m (o ++ c.args.unit ∷ []) s c.remember.new.self c.number_after.new.numbers c.in_ok-after.after (ap (λ (z : Search). z.found) e)
+    (ap (λ (z : Search). z.edges.items) e) (ap (λ (z : Search). z.numbers) e) (ap (λ (z : Search). z.limit) e)
     (number_there (goal.at.returns-in_ok-remember-clause-reaches c).In_ok-after) c.in_ok-after.ensures.keeps c.in_ok-remember.ensures.seen
 
 pub returns-in_default-clause-reaches : goal.returns-in_default-clause-reaches
@@ -113,4 +118,5 @@ returns-in_default-clause-reaches c =
     let o = get_or s.found.orders c.args.place [] in
     let kept = c.number_after.new.numbers in
     reaches m (o ++ c.args.unit ∷ []) s (record s { numbers = kept }) kept c.in_ok-after.after refl refl refl refl
-    (number_there (goal.at.returns-in_default-clause-reaches c).In_ok-after) c.in_ok-after.ensures.keeps (seen_later m s.numbers.contents kept.contents c.in_ok-after.ensures.keeps.contents s.seen c.requires.at.seen)
+    (number_there (goal.at.returns-in_default-clause-reaches c).In_ok-after) c.in_ok-after.ensures.keeps
+    (seen_later m s.numbers.contents kept.contents c.in_ok-after.ensures.keeps.contents s.seen c.requires.at.seen)
