@@ -4,6 +4,7 @@ pub mod ComesOut
 pub mod ByTurns
 pub mod Keyed
 pub mod Placed
+pub mod Ways
 pub mod Walks
 pub mod Before
 pub mod Entering

@@ -13,6 +13,7 @@ use Rattle.dbtg_explore.specs.declared.explored.Failure.{Failure}
 use Rattle.dbtg_explore.specs.declared.search.Search as search
 use Rattle.dbtg_explore.specs.Explored.{IsExplored, IsFirstEndless}
 use Rattle.dbtg_explore.specs.Inside.Ends.{AreEndsOf, FailsIn, IsBehind, Notes}
+use Rattle.dbtg_explore.specs.Inside.Found.{orders_at}
 use Rattle.dbtg_explore.specs.Inside.Walks.{failure_by}
 use Rattle.dbtg_explore.specs.Inside.Search.{HasFirst}
 use Rattle.dbtg_explore.specs.Inside.Steps.{Goes, IsAt, can_follow}
@@ -24,6 +25,7 @@ use Rattle.dbtg_explore.specs.States.{CountsStates, Essence, MeetingState, essen
 use Rattle.dbtg_explore.proofs.Alike.{can_go_on_alike}
 use Rattle.dbtg_explore.proofs.Before.{no_later_trans}
 use Rattle.dbtg_explore.proofs.Keyed.{same_text}
+use Rattle.dbtg_explore.proofs.Noting.{ends_later}
 use Rattle.dbtg_explore.proofs.Searched.{all_found, in_order_at}
 use Rattle.dbtg_explore.proofs.Steps.{goes_on, kept_range}
 
@@ -43,19 +45,24 @@ pub record IsOnTheWay (m : Meeting) (limit i : ℕ) (s : search.Search) (e : end
 
 module _ (m : Meeting) where
   -- one more state
-  pub visited_more : (i : ℕ) (old new : search.Search) (before after : ends.Ends) (o : List ℕ) → i < length old.found.orders → IsVisited m i old before → Goes m (i + 1) 0 old new → o ≡ get_or old.found.orders i [] → Notes m o before after → HasVisited m i old new after
+  pub visited_more : (i : ℕ) (old new : search.Search) (before after : ends.Ends) (o : List ℕ) → i < length old.found.orders → IsVisited m i old before → Goes m (i + 1) 0 old new → o ≡ get_or old.found.orders i [] → Notes m old.found.orders o before after → HasVisited m i old new after
   visited_more i old new before after o low visited goes here notes =
       let behind = subst (IsBehind (take i old.found.orders)) (sym here) (is_behind old.found.orders i visited.at.under_way.in_order low) in
       let noted = notes (take i old.found.orders) behind visited.ends in
       let longer : take (i + 1) old.found.orders ≡ take i old.found.orders ++ o ∷ [] = take_more old.found.orders i [] low ∙ ap (λ (p : List ℕ). take i old.found.orders ++ p ∷ []) (sym here) in
       let kept : take (i + 1) new.found.orders ≡ take (i + 1) old.found.orders = ap (take (i + 1)) goes.kept ∙ take-append-le (i + 1) old.found.orders goes.more (omega arith) in
       record {
-        visited = record { at = goes.at; ends = subst (λ os. AreEndsOf m os after) (sym (kept ∙ longer)) noted };
+        visited = record {
+          at = goes.at;
+          ends =
+              subst (λ os. AreEndsOf m os (take (i + 1) new.found.orders) after) (sym goes.kept)
+              (ends_later m old.found.orders goes.more (take (i + 1) new.found.orders) after (subst (λ os. AreEndsOf m old.found.orders os after) (sym (kept ∙ longer)) noted));
+        };
         within = kept_range m (i + 1) i 0 old new goes low;
         limit_is = goes.limit_is;
       }
 
-  pub on_the_way : (limit : ℕ) (s : search.Search) (e : ends.Ends) → IsAt m 0 0 s → s.limit ≡ limit → AreEndsOf m [] e → IsOnTheWay m limit 0 s e
+  pub on_the_way : (limit : ℕ) (s : search.Search) (e : ends.Ends) → IsAt m 0 0 s → s.limit ≡ limit → AreEndsOf m s.found.orders [] e → IsOnTheWay m limit 0 s e
   on_the_way limit s e at limit_is none = record { visited = record { at = at; ends = none }; limit_is = limit_is; within = omega arith }
 
   pub one_on_the_way : (limit i : ℕ) (old new : search.Search) (before after : ends.Ends) → IsOnTheWay m limit i old before → HasVisited m i old new after → IsOnTheWay m limit (i + 1) new after
@@ -89,8 +96,8 @@ module _ (m : Meeting) where
     seen : take (length s.found.orders) s.found.orders ≡ s.found.orders
     seen = take_all (length s.found.orders) s.found.orders (omega arith)
 
-    noted : AreEndsOf m s.found.orders e
-    noted = subst (λ os. AreEndsOf m os e) seen through.visited.ends
+    noted : AreEndsOf m s.found.orders s.found.orders e
+    noted = subst (λ os. AreEndsOf m s.found.orders os e) seen through.visited.ends
 
     first_of : (o : List ℕ) → IsOrder m o → HasFirst (essence_of m) s.found.orders o
     first_of = all_found (IsOrder m) (can_follow m) (essence_of m) (goes_on m) s.found.orders s.edges.items (length s.found.orders) (omega arith) through.visited.at.under_way
@@ -103,7 +110,7 @@ module _ (m : Meeting) where
       count = refl;
     }
 
-    pub are_results : AreResults m e.results.orders
+    pub are_results : AreResults m (orders_at s.found.orders e.results.places)
     are_results =
         let results = noted.results.firsts in
         record {
@@ -135,7 +142,7 @@ module _ (m : Meeting) where
         }
 
     -- so everything is explored, except for ways round
-    pub is_explored : (all : given.Explored) → all.states ≡ length s.found.orders → all.results ≡ e.results.orders → all.failures ≡ e.failures.items → IsFirstEndless m all.endless → IsExplored m all
+    pub is_explored : (all : given.Explored) → all.states ≡ length s.found.orders → all.results ≡ orders_at s.found.orders e.results.places → all.failures ≡ e.failures.items → IsFirstEndless m all.endless → IsExplored m all
     is_explored all states_are results_are failures_are endless = record {
       states = subst (CountsStates m) (sym states_are) counts;
       results = subst (AreResults m) (sym results_are) are_results;

@@ -19,6 +19,7 @@ mod text;
 mod told;
 mod unversioned;
 mod walk;
+mod way;
 
 pub use explored::{Endless, Explored, Failure, explore};
 pub use laws::{

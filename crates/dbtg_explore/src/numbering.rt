@@ -4,7 +4,7 @@
 ghost use Rattle.dbtg_cells.specs.CellNumbers.{cell_count, is_cell};
 ghost use Rattle.dbtg_cells.specs.declared.name.CellName.{CellName};
 ghost use Rattle.dbtg_explore.specs.Inside.Parts.{IsNumberOf, parts_of, unit_part};
-ghost use Rattle.dbtg_explore.specs.Inside.Walks.{HasTurned, IsPlace, Stands, StandsAt, order_of};
+ghost use Rattle.dbtg_explore.specs.Inside.Walks.{HasTurned, IsPlace, Stands, StandsAt, links_of, order_of};
 ghost use Rattle.dbtg_explore.specs.Orders.{IsMeeting, can_turn};
 ghost use Rattle.dbtg_interned.specs.Arrays.{IsArray, size};
 ghost use Rattle.dbtg_states.specs.Numbers.{AreNumbers, Grow, HasPut, IsNumberBut};
@@ -12,6 +12,7 @@ ghost use Rattle.std.specs.List.{list_all};
 ghost use Rattle.std.specs.Prelude.{◌≡◌, ◌+◌, ◌-◌, ◌<◌, ◌≤◌, ◌++◌, ◌∷◌, [], List, true, length, IfOk, OnOk};
 
 use crate::meeting::Meeting;
+use crate::orders::Link;
 use crate::walk::Walk;
 use dbtg_cells::CellName;
 use dbtg_states::{Numbers, Spelling};
@@ -104,27 +105,28 @@ impl<'a> Meeting<'a> {
         self.put_all(alloc, numbers, walk, 0, names.as_slice())
     }
 
-    /// The unit has its turn. Gives the number of the state to which it leads, by that of the state before it. Two places have one number
+    /// The unit of the turn has it. Gives the number of the state to which it leads, by that of the state before it. Two places have one number
     /// exactly if their states differ at most in the order in which units opened an area, and in versions that tell no kept record from
     /// its own.
     pub(crate) fn number_after(
         &self,
         alloc: Global,
         walk: &mut Walk<'a>,
-        unit: u8,
+        turn: Link,
         numbers: &mut Numbers,
         before: u32,
     ) -> Result<u32, AllocError>
         requires meeting { IsMeeting self.now }
         requires stands { Stands self.now walk.old }
-        requires turn { can_turn self.now walk.old.database.making.history unit ≡ true }
+        requires turn { can_turn self.now walk.old.database.making.history turn.unit ≡ true }
         requires before { IsNumberOf self.now numbers.old walk.old.database.making.history before }
-        ensures stands { OnOk result (StandsAt self.now (order_of walk.old.turns.items ++ unit ∷ []) walk.new) }
-        ensures turned { OnOk result (HasTurned self.now unit walk.old.database.making walk.new.database.making walk.new.goings.items) }
+        ensures stands { OnOk result (StandsAt self.now (order_of walk.old.turns.items ++ turn.unit ∷ []) walk.new) }
+        ensures turned { OnOk result (HasTurned self.now turn.unit walk.old.database.making walk.new.database.making walk.new.goings.items) }
+        ensures links { OnOk result (links_of walk.new.turns.items ≡ links_of walk.old.turns.items ++ turn ∷ []) }
         ensures keeps { IfOk result (λ n. Grow numbers.old numbers.new) }
         ensures number { IfOk result (IsNumberOf self.now numbers.new walk.new.database.making.history) }
     {
-        self.take_turn(alloc, walk, unit)?;
+        self.take_turn(alloc, walk, turn)?;
         let names = walk.database.changed();
         self.put_all(alloc, numbers, walk, before, names)
     }

@@ -1,7 +1,7 @@
 //! A search through all states to which orders lead. It goes on from each state that it has found, from the first on, by one turn of each
 //! unit in rising order. So it comes to each state by the first order that leads there.
 
-ghost use Rattle.dbtg_explore.specs.Inside.Walks.{Stands, StandsAt};
+ghost use Rattle.dbtg_explore.specs.Inside.Walks.{StandsAmong, StandsAt};
 ghost use Rattle.dbtg_explore.specs.Inside.Steps.{Goes, IsAt};
 ghost use Rattle.dbtg_explore.specs.Orders.{IsMeeting, can_turn, history_of};
 ghost use Rattle.dbtg_explore.specs.States.{HasMoreStates};
@@ -67,9 +67,9 @@ impl Search {
         requires meeting { IsMeeting meeting.now }
         requires at { IsAt meeting.now place unit self.old }
         requires within { place < length self.old.found.orders }
-        requires stands { Stands meeting.now walk.old }
+        requires stands { StandsAmong meeting.now self.old.found.orders walk.old }
         requires turn { can_turn meeting.now (history_of meeting.now (slice_index_or self.old.found.orders place [])) unit ≡ true }
-        ensures stands { OnOk result (Stands meeting.now walk.new) }
+        ensures stands { OnOk result (StandsAmong meeting.now self.new.found.orders walk.new) }
         ensures goes { OnOk result (Goes meeting.now place (unit + 1) self.old self.new) }
         ensures stopped { IfErr result (λ stop. stop ≡ States → HasMoreStates meeting.now self.old.limit) }
     {
@@ -94,8 +94,8 @@ impl Search {
         requires meeting { IsMeeting meeting.now }
         requires at { IsAt meeting.now place unit self.old }
         requires within { place < length self.old.found.orders }
-        requires stands { Stands meeting.now walk.old }
-        ensures stands { OnOk result (Stands meeting.now walk.new) }
+        requires stands { StandsAmong meeting.now self.old.found.orders walk.old }
+        ensures stands { OnOk result (StandsAmong meeting.now self.new.found.orders walk.new) }
         ensures goes { OnOk result (Goes meeting.now place (unit + 1) self.old self.new) }
         ensures stopped { IfErr result (λ stop. stop ≡ States → HasMoreStates meeting.now self.old.limit) }
     {
@@ -117,8 +117,8 @@ impl Search {
         requires meeting { IsMeeting meeting.now }
         requires at { IsAt meeting.now place 0 self.old }
         requires within { place < length self.old.found.orders }
-        requires stands { Stands meeting.now walk.old }
-        ensures stands { OnOk result (Stands meeting.now walk.new) }
+        requires stands { StandsAmong meeting.now self.old.found.orders walk.old }
+        ensures stands { OnOk result (StandsAmong meeting.now self.new.found.orders walk.new) }
         ensures goes { OnOk result (Goes meeting.now (place + 1) 0 self.old self.new) }
         ensures stopped { IfErr result (λ stop. stop ≡ States → HasMoreStates meeting.now self.old.limit) }
     {

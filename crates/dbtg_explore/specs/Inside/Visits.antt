@@ -10,7 +10,7 @@ use Rattle.dbtg_explore.specs.Orders.{Meeting}
 -- the search has gone on from the states before place i, and their ends are noted
 pub record IsVisited (m : Meeting) (i : ℕ) (s : search.Search) (e : ends.Ends) : Type 0 where
   pub at : IsAt m i 0 s
-  pub ends : AreEndsOf m (take i s.found.orders) e
+  pub ends : AreEndsOf m s.found.orders (take i s.found.orders) e
 
 -- and now from the state at place i too
 pub record HasVisited (m : Meeting) (i : ℕ) (old new : search.Search) (e : ends.Ends) : Type 0 where

@@ -3,13 +3,13 @@ use Rattle.std.proofs.lemmas.Result.{err_from_is_err_and}
 use Rattle.dbtg_explore.specs.Inside.Visits.{IsVisited}
 use Rattle.dbtg_explore.specs.States.{HasMoreStates}
 use Rattle.dbtg_explore.proofs.Visiting.{on_the_way, one_on_the_way}
-use Rattle.dbtg_explore.proofs.Walks.{stands}
+use Rattle.dbtg_explore.proofs.Walks.{among_first}
 use Rattle.dbtg_explore.proofs.explored.visit_all.Goals as goal
 
 pub loop-place-init : goal.loop-place-init
 loop-place-init g c =
     let m = c.args.meeting.now in
-    (on_the_way m c.args.limit c.in_ok-search.search c.none-ends.result c.in_ok-search.ensures.at c.in_ok-search.ensures.limit (c.none-ends.ensures m), stands m _ c.args.walk.now c.requires.stands)
+    (on_the_way m c.args.limit c.in_ok-search.search c.none-ends.result c.in_ok-search.ensures.at c.in_ok-search.ensures.limit (c.none-ends.ensures m c.in_ok-search.search.found.orders), among_first m c.in_ok-search.search.found.orders c.args.walk.now c.requires.stands)
 
 pub loop-place-preserved : goal.loop-place-preserved
 loop-place-preserved g c = (

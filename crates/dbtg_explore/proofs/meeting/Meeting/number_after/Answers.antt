@@ -21,7 +21,7 @@ put_all-requires-clause-but c =
     let old = c.args.walk.now in
     let new = c.take_turn.new.walk in
     let turned = c.in_ok-take_turn.ensures in
-    let above = turn_above m (order_of old.turns.items ++ c.args.unit ∷ []) c.args.unit old new c.requires.stands turned.stands turned.turned in
-    let history = history_before m c.args.unit old.database.making new.database.making new.goings.items turned.turned in
+    let above = turn_above m (order_of old.turns.items ++ c.args.turn.unit ∷ []) c.args.turn.unit old new c.requires.stands turned.stands turned.turned in
+    let history = history_before m c.args.turn.unit old.database.making new.database.making new.goings.items turned.turned in
     all_but m new.database.making new.goings.items c.changed-names.result.now c.args.numbers.now c.args.before turned.stands.is_place (c.changed-names.ensures.changed above)
     (subst (λ (es : List Entry). IsNumberOf m c.args.numbers.now es c.args.before) (sym history) c.requires.before)

@@ -1,6 +1,7 @@
 use Rattle.std.proofs.Common.{◌∙◌, ◌<◌, ◌≤◌, ◌++◌, ◌∷◌, [], ℕ, refl, subst, sym, length, get_or, arith}
 use Rattle.dbtg_explore.specs.Inside.Found.{FoundOrders, IsEntered}
 use Rattle.dbtg_explore.proofs.Steps.{goes_further, goes_over}
+use Rattle.dbtg_explore.proofs.Ways.{among_entered}
 use Rattle.dbtg_explore.proofs.search.Search.take_turn.Goals as goal
 
 pub enter-requires : goal.enter-requires
@@ -24,3 +25,7 @@ returns-clause-goes c =
     let edges_are = c.in_ok-push.ensures.items ∙ (λ j. reached.edges_are j ++ c.in_ok-new.ensures j ∷ []) in
     goes_further m c.requires.meeting c.args.place c.args.unit c.args.self.now c.requires.within c.requires.at c.requires.turn c.next_state.new.self.numbers reached.keeps
     c.in_ok-number.number reached.number c.enter.new.self c.in_ok-to.to entered c.in_ok-to.ensures.place _ refl edges_are refl reached.seen reached.limit_is few
+
+pub returns-clause-stands : goal.returns-clause-stands
+returns-clause-stands c =
+    among_entered c.args.meeting.now c.next_state.new.self.found c.in_ok-number.number _ c.enter.new.self c.next_state.new.walk c.in_ok-to.ensures.entered c.in_ok-number.ensures.stands
