@@ -13,6 +13,7 @@ mod meeting;
 mod next_state;
 mod numbering;
 mod orders;
+mod reads;
 mod search;
 mod standing;
 mod text;

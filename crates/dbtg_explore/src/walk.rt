@@ -7,7 +7,9 @@ ghost use Rattle.dbtg_step.specs.Machine.SequentialDatabase.{unit_at, with_unit_
 ghost use Rattle.std.specs.Prelude.{◌≡◌, ◌≤◌, ◌<◌, ◌-◌, ◌++◌, ◌∷◌, [], Some, true, length, take, IfOk, OnOk};
 
 use crate::meeting::Meeting;
+use crate::reads::each_items_read;
 use dbtg_going::{Going, programs_after};
+use dbtg_schema::Row;
 use dbtg_step::ReversibleDatabase;
 use dbtg_unit::Statement;
 use std::alloc::{AllocError, Global};
@@ -19,11 +21,12 @@ pub struct Taken {
     pub before: Going,
 }
 
-/// A database and programs after these turns, which can be taken back.
+/// A database and programs after these turns, which can be taken back; and which items the programs read.
 pub struct Walk<'a> {
     pub database: ReversibleDatabase<'a>,
     pub goings: Vec<Going>,
     pub turns: Vec<Taken>,
+    pub reads: Vec<Row<bool>>,
 }
 
 impl<'a> Drop for Walk<'a> {
@@ -32,6 +35,7 @@ impl<'a> Drop for Walk<'a> {
             database: _,
             goings: _,
             turns: _,
+            reads: _,
         } = self;
     }
 }
@@ -102,6 +106,7 @@ impl<'a> Meeting<'a> {
             database: ReversibleDatabase::of(alloc, database),
             goings,
             turns: Vec::new(alloc),
+            reads: each_items_read(alloc, self.programs)?,
         })
     }
 
