@@ -24,7 +24,7 @@ mod walk;
 pub use explored::{Endless, Explored, Failure, explore};
 pub use laws::{
     a_round_goes_on_for_ever, every_run_by_turns_comes_out, every_run_comes_out,
-    going_on_for_ever_goes_round, versions_are_no_state,
+    going_on_for_ever_goes_round, versions_are_no_state, what_counts_is_all,
 };
 pub use meeting::Meeting;
 pub use told::told_text;
