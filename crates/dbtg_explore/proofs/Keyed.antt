@@ -119,7 +119,7 @@ counted_same : (c d : ℕ → Bool) → ((f : ℕ) → c f ≡ d f) → (vs : Li
 counted_same c d is vs = ap (λ l. counted_numbers c l) (sym (λ i. values_from (λ f. is f i) 0 vs)) ∙ (λ i. counted_length c 0 vs i ∷ numbers_same c 0 vs i)
 
 pub due_counted : (p : Program) (d : Due) → due_numbers (items_read p) (counted p d) ≡ due_numbers (items_read p) d
-due_counted p (due x s) = ap (λ l. 0 ∷ 0 ∷ x.at ∷ l) (counted_same (counts_by true (items_read p)) (counts p) (counts_is true p) x.values)
+due_counted p (due x s) = ap (λ l. 0 ∷ x.at ∷ l) (counted_same (counts_by true (items_read p)) (counts p) (counts_is true p) x.values)
 due_counted p (ended x how) = ap (λ l. how_numbers how ++ l) (counted_same (counts_by false (items_read p)) (is_counter p) (counter_is p) x.values)
 
 how_apart : Apart how_numbers

@@ -75,7 +75,6 @@ fn spell_going(read: &[bool], going: &Going, out: &mut Vec<u64>) -> Result<(), A
     match going.due {
         Due::Statement(_) => {
             out.push(0)?;
-            out.push(0)?;
             out.push(going.state.at() as u64)?;
             spell_values(true, read, values, out)
         }

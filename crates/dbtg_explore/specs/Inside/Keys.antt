@@ -40,7 +40,7 @@ how_numbers (Assert line) = 2 ∷ line ∷ []
 how_numbers (Size line) = 3 ∷ line ∷ []
 how_numbers (Astray line) = 4 ∷ line ∷ []
 
--- for a program how it stands, with zeros for a due statement, which the sentence and the values that count determine
+-- for a program how it stands, and its values that count. For a due statement a 0 and its sentence, which with the values determine it
 abbrev pub due_numbers : List Bool → Due → List ℕ
-due_numbers read (due state s) = 0 ∷ 0 ∷ state.at ∷ counted_numbers (counts_by true read) state.values
+due_numbers read (due state s) = 0 ∷ state.at ∷ counted_numbers (counts_by true read) state.values
 due_numbers read (ended state how) = how_numbers how ++ counted_numbers (counts_by false read) state.values
