@@ -75,6 +75,9 @@ dropped c k zero vs h = all_count c k vs (λ f low. h f (omega (arith, low)))
 dropped c k (suc n) [] h = refl
 dropped c k (suc n) (v ∷ vs) h = dropped c (k + 1) n vs (λ f low. h f (omega (arith, low)))
 
+dropped_first : (c : ℕ → Bool) (n : ℕ) (vs : List Value) → ((f : ℕ) → n ≤ f → c f ≡ true) → drop n (values_from c 0 vs) ≡ drop n vs
+dropped_first c n vs h = dropped c 0 n vs (λ f low. h f (omega (arith, low)))
+
 -- a test that holds of an element
 any_there : {X : Type 0} (test : X → Bool) (xs : List X) (k : ℕ) (x : X) → slice_get xs k ≡ Some x → test x ≡ true → list_any test xs ≡ true
 any_there test [] k x e h = absurd cc
@@ -304,10 +307,10 @@ counted_failure p (ended x how) = refl
 counted_text : (u : ℕ) (p : Program) (d : Due) → program_text u p (reached_of (counted p d)) ≡ program_text u p (reached_of d)
 counted_text u p (due x s) =
     ap (λ vs. codes "PROGRAM " ++ decimal u ++ 32 ∷ standing_text GoesOn ++ items_text vs (drop (count_items p) p.fields) ++ 10 ∷ [])
-    (dropped (counts p) 0 (count_items p) x.values (λ f low. or_left (is_counter p f) (reads p f) (le-leb (count_items p) f low)))
+    (dropped_first (counts p) (count_items p) x.values (λ f low. or_left (is_counter p f) (reads p f) (le-leb (count_items p) f low)))
 counted_text u p (ended x how) =
     ap (λ vs. codes "PROGRAM " ++ decimal u ++ 32 ∷ standing_text (Ended how) ++ items_text vs (drop (count_items p) p.fields) ++ 10 ∷ [])
-    (dropped (is_counter p) 0 (count_items p) x.values (λ f low. le-leb (count_items p) f low))
+    (dropped_first (is_counter p) (count_items p) x.values (λ f low. le-leb (count_items p) f low))
 
 pub counted_texts : (u : ℕ) (ps : List Program) (ds : List Due) → programs_text u ps (map reached_of (counted_each ps ds)) ≡ programs_text u ps (map reached_of ds)
 counted_texts u [] ds = refl

@@ -1,6 +1,6 @@
 -- What counts of programs is known by their numbers; orders lead to legal states; states with the same essence have the same text.
 -- m is a meeting, u a unit, o and p are orders.
-use Rattle.std.proofs.Common.{◌≡◌, ℕ, zero, suc, ◌+◌, ◌≤◌, ◌<◌, Bool, true, false, ◌&&◌, ◌||◌, List, [], ◌∷◌, ◌++◌, append_assoc, get_or, length, Option, Some, None, refl, ap, subst, sym, ◌∙◌, map, slice_get, arith, inl, inr}
+use Rattle.std.proofs.Common.{◌≡◌, ℕ, zero, suc, ◌+◌, ◌≤◌, ◌<◌, Bool, true, false, ◌&&◌, ◌||◌, List, [], ◌∷◌, ◌++◌, get_or, length, Option, Some, None, refl, ap, subst, sym, ◌∙◌, map, slice_get, arith, inl, inr}
 use Rattle.std.specs.Prelude.{⊤, if◌then◌else◌, nat_lt, option_and_then, option_map, unwrap_or}
 use Rattle.std.specs.List.{list_all, range_with_len}
 use Rattle.std.proofs.lemmas.Bool.{cases_lt, le-leb, lt-leb}
@@ -64,7 +64,8 @@ counts_is : (way : Bool) (p : Program) (f : ℕ) → counts_by way (items_read p
 counts_is way p f = elim (cases_lt f (count_items p)) [
   | inl low ↦
       let long = length-range_with_len 0 (count_items p) in
-      let is : get_or (range_with_len 0 (count_items p)) f 0 ≡ f = get_or-range_with_len 0 (count_items p) f 0 low in
+      let at = get_or-range_with_len 0 (count_items p) f 0 low in
+      let is : get_or (range_with_len 0 (count_items p)) f 0 ≡ f = omega (arith, at) in
       let got : slice_get (items_read p) f ≡ Some (reads p f) =
       slice_get-map (reads p) (range_with_len 0 (count_items p)) f ∙ ap (option_map (reads p)) (slice_get-get_or (range_with_len 0 (count_items p)) f 0 (omega (arith, long, low)) ∙ ap Some is) in
       ap (λ o. unwrap_or (option_map (λ b. way && b) o) true) got ∙ ap (λ b. b || (way && reads p f)) (sym (lt-leb (count_items p) f low))
