@@ -8,7 +8,6 @@ use Rattle.dbtg_cells.specs.declared.key.Value.TheVariants.{Num, Text}
 use Rattle.dbtg_unit.specs.declared.statement.Statement.TheVariants.{Get}
 use Rattle.dbtg_unit.specs.declared.unit.Answer.{Answer}
 use Rattle.dbtg_unit.specs.declared.unit.Cause.TheVariants.{NoCurrentOfRunUnit}
-use Rattle.dbtg_unit.specs.declared.unit.Entry.{Entry}
 use Rattle.dbtg_unit.proofs.Rows.Words.{text}
 use Rattle.dbtg_unit.proofs.Rows.Defined.Schemas.{card}
 use Rattle.dbtg_script.specs.Tokens.{into, onto}
