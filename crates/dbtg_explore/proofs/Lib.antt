@@ -1,8 +1,10 @@
+pub mod Counted
 pub mod Turning
 pub mod Alike
 pub mod ComesOut
 pub mod ByTurns
 pub mod Keyed
+pub mod Continuing
 pub mod Placed
 pub mod Ways
 pub mod Walks

@@ -1,5 +1,6 @@
--- The worked rows: orders, which comes first, who waits, what fails.
+-- The worked rows: what counts of programs, orders, which comes first, who waits, what fails.
 -- May use: all definitions; no lemma.
 -- Promises: each row is a theorem that computes.
+pub mod Counted
 pub mod Kept
 pub mod Orders

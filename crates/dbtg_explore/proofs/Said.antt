@@ -18,7 +18,7 @@ use Rattle.dbtg_states.specs.Spelling.{unit_numbers}
 use Rattle.dbtg_explore.specs.Orders.{Meeting, can_go_on, can_turn}
 use Rattle.dbtg_explore.specs.States.{sequential_after, state_after}
 use Rattle.dbtg_explore.specs.Versions.{unversioned, unversioned_unit}
-use Rattle.dbtg_explore.specs.Inside.Keys.{due_numbers}
+use Rattle.dbtg_explore.specs.Inside.Keys.{due_numbers, items_read_by}
 use Rattle.dbtg_explore.specs.Inside.Parts.{IsNumberOf, kept_count, unit_part}
 use Rattle.dbtg_explore.specs.Inside.Standing.{failure_of, fails_in, goes_on_in, is_kept_beside, is_over_in, keeps_beside, said, turns_in}
 use Rattle.dbtg_explore.specs.Inside.Transitions.{KeepsAlone}
@@ -97,16 +97,16 @@ module _ (m : Meeting) (kept : Numbers) (h : List Entry) (n : ℕ) (at : IsNumbe
   ]
 
   -- who has failed
-  failed : (d : Due) (rest : List ℕ) → failure_of (get_or (flat_map due_numbers (option_to_list (Some d)) ++ rest) 0 0) (get_or (flat_map due_numbers (option_to_list (Some d)) ++ rest) 1 0) ≡ failure_by d
-  failed (due state s) rest = refl
-  failed (ended state Stop) rest = refl
-  failed (ended state (Assert line)) rest = refl
-  failed (ended state (Size line)) rest = refl
-  failed (ended state (Astray line)) rest = refl
+  failed : (read : List Bool) (d : Due) (rest : List ℕ) → failure_of (get_or (flat_map (due_numbers read) (option_to_list (Some d)) ++ rest) 0 0) (get_or (flat_map (due_numbers read) (option_to_list (Some d)) ++ rest) 1 0) ≡ failure_by d
+  failed read (due state s) rest = refl
+  failed read (ended state Stop) rest = refl
+  failed read (ended state (Assert line)) rest = refl
+  failed read (ended state (Size line)) rest = refl
+  failed read (ended state (Astray line)) rest = refl
 
-  failed_there : (d : Option Due) (rest : List ℕ) → is_some d ≡ true → failure_of (get_or (flat_map due_numbers (option_to_list d) ++ rest) 0 0) (get_or (flat_map due_numbers (option_to_list d) ++ rest) 1 0) ≡ option_and_then failure_by d
-  failed_there None rest none = absurd (true≢false (sym none))
-  failed_there (Some d) rest some = failed d rest
+  failed_there : (read : List Bool) (d : Option Due) (rest : List ℕ) → is_some d ≡ true → failure_of (get_or (flat_map (due_numbers read) (option_to_list d) ++ rest) 0 0) (get_or (flat_map (due_numbers read) (option_to_list d) ++ rest) 1 0) ≡ option_and_then failure_by d
+  failed_there read None rest none = absurd (true≢false (sym none))
+  failed_there read (Some d) rest some = failed read d rest
 
   program_there : (o : Option Program) (u : ℕ) → is_some o ≡ true → is_some (option_map (λ (p : Program). comes m.schema p u h) o) ≡ true
   program_there None u none = none
@@ -115,5 +115,5 @@ module _ (m : Meeting) (kept : Numbers) (h : List Entry) (n : ℕ) (at : IsNumbe
   pub fails_is : (u : ℕ) → 0 < u → u ≤ length m.programs → fails_in kept n u ≡ failure_in (state_after m h) u
   fails_is u low high =
       (λ j. failure_of (said_is u 2 low high j) (said_is u 3 low high j))
-      ∙ failed_there (unit_at (state_after m h).programs u) (flat_map unit_numbers (option_to_list (unit_at (unversioned (sequential_after m h)).units u)))
+      ∙ failed_there (items_read_by m.programs u) (unit_at (state_after m h).programs u) (flat_map unit_numbers (option_to_list (unit_at (unversioned (sequential_after m h)).units u)))
       (ap is_some (comes_at m h u) ∙ program_there (unit_at m.programs u) u (some_at m.programs u low high))

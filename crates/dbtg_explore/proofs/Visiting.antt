@@ -14,16 +14,17 @@ use Rattle.dbtg_explore.specs.declared.search.Search as search
 use Rattle.dbtg_explore.specs.Explored.{IsExplored, IsFirstEndless}
 use Rattle.dbtg_explore.specs.Inside.Ends.{AreEndsOf, FailsIn, IsBehind, Notes}
 use Rattle.dbtg_explore.specs.Inside.Found.{orders_at}
-use Rattle.dbtg_explore.specs.Inside.Walks.{failure_by}
+use Rattle.dbtg_explore.specs.Inside.Walks.{failure_by, failure_in}
 use Rattle.dbtg_explore.specs.Inside.Search.{HasFirst}
 use Rattle.dbtg_explore.specs.Inside.Steps.{Goes, IsAt, can_follow}
 use Rattle.dbtg_explore.specs.Inside.Visits.{HasVisited, IsThrough, IsVisited}
 use Rattle.dbtg_explore.specs.Orders.{IsBefore, IsEnd, IsOrder, Meeting, history_of}
 use Rattle.dbtg_explore.specs.Pairwise.{ArePairwise}
 use Rattle.dbtg_explore.specs.Results.{AreFailures, AreResults, is_failure}
-use Rattle.dbtg_explore.specs.States.{CountsStates, Essence, MeetingState, essence_of, state_of}
+use Rattle.dbtg_explore.specs.States.{CountsStates, Essence, MeetingState, essence, essence_of, state_of}
 use Rattle.dbtg_explore.proofs.Alike.{can_go_on_alike}
 use Rattle.dbtg_explore.proofs.Before.{no_later_trans}
+use Rattle.dbtg_explore.proofs.Counted.{counted_failure, counted_says}
 use Rattle.dbtg_explore.proofs.Keyed.{same_text}
 use Rattle.dbtg_explore.proofs.Noting.{ends_later}
 use Rattle.dbtg_explore.proofs.Searched.{all_found, in_order_at}
@@ -92,6 +93,13 @@ module _ (m : Meeting) where
   fails_there : (state : MeetingState) (f : Failure) (at : ProgramState) → unit_at state.programs f.unit ≡ Some (ended at f.how) → is_failure f.how ≡ true → FailsIn state f
   fails_there state f at there fails = ap (option_and_then failure_by) there ∙ ap (λ (b : Bool). if b then Some f.how else None) fails
 
+  -- states with the same essence have the same failures
+  fails_alike : (x y : MeetingState) (f : Failure) → essence m x ≡ essence m y → failure_in x f.unit ≡ failure_in y f.unit
+  fails_alike x y f e =
+      sym (counted_says failure_by counted_failure m.programs x.programs f.unit)
+      ∙ ap (λ (s : Essence). option_and_then failure_by (unit_at s.programs f.unit)) e
+      ∙ counted_says failure_by counted_failure m.programs y.programs f.unit
+
   module _ (limit : ℕ) (s : search.Search) (e : ends.Ends) (through : IsThrough m limit s e) where
     seen : take (length s.found.orders) s.found.orders ≡ s.found.orders
     seen = take_all (length s.found.orders) s.found.orders (omega arith)
@@ -137,7 +145,7 @@ module _ (m : Meeting) where
               record { order = at.0; is_order = through.visited.at.under_way.are_orders at.0 at.1; state = failed.at; ended_is = failed.ended_is; is_failure_is = failed.is_failure_is };
           all = λ f fails.
               let first = first_of fails.order fails.is_order in
-              failures.all f first.first first.is_found (subst (λ (s : Essence). option_and_then failure_by (unit_at s.programs f.unit) ≡ Some f.how) (sym first.same) (fails_there (state_of m fails.order) f fails.state fails.ended_is fails.is_failure_is));
+              failures.all f first.first first.is_found (fails_alike (state_of m first.first) (state_of m fails.order) f first.same ∙ fails_there (state_of m fails.order) f fails.state fails.ended_is fails.is_failure_is);
           in_order = failures.in_order;
         }
 

@@ -1,7 +1,8 @@
 -- A walk: where it stands after turns are taken, and taken back.
 -- m is a meeting, u a unit, t a turn that was taken, ts are turns, w is a walk, o an order.
-use Rattle.std.proofs.Common.{◌≡◌, refl, sym, ◌∙◌, ap, subst, ℕ, ◌+◌, ◌-◌, ◌<◌, ◌≤◌, true, false, List, [], ◌∷◌, ◌++◌, length, length-append, get_or, take, drop, take-append-drop, append-nil, append_assoc, Option, Some, None, arith, true≢false}
+use Rattle.std.proofs.Common.{◌≡◌, refl, sym, ◌∙◌, ap, subst, ℕ, ◌+◌, ◌-◌, ◌<◌, ◌≤◌, Bool, true, false, List, [], ◌∷◌, ◌++◌, length, length-append, get_or, take, drop, take-append-drop, append-nil, append_assoc, Option, Some, None, arith, true≢false}
 use Rattle.std.specs.List.{take-map}
+use Rattle.std.specs.Vec.{Vec}
 use Rattle.std.proofs.lemmas.List.{length-take-le, map_push, take-append-le, take-take, take_all, take_more}
 use Rattle.dbtg_unit.specs.declared.unit.Entry.{Entry}
 use Rattle.dbtg_unit.specs.Database.Laws.Replay.{entries_of}
@@ -18,7 +19,7 @@ use Rattle.dbtg_explore.specs.declared.walk.Walk.{Walk}
 use Rattle.dbtg_explore.specs.Orders.{CanFollow, IsOrder, Meeting, after_order, after_turn, beginning, can_turn, history_of}
 use Rattle.dbtg_explore.specs.declared.way.Way.{Way}
 use Rattle.dbtg_explore.specs.Inside.Links.{GoOn, IsWay, units_of}
-use Rattle.dbtg_explore.specs.Inside.Walks.{AreStanding, AreTaken, HasTurned, IsTaken, Stands, StandsAmong, StandsAt, links_of, order_of}
+use Rattle.dbtg_explore.specs.Inside.Walks.{AreStanding, AreTaken, HasTurned, IsTaken, KnowsReads, Stands, StandsAmong, StandsAt, links_of, order_of}
 use Rattle.dbtg_explore.proofs.Placed.{has_number}
 use Rattle.dbtg_explore.proofs.Ways.{first_links, go_first, taken_on, units_are}
 use Rattle.dbtg_explore.proofs.Turning.{first_can, follow_front, follow_rest, history_on, no_turn, none_follow, order_behind, order_on}
@@ -82,8 +83,8 @@ module _ (m : Meeting) where
     none [] is = tt
     none (t ∷ ts) is = absurd (cc (is))
 
-  pub stands_first : (database : Making) (goings : List Going) (w : Walk) → AreAfter m.schema m.capacity m.programs m.begun database goings → w.database ≡ record { making = database; stays = length database.history } → w.goings.items ≡ goings → w.turns.items ≡ [] → StandsAt m [] w
-  stands_first database goings w a d g none =
+  pub stands_first : (database : Making) (goings : List Going) (w : Walk) → AreAfter m.schema m.capacity m.programs m.begun database goings → w.database ≡ record { making = database; stays = length database.history } → w.goings.items ≡ goings → w.turns.items ≡ [] → KnowsReads m w → StandsAt m [] w
+  stands_first database goings w a d g none knows =
       let history : database.history ≡ beginning m = ap (λ (n : Making). n.history) a.database_is in
       let making : w.database.making ≡ database = ap (λ (r : Reversible). r.making) d in
       let standing : AreStanding m database goings = record {
@@ -97,6 +98,7 @@ module _ (m : Meeting) where
         order_is = ap order_of none;
         are_taken = subst (AreTaken m (beginning m)) (sym none) (none_taken (beginning m));
         stays_are = ap (λ (r : Reversible). r.stays) d ∙ ap (λ (es : List Entry). length es) history;
+        knows = knows;
       }
 
   -- the history before a turn
@@ -116,8 +118,8 @@ module _ (m : Meeting) where
 
   -- one turn more
   pub stands_on : (place u : ℕ) (old new : Walk) (before : Going) → Stands m old → can_turn m old.database.making.history u ≡ true → HasTurned m u old.database.making new.database.making new.goings.items → new.database.stays ≡ old.database.stays
-      → unit_at old.goings.items u ≡ Some before → new.turns.items ≡ old.turns.items ++ record { place = place; unit = u; before = before } ∷ [] → StandsAt m (order_of old.turns.items ++ u ∷ []) new
-  stands_on place u old new before h can turned stays found pushed =
+      → unit_at old.goings.items u ≡ Some before → new.turns.items ≡ old.turns.items ++ record { place = place; unit = u; before = before } ∷ [] → new.reads ≡ old.reads → StandsAt m (order_of old.turns.items ++ u ∷ []) new
+  stands_on place u old new before h can turned stays found pushed reads =
       let order = order_of old.turns.items in
       let t : Taken = record { place = place; unit = u; before = before } in
       let could : can_turn m (history_of m order) u ≡ true = ap (λ (es : List Entry). can_turn m es u) (sym h.history_is) ∙ can in
@@ -139,6 +141,7 @@ module _ (m : Meeting) where
         order_is = ap order_of pushed ∙ map_push (λ (x : Taken). x.unit) old.turns.items t;
         are_taken = subst (AreTaken m (beginning m)) (sym pushed) (taken_both (beginning m) old.turns.items (t ∷ []) h.are_taken (one_taken (history_of m order) t (subst (λ (es : List Entry). IsTaken m es t) h.history_is taken)));
         stays_are = stays ∙ h.stays_are;
+        knows = ap (λ (r : Vec (List Bool)). r.items) reads ∙ h.knows;
       }
 
   -- turns one after another
@@ -204,8 +207,8 @@ module _ (m : Meeting) where
           above = omega (arith, long, most, h.stays_are);
         }
 
-    pub stands_back : (new : Walk) → new.turns.items ≡ ts → new.database ≡ record w.database { making = made_first (length w.database.making.history - 1) w.database.making } → new.goings.items ≡ with_unit_at w.goings.items t.unit t.before → Stands m new
-    stands_back new turns database goings =
+    pub stands_back : (new : Walk) → new.turns.items ≡ ts → new.database ≡ record w.database { making = made_first (length w.database.making.history - 1) w.database.making } → new.goings.items ≡ with_unit_at w.goings.items t.unit t.before → new.reads ≡ w.reads → Stands m new
+    stands_back new turns database goings reads =
         let history = history_of m (order_of ts) in
         let making : new.database.making ≡ made_first (length w.database.making.history - 1) w.database.making = ap (λ (r : Reversible). r.making) database in
         let count : length w.database.making.history - 1 ≡ length history = omega (arith, long) in
@@ -228,6 +231,7 @@ module _ (m : Meeting) where
           order_is = refl;
           are_taken = subst (AreTaken m (beginning m)) (sym turns) front;
           stays_are = ap (λ (r : Reversible). r.stays) database ∙ h.stays_are;
+          knows = ap (λ (r : Vec (List Bool)). r.items) reads ∙ h.knows;
         }
 
   -- FROM ONE ORDER TO ANOTHER

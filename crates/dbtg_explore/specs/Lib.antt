@@ -1,3 +1,4 @@
+pub mod Counted
 pub mod Explored
 pub mod Laws
 pub mod Orders

@@ -4,7 +4,7 @@
 ghost use Rattle.dbtg_cells.specs.CellNumbers.{cell_count, is_cell};
 ghost use Rattle.dbtg_cells.specs.declared.name.CellName.{CellName};
 ghost use Rattle.dbtg_explore.specs.Inside.Parts.{IsNumberOf, parts_of, unit_part};
-ghost use Rattle.dbtg_explore.specs.Inside.Walks.{HasTurned, IsPlace, Stands, StandsAt, links_of, order_of};
+ghost use Rattle.dbtg_explore.specs.Inside.Walks.{HasTurned, IsPlace, KnowsReads, Stands, StandsAt, links_of, order_of};
 ghost use Rattle.dbtg_explore.specs.Orders.{IsMeeting, can_turn};
 ghost use Rattle.dbtg_interned.specs.Arrays.{IsArray, size};
 ghost use Rattle.dbtg_states.specs.Numbers.{AreNumbers, Grow, HasPut, IsNumberBut};
@@ -30,6 +30,7 @@ impl<'a> Meeting<'a> {
     ) -> Result<u32, AllocError>
         requires meeting { IsMeeting self.now }
         requires place { IsPlace self.now walk.now }
+        requires knows { KnowsReads self.now walk.now }
         requires array { IsArray numbers.old.arrays array }
         requires there { (0 < unit) × (unit ≤ length self.now.programs) }
         requires room { length self.now.programs + cell_count self.now.schema self.now.capacity ≤ size numbers.old.arrays }
@@ -50,6 +51,7 @@ impl<'a> Meeting<'a> {
     ) -> Result<u32, AllocError>
         requires meeting { IsMeeting self.now }
         requires place { IsPlace self.now walk.now }
+        requires knows { KnowsReads self.now walk.now }
         requires but { (names : List CellName) × IsNumberBut (parts_of self.now walk.now.database.making.history) numbers.old 0 names array }
         ensures keeps { IfOk result (λ n. Grow numbers.old numbers.new) }
         ensures number { IfOk result (λ n. (names : List CellName) → IsNumberBut (parts_of self.now walk.now.database.making.history) numbers.old 0 names array → IsNumberBut (parts_of self.now walk.now.database.making.history) numbers.new (length self.now.programs) names n) }
@@ -73,6 +75,7 @@ impl<'a> Meeting<'a> {
     ) -> Result<u32, AllocError>
         requires meeting { IsMeeting self.now }
         requires place { IsPlace self.now walk.now }
+        requires knows { KnowsReads self.now walk.now }
         requires cells { list_all (is_cell self.now.schema self.now.capacity) names.now ≡ true }
         requires but { IsNumberBut (parts_of self.now walk.now.database.making.history) numbers.old 0 names.now array }
         ensures keeps { IfOk result (λ n. Grow numbers.old numbers.new) }
@@ -97,6 +100,7 @@ impl<'a> Meeting<'a> {
     ) -> Result<u32, AllocError>
         requires meeting { IsMeeting self.now }
         requires place { IsPlace self.now walk.now }
+        requires knows { KnowsReads self.now walk.now }
         requires kept { AreNumbers numbers.old }
         requires room { length self.now.programs + cell_count self.now.schema self.now.capacity ≤ size numbers.old.arrays }
         ensures { IfOk result (IsNumberOf self.now numbers.new walk.now.database.making.history) }

@@ -10,8 +10,10 @@ ghost use Rattle.std.specs.Prelude.{◌≡◌, ◌≤◌, ◌<◌, ◌-◌, ◌+
 use crate::known::Known;
 use crate::meeting::Meeting;
 use crate::orders::Link;
+use crate::reads::each_items_read;
 use crate::way::way_to;
 use dbtg_going::{Going, programs_after};
+use dbtg_schema::Row;
 use dbtg_step::ReversibleDatabase;
 use dbtg_unit::Statement;
 use std::alloc::{AllocError, Global};
@@ -24,11 +26,12 @@ pub struct Taken {
     pub before: Going,
 }
 
-/// A database and programs after these turns, which can be taken back.
+/// A database and programs after these turns, which can be taken back; and which items the programs read.
 pub struct Walk<'a> {
     pub database: ReversibleDatabase<'a>,
     pub goings: Vec<Going>,
     pub turns: Vec<Taken>,
+    pub reads: Vec<Row<bool>>,
 }
 
 impl<'a> Drop for Walk<'a> {
@@ -37,6 +40,7 @@ impl<'a> Drop for Walk<'a> {
             database: _,
             goings: _,
             turns: _,
+            reads: _,
         } = self;
     }
 }
@@ -94,6 +98,7 @@ impl<'a> Meeting<'a> {
             database: ReversibleDatabase::of(alloc, database),
             goings,
             turns: Vec::new(alloc),
+            reads: each_items_read(alloc, self.programs)?,
         })
     }
 

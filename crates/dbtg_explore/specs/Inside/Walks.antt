@@ -17,6 +17,7 @@ use Rattle.dbtg_explore.specs.Inside.Links.{GoOn}
 use Rattle.dbtg_explore.specs.Orders.{IsOrder, Meeting, after_turn, beginning, can_turn, history_of}
 use Rattle.dbtg_explore.specs.Results.{is_failure}
 use Rattle.dbtg_explore.specs.States.{MeetingState}
+use Rattle.dbtg_explore.specs.Inside.Keys.{items_read}
 
 -- the database has a unit for each program, and each program is where its unit's entries have led it
 pub record AreStanding (m : Meeting) (database : Making) (goings : List Going) : Type 0 where
@@ -65,6 +66,10 @@ AreTaken m history (t ∷ ts) = IsTaken m history t × AreTaken m (after_turn m 
 abbrev pub IsPlace : Meeting → Walk → Type 0
 IsPlace m w = AreStanding m w.database.making w.goings.items
 
+-- it knows which items the programs read
+abbrev pub KnowsReads : Meeting → Walk → Type 0
+KnowsReads m w = w.reads.items ≡ map items_read m.programs
+
 -- it stands where an order leads, whose turns can be taken back
 pub record StandsAt (m : Meeting) (order : List ℕ) (w : Walk) : Type 0 where
   pub is_order : IsOrder m order
@@ -73,6 +78,7 @@ pub record StandsAt (m : Meeting) (order : List ℕ) (w : Walk) : Type 0 where
   pub order_is : order_of w.turns.items ≡ order
   pub are_taken : AreTaken m (beginning m) w.turns.items
   pub stays_are : w.database.stays ≡ length (beginning m)
+  pub knows : KnowsReads m w
 
 -- it stands where its turns have led
 abbrev pub Stands : Meeting → Walk → Type 0

@@ -12,6 +12,9 @@ use Rattle.dbtg_explore.proofs.meeting.Meeting.number_after.Goals as goal
 pub put_all-requires-clause-place : goal.put_all-requires-clause-place
 put_all-requires-clause-place c = c.in_ok-take_turn.ensures.stands.is_place
 
+pub put_all-requires-clause-knows : goal.put_all-requires-clause-knows
+put_all-requires-clause-knows c = c.in_ok-take_turn.ensures.stands.knows
+
 pub put_all-requires-clause-cells : goal.put_all-requires-clause-cells
 put_all-requires-clause-cells c = subst (λ (d : Making). list_all (is_cell d.schema d.capacity) c.changed-names.result.now ≡ true) c.in_ok-take_turn.ensures.stands.is_place.database_is c.changed-names.ensures.cells
 

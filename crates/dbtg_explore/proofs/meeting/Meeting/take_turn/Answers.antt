@@ -15,7 +15,7 @@ returns-in_ok-push-in-Some-clause-stands c =
     let walk = c.args.walk.now in
     let long : length c.make.new.goings ≡ walk.goings.len = omega (arith, c.make.auto.goings, c.as_mut_slice-goings.ensures.len) in
     let turned = subst (λ (gs : List Going). HasTurned c.args.self.now c.args.turn.unit walk.database.making c.make.new.database.making gs) (sym (with_items_is walk.goings c.make.new.goings long)) made.turned in
-    stands_on c.args.self.now c.args.turn.before c.args.turn.unit c.args.walk.now (record { database = c.make.new.database; goings = with_items c.args.walk.now.goings c.make.new.goings; turns = c.push.new.self }) c.in_ok-before-in-Some.before c.requires.stands c.requires.turn turned made.stays found c.in_ok-push-in-Some.ensures.items
+    stands_on c.args.self.now c.args.turn.before c.args.turn.unit c.args.walk.now (record { database = c.make.new.database; goings = with_items c.args.walk.now.goings c.make.new.goings; turns = c.push.new.self; reads = walk.reads }) c.in_ok-before-in-Some.before c.requires.stands c.requires.turn turned made.stays found c.in_ok-push-in-Some.ensures.items refl
 
 pub returns-in_ok-push-in-Some-clause-turned : goal.returns-in_ok-push-in-Some-clause-turned
 returns-in_ok-push-in-Some-clause-turned c =

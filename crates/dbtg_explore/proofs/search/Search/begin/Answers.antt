@@ -7,6 +7,9 @@ use Rattle.dbtg_explore.proofs.search.Search.begin.Goals as goal
 pub first_number-requires-clause-place : goal.first_number-requires-clause-place
 first_number-requires-clause-place c = c.requires.stands.is_place
 
+pub first_number-requires-clause-knows : goal.first_number-requires-clause-knows
+first_number-requires-clause-knows c = c.requires.stands.knows
+
 pub returns-then-limit-len-clause-stopped : goal.returns-then-limit-len-clause-stopped
 returns-then-limit-len-clause-stopped c =
     let more : c.args.limit < length c.in_ok-found.found.orders = omega (arith, c.if-limit-len.true, c.len.ensures) in
