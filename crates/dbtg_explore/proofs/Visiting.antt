@@ -38,15 +38,15 @@ is_behind os i in_order low p c =
     let at : get_or os c.0 [] ≡ p = sym (get_or-take i os c.0 [] (omega arith)) ∙ get_or_default (take i os) c.0 [] p c.1 ∙ c.2 in
     subst (λ q. IsBefore q (get_or os i [])) at (in_order_at os c.0 i in_order (omega arith) low)
 
--- the states before place i are visited, and there are no more than the limit
+-- the states before place i are visited, which are no more than the limit
 pub record IsOnTheWay (m : Meeting) (limit i : ℕ) (s : search.Search) (e : ends.Ends) : Type 0 where
   pub visited : IsVisited m i s e
-  pub limit_is : s.limit ≡ limit
+  pub few : i ≤ limit
   pub within : i ≤ length s.found.orders
 
 module _ (m : Meeting) where
   -- one more state
-  pub visited_more : (i : ℕ) (old new : search.Search) (before after : ends.Ends) (o : List ℕ) → i < length old.found.orders → IsVisited m i old before → Goes m (i + 1) 0 old new → o ≡ get_or old.found.orders i [] → Notes m old.found.orders o before after → HasVisited m i old new after
+  pub visited_more : (i : ℕ) (old new : search.Search) (before after : ends.Ends) (o : List ℕ) → i < length old.found.orders → IsVisited m i old before → Goes m (i + 1) 0 old new → o ≡ get_or old.found.orders i [] → Notes m old.found.orders o before after → HasVisited m i new after
   visited_more i old new before after o low visited goes here notes =
       let behind = subst (IsBehind (take i old.found.orders)) (sym here) (is_behind old.found.orders i visited.at.under_way.in_order low) in
       let noted = notes (take i old.found.orders) behind visited.ends in
@@ -60,14 +60,13 @@ module _ (m : Meeting) where
               (ends_later m old.found.orders goes.more (take (i + 1) new.found.orders) after (subst (λ os. AreEndsOf m old.found.orders os after) (sym (kept ∙ longer)) noted));
         };
         within = kept_range m (i + 1) i 0 old new goes low;
-        limit_is = goes.limit_is;
       }
 
-  pub on_the_way : (limit : ℕ) (s : search.Search) (e : ends.Ends) → IsAt m 0 0 s → s.limit ≡ limit → AreEndsOf m s.found.orders [] e → IsOnTheWay m limit 0 s e
-  on_the_way limit s e at limit_is none = record { visited = record { at = at; ends = none }; limit_is = limit_is; within = omega arith }
+  pub on_the_way : (limit : ℕ) (s : search.Search) (e : ends.Ends) → IsAt m 0 0 s → AreEndsOf m s.found.orders [] e → IsOnTheWay m limit 0 s e
+  on_the_way limit s e at none = record { visited = record { at = at; ends = none }; few = omega arith; within = omega arith }
 
-  pub one_on_the_way : (limit i : ℕ) (old new : search.Search) (before after : ends.Ends) → IsOnTheWay m limit i old before → HasVisited m i old new after → IsOnTheWay m limit (i + 1) new after
-  one_on_the_way limit i old new before after way h = record { visited = h.visited; limit_is = h.limit_is ∙ way.limit_is; within = let low = h.within in omega arith }
+  pub one_on_the_way : (limit i : ℕ) (s : search.Search) (e : ends.Ends) → i < limit → HasVisited m i s e → IsOnTheWay m limit (i + 1) s e
+  one_on_the_way limit i s e below h = record { visited = h.visited; few = omega (arith, below); within = let low = h.within in omega arith }
 
   -- WHEN ALL ARE VISITED
 

@@ -86,11 +86,11 @@ returns-clause-reaches c =
     elim c.match-names-2.branch [
       | in-Some+in_ok-remember x ↦
           let e = x.self-is ∙ x.in_ok-remember.ensures.rest in
-          reaches m (o ++ u ∷ []) s new kept c.in_ok-after.after (ap (λ (z : Search). z.found) e) (ap (λ (z : Search). z.edges.items) e) (ap (λ (z : Search). z.numbers) e) (ap (λ (z : Search). z.limit) e) number after.keeps
+          reaches m (o ++ u ∷ []) s new kept c.in_ok-after.after (ap (λ (z : Search). z.found) e) (ap (λ (z : Search). z.edges.items) e) (ap (λ (z : Search). z.numbers) e) number after.keeps
           (subst (λ (z : Search). AreSeen m kept.contents z.seen) (sym x.self-is) x.in_ok-remember.ensures.seen)
       | in_default x ↦
           let e = x.self-is in
-          reaches m (o ++ u ∷ []) s new kept c.in_ok-after.after (ap (λ (z : Search). z.found) e) (ap (λ (z : Search). z.edges.items) e) (ap (λ (z : Search). z.numbers) e) (ap (λ (z : Search). z.limit) e) number after.keeps
+          reaches m (o ++ u ∷ []) s new kept c.in_ok-after.after (ap (λ (z : Search). z.found) e) (ap (λ (z : Search). z.edges.items) e) (ap (λ (z : Search). z.numbers) e) number after.keeps
           (subst (λ (z : Search). AreSeen m kept.contents z.seen) (sym e) (seen_later m s.numbers.contents kept.contents after.keeps.contents s.seen c.requires.at.seen))
     ]
 
