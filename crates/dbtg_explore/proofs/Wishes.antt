@@ -1,9 +1,9 @@
 -- Wishes: whether the turn after an order breaks one depends on the state alone, so the first that is found is the first of all.
 -- m is a meeting, w a wish, h and g are histories, o, p and q are orders, i, j and k places among the orders that are found.
-use Rattle.std.proofs.Common.{◌≡◌, refl, sym, ◌∙◌, ap, subst, ℕ, ◌+◌, ◌<◌, ◌≤◌, Bool, true, false, ◌&&◌, List, [], ◌∷◌, ◌++◌, length, length-append, get_or, Option, None, Some, arith, inl, inr, ◌⊎◌}
-use Rattle.std.specs.Prelude.{◌==◌, Contains, option_and_then, option_map}
+use Rattle.std.proofs.Common.{◌≡◌, refl, sym, ◌∙◌, ap, subst, ℕ, ◌+◌, ◌<◌, ◌≤◌, Bool, true, false, ◌&&◌, List, [], ◌∷◌, ◌++◌, length, length-append, get_or, Option, None, Some, arith, inl, inr}
+use Rattle.std.specs.Prelude.{◌==◌, Contains, is_some, not, option_and_then, option_map}
 use Rattle.std.proofs.lemmas.Bool.{cases_lt, true≢false}
-use Rattle.std.proofs.lemmas.List.{get_or_default, same_from_push}
+use Rattle.std.proofs.lemmas.List.{get_or_append_left, get_or_default, same_from_push}
 use Rattle.std.proofs.lemmas.List.Elements.{Contains-get_or}
 use Rattle.dbtg_schema.specs.Lookups.{some_and}
 use Rattle.dbtg_unit.specs.declared.statement.Statement.{Statement}
@@ -26,7 +26,7 @@ use Rattle.dbtg_explore.specs.Inside.Standing.{said, turns_in}
 use Rattle.dbtg_explore.specs.Inside.Steps.{IsAt, can_follow}
 use Rattle.dbtg_explore.specs.Inside.Wishes.{HoldsBefore, is_next, line_of, stands_there}
 use Rattle.dbtg_explore.specs.Laws.{answer_of}
-use Rattle.dbtg_explore.specs.Orders.{IsNoLater, IsOrder, Meeting, after_turn, beginning, can_go_on, can_turn, due_of, history_of, waits}
+use Rattle.dbtg_explore.specs.Orders.{IsNoLater, IsOrder, Meeting, after_turn, beginning, can_turn, due_of, history_of, waits}
 use Rattle.dbtg_explore.specs.States.{Essence, essence, essence_of, sequential_after, state_after}
 use Rattle.dbtg_explore.specs.Wishes.{BreaksBy, HoldsSoFar, IsJudged, breaks, is_wished, stands_in}
 use Rattle.dbtg_explore.proofs.Alike.{IsDueOf, answer_alike, can_turn_alike, comes_at, due_alike, due_there}
@@ -70,7 +70,7 @@ module _ (m : Meeting) where
     pub answer : answer_of m h u ≡ Some e.answer
 
   no_longer : (h : List Entry) (e : Entry) → h ≡ h ++ e ∷ [] → ⊥
-  no_longer h e is = let long = length-append h (e ∷ []) in let same = ap length is in omega arith
+  no_longer h e is = let long = length-append h (e ∷ []) in let same = ap (λ (es : List Entry). length es) is in omega arith
 
   abbrev effect_there : List Entry → ℕ → Statement → Option StatementEffect
   effect_there h u s = effect_of_unit m.schema m.capacity (sequential_after m h) u s
@@ -83,12 +83,13 @@ module _ (m : Meeting) where
     by_effect : (s : Statement) (q : Option StatementEffect) → due_of m h u ≡ Some s → effect_there h u s ≡ q → with_effect_of h u s q ≡ h ++ e ∷ [] → IsMade h u e
     by_effect s None said effects is = absurd (no_longer h e is)
     by_effect s (Some r) said effects is =
-        let same = (same_from_push h h _ e is).1 in
+        let both = same_from_push h h _ e is in
+        let same = both.1 in
         let statement : s ≡ e.statement = ap (λ (x : Entry). x.statement) same in
         let answer : r.answer ≡ e.answer = ap (λ (x : Entry). x.answer) same in
         record {
           statement = said ∙ ap Some statement;
-          answer = ap (λ o. option_and_then (λ x. answer_by (effect_there h u x)) o) said ∙ ap answer_by effects ∙ ap Some answer;
+          answer = ap (λ (o : Option Statement). option_and_then (λ (x : Statement). answer_by (effect_there h u x)) o) said ∙ ap answer_by effects ∙ ap Some answer;
         }
 
     by : (o : Option Statement) → due_of m h u ≡ o → made m.schema m.capacity (length m.programs) h u o ≡ h ++ e ∷ [] → IsMade h u e
@@ -103,9 +104,11 @@ module _ (m : Meeting) where
     pub answer : entry.answer ≡ e.answer
 
   pub makes_same : (h : List Entry) (u : ℕ) (e : Entry) → IsMade h u e → MakesSame h u e
-  makes_same h u e is = by (effect_there h u e.statement) refl (sym (ap (λ o. option_and_then (λ x. answer_by (effect_there h u x)) o) is.statement) ∙ is.answer) where
+  makes_same h u e is = by (effect_there h u e.statement) refl (sym (ap (λ (o : Option Statement). option_and_then (λ (x : Statement). answer_by (effect_there h u x)) o) is.statement) ∙ is.answer) where
     by : (q : Option StatementEffect) → effect_there h u e.statement ≡ q → answer_by (effect_there h u e.statement) ≡ Some e.answer → MakesSame h u e
-    by None effects answers = absurd (cc (effects, answers))
+    by None effects answers =
+        let none : None ≡ Some e.answer = sym (ap answer_by effects) ∙ answers in
+        absurd (cc (none))
     by (Some r) effects answers =
         let answer : Some r.answer ≡ Some e.answer = sym (ap answer_by effects) ∙ answers in
         record {
@@ -138,9 +141,19 @@ module _ (m : Meeting) where
           breaks_is = (λ i. breaks w (status_code (same.statement i) (same.answer i).status)) ∙ b.breaks_is;
         }
 
+    pub record IsNext (h : List Entry) : Type 0 where
+      pub can : can_turn m h w.unit ≡ true
+      pub wished : is_wished m w h ≡ true
+
+    pub next_both : (h : List Entry) → is_next m w h ≡ true → IsNext h
+    next_both h is = by (can_turn m h w.unit) refl is where
+      by : (b : Bool) → can_turn m h w.unit ≡ b → (b && is_wished m w h) ≡ true → IsNext h
+      by true can wished = record { can = can; wished = wished }
+      by false cannot no = absurd (true≢false (sym no))
+
     -- what is before the last turn
     before_is : (o : List ℕ) (b : BreaksBy m w (o ++ w.unit ∷ [])) → b.before ≡ o
-    before_is o b = sym (same_from_push o b.before w.unit w.unit b.order_is).0
+    before_is o b = let both = same_from_push o b.before w.unit w.unit b.order_is in sym both.0
 
     pub next_there : (o : List ℕ) → BreaksBy m w (o ++ w.unit ∷ []) → is_next m w (history_of m o) ≡ true
     next_there o b =
@@ -206,12 +219,18 @@ module _ (m : Meeting) where
       | inr above ↦ let e : j ≡ k = omega arith in λ b. here (subst (λ (n : ℕ). BreaksBy m w (get_or xs n [] ++ w.unit ∷ [])) e b)
     ]
 
+    -- more orders that are found
+    pub holds_kept : (xs more ys : List (List ℕ)) (k : ℕ) → ys ≡ xs ++ more → k ≤ length xs → HoldsBefore m w xs k → HoldsBefore m w ys k
+    holds_kept xs more ys k is within holds j low b =
+        let there : get_or ys j [] ≡ get_or xs j [] = ap (λ (zs : List (List ℕ)). get_or zs j []) is ∙ get_or_append_left xs more [] j (omega (arith, low, within)) in
+        holds j low (subst (λ p. BreaksBy m w (p ++ w.unit ∷ [])) there b)
+
 -- BY THE ARRAY OF A STATE
 
 module _ (m : Meeting) (kept : Numbers) (h : List Entry) (n : ℕ) (at : IsNumberOf m kept h n) (w : Wish) where
   due_where : (b : Option Statement) → due_of m h w.unit ≡ b → can_turn m h w.unit ≡ true → (s : Statement) × (due_of m h w.unit ≡ Some s)
   due_where None none can =
-      let cannot : can_turn m h w.unit ≡ false = rw none refl in
+      let cannot : can_turn m h w.unit ≡ false = ap (λ (o : Option Statement). is_some o && not (waits m h w.unit)) none in
       absurd (true≢false (sym can ∙ cannot))
   due_where (Some s) some can = (s, some)
 

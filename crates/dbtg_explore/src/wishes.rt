@@ -87,7 +87,8 @@ impl Wish {
         requires within { place < length search.now.found.orders }
         ensures { result ≡ is_next meeting.now self (history_of meeting.now (slice_index_or search.now.found.orders place [])) }
     {
-        let (numbers, state) = (&search.numbers, search.found.number(place));
+        let numbers = &search.numbers;
+        let state = search.found.number(place);
         meeting.can_turn(numbers, state, self.unit)
             && stands_there(meeting, numbers, state, self.unit, self.line)
     }
