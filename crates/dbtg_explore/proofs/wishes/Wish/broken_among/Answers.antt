@@ -1,6 +1,6 @@
 use Rattle.std.proofs.Common.{◌+◌, ◌<◌, ◌≤◌, ◌++◌, ◌∷◌, [], ℕ, List, length, get_or, sym, subst, arith}
 use Rattle.dbtg_explore.specs.Inside.Wishes.{IsJudgedAt}
-use Rattle.dbtg_explore.proofs.Wishes.{first_breaks, holds_more, holds_so_far}
+use Rattle.dbtg_explore.proofs.Judging.{first_breaks, holds_more, holds_so_far}
 use Rattle.dbtg_explore.proofs.wishes.Wish.broken_among.Goals as goal
 
 pub loop-place-init : goal.loop-place-init

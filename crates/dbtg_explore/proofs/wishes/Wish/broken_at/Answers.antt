@@ -6,7 +6,7 @@ use Rattle.dbtg_explore.specs.Orders.{can_turn, history_of}
 use Rattle.dbtg_explore.specs.Wishes.{is_wished}
 use Rattle.dbtg_explore.proofs.Walks.{stands}
 use Rattle.dbtg_explore.proofs.Ways.{among_one}
-use Rattle.dbtg_explore.proofs.Wishes.{made_last, next_both, next_there}
+use Rattle.dbtg_explore.proofs.Judging.{made_last, next_both, next_there}
 use Rattle.dbtg_explore.proofs.wishes.Wish.broken_at.Goals as goal
 
 pub returns-then-not-is_next-clause-judged : goal.returns-then-not-is_next-clause-judged

@@ -1,7 +1,7 @@
 use Rattle.std.proofs.Common.{◌≡◌, ◌+◌, ◌<◌, ◌≤◌, ◌++◌, ◌∷◌, [], ℕ, List, length, get_or, sym, subst, arith}
 use Rattle.dbtg_explore.specs.Inside.Wishes.{IsJudgedAt}
 use Rattle.dbtg_explore.proofs.Walks.{among_first}
-use Rattle.dbtg_explore.proofs.Wishes.{first_breaks, holds_kept, holds_more, none_breaks}
+use Rattle.dbtg_explore.proofs.Judging.{first_breaks, holds_kept, holds_more, none_breaks}
 use Rattle.dbtg_explore.proofs.wishes.Wish.first_broken.Goals as goal
 
 pub loop-place-init : goal.loop-place-init

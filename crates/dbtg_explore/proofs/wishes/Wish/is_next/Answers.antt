@@ -3,7 +3,7 @@ use Rattle.dbtg_explore.specs.Orders.{history_of}
 use Rattle.dbtg_explore.proofs.Numbered.{numbered_low, state_at}
 use Rattle.dbtg_explore.proofs.Placed.{turn_numbered}
 use Rattle.dbtg_explore.proofs.Said.{turns_is}
-use Rattle.dbtg_explore.proofs.Wishes.{next_is}
+use Rattle.dbtg_explore.proofs.Judging.{next_is}
 use Rattle.dbtg_explore.proofs.wishes.Wish.is_next.Goals as goal
 
 pub number-state-requires : goal.number-state-requires
