@@ -32,8 +32,9 @@ impl Search {
     {
         let mut numbers = meeting.places().no_numbers(alloc)?;
         let number = meeting.first_number(alloc, &mut numbers, walk)?;
+        let found = Known::first(alloc, number)?;
         Ok(Search {
-            found: Known::first(alloc, number)?,
+            found,
             numbers,
             seen: Seen::none(alloc),
             edges: Vec::new(alloc),

@@ -12,7 +12,7 @@ loop-place-init g c =
 
 pub loop-place-preserved : goal.loop-place-preserved
 loop-place-preserved g c =
-    let below : c.loop-place.place < c.args.limit = omega (arith, c.loop-place-test.true, c.if-limit-len.false, c.len.ensures, c.len-2.ensures) in (
+    let below : c.loop-place.place < c.args.limit = omega (arith, c.loop-place-test.true, c.if-limit-len.false, c.len.ensures, c.len-in-loop-place.ensures) in (
       one_on_the_way c.args.meeting.now c.args.limit c.loop-place.place c.visit.new.self c.visit.new.ends below c.in_ok-visit.ensures.visited,
       c.in_ok-visit.ensures.stands,
     )
@@ -20,7 +20,7 @@ loop-place-preserved g c =
 pub returns-then-limit-len-clause-stopped : goal.returns-then-limit-len-clause-stopped
 returns-then-limit-len-clause-stopped g c =
     let s = c.loop-place.search in
-    let more : c.args.limit < length s.found.orders = omega (arith, c.if-limit-len.true, c.len-2.ensures) in
+    let more : c.args.limit < length s.found.orders = omega (arith, c.if-limit-len.true, c.len-in-loop-place.ensures) in
     λ _. more_states c.args.meeting.now c.loop-place.place 0 c.args.limit s c.loop-place.invariant.0.visited.at more
 
 pub returns-clause-through : goal.returns-clause-through
