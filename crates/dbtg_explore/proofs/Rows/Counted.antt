@@ -1,14 +1,13 @@
 -- What counts of a program.
 -- What is expected was worked out by hand, from the rule that stands above each.
-use Rattle.std.proofs.Common.{ap, sym, ◌∙◌}
-use Rattle.std.specs.Prelude.{◌≡◌, refl, List, [], ◌∷◌, None, true, false}
+use Rattle.std.proofs.Common.{ap, sym, ◌∙◌, arith}
+use Rattle.std.specs.Prelude.{◌≡◌, refl, ℕ, List, [], ◌∷◌, Option, Some, None, slice_get, true, false}
 use Rattle.std.specs.Fmt.{digits}
 use Rattle.dbtg_cells.specs.declared.key.Value.{Value}
-use Rattle.dbtg_cells.specs.declared.key.Value.TheVariants.{Num}
+use Rattle.dbtg_cells.specs.declared.key.Value.TheVariants.{Num, Text}
 use Rattle.dbtg_unit.specs.declared.statement.Statement.TheVariants.{Get}
 use Rattle.dbtg_unit.specs.declared.unit.Answer.{Answer}
 use Rattle.dbtg_unit.specs.declared.unit.Cause.TheVariants.{NoCurrentOfRunUnit}
-use Rattle.dbtg_unit.specs.declared.unit.Entry.{Entry}
 use Rattle.dbtg_unit.proofs.Rows.Words.{text}
 use Rattle.dbtg_unit.proofs.Rows.Defined.Schemas.{card}
 use Rattle.dbtg_script.specs.Tokens.{into, onto}
@@ -17,6 +16,7 @@ use Rattle.dbtg_program.specs.declared.program.End.TheVariants.{Stop}
 use Rattle.dbtg_program.specs.declared.program.Program.{Program}
 use Rattle.dbtg_program.specs.Going.{Due, due, ended, within}
 use Rattle.dbtg_program.proofs.Rows.Words.{done, no, of_lines}
+use Rattle.dbtg_going.specs.Turns.{state_in}
 use Rattle.dbtg_explore.specs.Counted.{counted, counts, reads}
 use Rattle.dbtg_explore.specs.Orders.{Meeting}
 use Rattle.dbtg_explore.specs.States.{Essence, essence, state_after}
@@ -114,9 +114,16 @@ other_way : (after_get (no NoCurrentOfRunUnit)).programs ≡ end_by (Num 2)
 unfolding within verdict onto into digits
 other_way = refl
 
-ends_apart : end_by (Num 1) ≡ end_by (Num 2) → ⊥
-ends_apart e = cc
+-- the number that the counter has in the first of these
+abbrev pub number_in : Option Value → ℕ
+number_in (Some (Num n)) = n
+number_in (Some (Text t)) = 0
+number_in None = 0
+
+abbrev pub way_in : List Due → ℕ
+way_in [] = 0
+way_in (d ∷ ds) = number_in (slice_get (state_in d).values 2)
 
 -- so there are two states
 two_states : after_get done ≡ after_get (no NoCurrentOfRunUnit) → ⊥
-two_states e = ends_apart (sym one_way ∙ ap (λ (s : Essence). s.programs) e ∙ other_way)
+two_states e = let same : 1 ≡ 2 = ap way_in (sym one_way ∙ ap (λ (s : Essence). s.programs) e ∙ other_way) in omega (arith, same)
