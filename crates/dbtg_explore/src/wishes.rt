@@ -42,9 +42,7 @@ fn is_statement(sentence: &Sentence) -> bool
 fn has_statement(lines: &[Line], number: u64) -> bool
     ensures { result ≡ list_any (λ l. l.number == number && is_statement l.sentence) lines.now }
 {
-    lines
-        .iter()
-        .any(|line| line.number == number && is_statement(&line.sentence))
+    lines.iter().any(|line| line.number == number && is_statement(&line.sentence))
 }
 
 // The number of the line of the sentence at this place, from 0; 0 behind the last.

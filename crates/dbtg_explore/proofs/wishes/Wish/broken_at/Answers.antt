@@ -57,15 +57,15 @@ returns-clause-judged c =
     let turns = c.of.ensures ∙ c.in_ok-push.ensures.items ∙ ap (λ (l : List ℕ). l ++ w.unit ∷ []) c.in_ok-turns.ensures in (
       turns,
       subst (BreaksBy m w) (sym turns)
-      (record {
-        before = o;
-        order_is = refl;
-        is_order = there.is_order;
-        wished = both.wished;
-        entry = after.turned.entry;
-        history_is = sym there.history_is ∙ made;
-        breaks_is = sym (c.is_broken.ensures (history_of m o) after.turned.entry made) ∙ c.if-not-is_broken.false;
-      }),
+          (record {
+            before = o;
+            order_is = refl;
+            is_order = there.is_order;
+            wished = both.wished;
+            entry = after.turned.entry;
+            history_is = sym there.history_is ∙ made;
+            breaks_is = sym (c.is_broken.ensures (history_of m o) after.turned.entry made) ∙ c.if-not-is_broken.false;
+          }),
     )
 
 pub returns-clause-stands : goal.returns-clause-stands
