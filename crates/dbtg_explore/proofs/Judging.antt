@@ -1,7 +1,7 @@
 -- Wishes: whether the turn after an order breaks one depends on the state alone, so the first that is found is the first of all.
 -- m is a meeting, w a wish, h and g are histories, o, p and q are orders, i, j and k places among the orders that are found.
 use Rattle.std.proofs.Common.{◌≡◌, refl, sym, ◌∙◌, ap, subst, ℕ, ◌+◌, ◌<◌, ◌≤◌, Bool, true, false, ◌&&◌, List, [], ◌∷◌, ◌++◌, length, length-append, get_or, Option, None, Some, arith, inl, inr}
-use Rattle.std.specs.Prelude.{◌==◌, Contains, is_some, not, option_and_then, option_map}
+use Rattle.std.specs.Prelude.{◌==◌, is_some, not, option_and_then, option_map}
 use Rattle.std.proofs.lemmas.Bool.{cases_lt, true≢false}
 use Rattle.std.proofs.lemmas.List.{get_or_append_left, get_or_default, same_from_push}
 use Rattle.std.proofs.lemmas.List.Elements.{Contains-get_or}
@@ -32,7 +32,7 @@ use Rattle.dbtg_explore.specs.Laws.{answer_of}
 use Rattle.dbtg_explore.specs.Orders.{IsNoLater, IsOrder, Meeting, after_turn, beginning, can_turn, due_of, history_of, waits}
 use Rattle.dbtg_explore.specs.States.{Essence, essence, essence_of, sequential_after, state_after}
 use Rattle.dbtg_explore.specs.Wishes.{BreaksBy, HoldsSoFar, IsJudged, breaks, is_wished, stands_in}
-use Rattle.dbtg_explore.proofs.Alike.{IsDueOf, answer_alike, can_turn_alike, comes_at, due_alike, due_there}
+use Rattle.dbtg_explore.proofs.Alike.{answer_alike, can_turn_alike, comes_at, due_alike, due_there}
 use Rattle.dbtg_explore.proofs.Before.{no_later_push, no_later_trans}
 use Rattle.dbtg_explore.proofs.Counted.{counted_at, counted_by}
 use Rattle.dbtg_explore.proofs.Placed.{has_number}

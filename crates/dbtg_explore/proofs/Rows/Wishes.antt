@@ -1,6 +1,6 @@
 -- Wishes: of which statement, and which status and which order breaks them.
 -- What is expected was worked out by hand, from the rule that stands above each.
-use Rattle.std.specs.Prelude.{◌≡◌, refl, List, [], ◌∷◌, None, true, false}
+use Rattle.std.specs.Prelude.{◌≡◌, refl, [], ◌∷◌, None, true, false}
 use Rattle.std.specs.Fmt.{digits}
 use Rattle.dbtg_unit.specs.declared.statement.Statement.TheVariants.{Get}
 use Rattle.dbtg_unit.specs.declared.unit.Cause.TheVariants.{NoCurrentOfRunUnit}

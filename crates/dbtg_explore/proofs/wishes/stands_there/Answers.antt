@@ -1,4 +1,4 @@
-use Rattle.std.proofs.Common.{◌≡◌, ◌∙◌, ap, sym}
+use Rattle.std.proofs.Common.{◌∙◌, ap, sym}
 use Rattle.std.specs.Prelude.{◌==◌}
 use Rattle.dbtg_schema.specs.Lookups.{some_and}
 use Rattle.dbtg_program.specs.declared.program.Program.{Program}

@@ -1,4 +1,4 @@
-use Rattle.std.proofs.Common.{◌<◌, ◌≤◌, [], ℕ, List, Option, length, get_or, subst, arith}
+use Rattle.std.proofs.Common.{◌<◌, ◌≤◌, [], length, get_or, subst, arith}
 use Rattle.dbtg_explore.specs.Inside.Wishes.{IsJudgedAt}
 use Rattle.dbtg_explore.proofs.Judging.{first_breaks, holds_more, holds_so_far}
 use Rattle.dbtg_explore.proofs.wishes.Wish.broken_among.Goals as goal

@@ -1,8 +1,7 @@
-use Rattle.std.proofs.Common.{◌≡◌, ◌∙◌, ◌++◌, ◌∷◌, [], ℕ, List, true, ap, refl, sym, subst, get_or}
+use Rattle.std.proofs.Common.{◌∙◌, ◌++◌, ◌∷◌, [], ℕ, List, ap, refl, sym, subst, get_or}
 use Rattle.std.proofs.lemmas.Bool.{true≢false}
 use Rattle.std.proofs.lemmas.List.Elements.{Contains-get_or}
 use Rattle.dbtg_unit.specs.declared.unit.Entry.{Entry}
-use Rattle.dbtg_explore.specs.declared.orders.Link.{Link}
 use Rattle.dbtg_explore.specs.Orders.{can_turn, history_of}
 use Rattle.dbtg_explore.specs.Wishes.{BreaksBy}
 use Rattle.dbtg_explore.proofs.Judging.{made_last, next_both, next_there, turned_there}

@@ -1,4 +1,4 @@
-use Rattle.std.proofs.Common.{◌≡◌, ◌+◌, ◌<◌, ◌≤◌, [], ℕ, List, length, get_or, subst, arith}
+use Rattle.std.proofs.Common.{◌+◌, ◌<◌, ◌≤◌, [], length, get_or, subst, arith}
 use Rattle.std.proofs.lemmas.Result.{IfErr-weaker}
 use Rattle.dbtg_explore.specs.Inside.Wishes.{IsJudgedAt}
 use Rattle.dbtg_explore.proofs.Judging.{first_breaks, holds_kept, holds_more, none_breaks}
