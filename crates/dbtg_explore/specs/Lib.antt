@@ -6,4 +6,5 @@ pub mod Pairwise
 pub mod Results
 pub mod States
 pub mod Versions
+pub mod Wishes
 pub mod Inside

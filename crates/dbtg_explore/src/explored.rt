@@ -77,21 +77,20 @@ impl Search {
         walk: &mut Walk<'a>,
         ends: &mut Ends,
         place: usize,
-    ) -> Result<(), Stop>
+    ) -> Result<(), AllocError>
         requires meeting { IsMeeting meeting.now }
         requires stands { StandsAmong meeting.now self.old.found.orders walk.old }
         requires visited { IsVisited meeting.now place self.old ends.old }
         requires within { place < length self.old.found.orders }
         ensures stands { OnOk result (StandsAmong meeting.now self.new.found.orders walk.new) }
-        ensures visited { OnOk result (HasVisited meeting.now place self.old self.new ends.new) }
-        ensures stopped { IfErr result (λ stop. stop ≡ States → HasMoreStates meeting.now self.old.limit) }
+        ensures visited { OnOk result (HasVisited meeting.now place self.new ends.new) }
     {
         self.note(alloc, meeting, walk, ends, place)?;
         self.go_on(alloc, meeting, place, walk)
     }
 }
 
-// All states.
+// All states, if there are no more than the limit.
 fn visit_all<'a, W: Watch>(
     alloc: Global,
     watch: &W,
@@ -104,10 +103,13 @@ fn visit_all<'a, W: Watch>(
     ensures through { IfOk result (λ all. IsThrough meeting.now limit all.0 all.1) }
     ensures stopped { IfErr result (λ stop. stop ≡ States → HasMoreStates meeting.now limit) }
 {
-    let mut search = Search::begin(alloc, meeting, walk, limit)?;
+    let mut search = Search::begin(alloc, meeting, walk)?;
     let mut ends = Ends::none(alloc);
     let mut place = 0;
     while place < search.found.len() {
+        if limit < search.found.len() {
+            return Err(Stop::States);
+        }
         search.visit(alloc, meeting, walk, &mut ends, place)?;
         watch.seen(search.found.len());
         place += 1;

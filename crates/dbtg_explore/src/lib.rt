@@ -21,6 +21,7 @@ mod told;
 mod unversioned;
 mod walk;
 mod way;
+mod wishes;
 
 pub use explored::{Endless, Explored, Failure, explore};
 pub use laws::{
@@ -29,3 +30,4 @@ pub use laws::{
 };
 pub use meeting::Meeting;
 pub use told::told_text;
+pub use wishes::{Wish, broken_turns, is_there};

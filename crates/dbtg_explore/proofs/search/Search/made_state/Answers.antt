@@ -107,8 +107,7 @@ returns-in_ok-remember-clause-reaches c =
     let s = c.args.self.now in
     let o = get_or s.found.orders c.args.place [] in
     let e = c.in_ok-remember.ensures.rest in
-    reaches m (o ++ c.args.unit ∷ []) s c.remember.new.self c.number_after.new.numbers c.in_ok-after.after (ap (λ (z : Search). z.found) e)
-    (ap (λ (z : Search). z.edges.items) e) (ap (λ (z : Search). z.numbers) e) (ap (λ (z : Search). z.limit) e)
+    reaches m (o ++ c.args.unit ∷ []) s c.remember.new.self c.number_after.new.numbers c.in_ok-after.after (ap (λ (z : Search). z.found) e) (ap (λ (z : Search). z.edges.items) e) (ap (λ (z : Search). z.numbers) e)
     (number_there (goal.at.returns-in_ok-remember-clause-reaches c).In_ok-after) c.in_ok-after.ensures.keeps c.in_ok-remember.ensures.seen
 
 pub returns-in_default-clause-reaches : goal.returns-in_default-clause-reaches
@@ -117,6 +116,5 @@ returns-in_default-clause-reaches c =
     let s = c.args.self.now in
     let o = get_or s.found.orders c.args.place [] in
     let kept = c.number_after.new.numbers in
-    reaches m (o ++ c.args.unit ∷ []) s (record s { numbers = kept }) kept c.in_ok-after.after refl refl refl refl
-    (number_there (goal.at.returns-in_default-clause-reaches c).In_ok-after) c.in_ok-after.ensures.keeps
-    (seen_later m s.numbers.contents kept.contents c.in_ok-after.ensures.keeps.contents s.seen c.requires.at.seen)
+    reaches m (o ++ c.args.unit ∷ []) s (record s { numbers = kept }) kept c.in_ok-after.after refl refl refl
+    (number_there (goal.at.returns-in_default-clause-reaches c).In_ok-after) c.in_ok-after.ensures.keeps (seen_later m s.numbers.contents kept.contents c.in_ok-after.ensures.keeps.contents s.seen c.requires.at.seen)
