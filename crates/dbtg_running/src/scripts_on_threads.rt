@@ -37,10 +37,7 @@ pub struct PrintedScripts {
 }
 
 // The scripts as programs.
-fn programs_of(
-    alloc: Global,
-    scripts: Row<Row<Statement>>,
-) -> Result<Vec<Program>, AllocError>
+fn programs_of(alloc: Global, scripts: Row<Row<Statement>>) -> Result<Vec<Program>, AllocError>
     ensures { IfOk result (λ programs. programs.items ≡ map of_script scripts) }
 {
     let mut programs = Vec::new(alloc);

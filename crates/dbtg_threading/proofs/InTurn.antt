@@ -60,7 +60,7 @@ not_mine f p [] no all = refl
 not_mine f p (e ∷ es) no all =
     let parts = and_parts (p e.unit) (list_all p (units_of es)) all in
     let other : (e.unit == f) ≡ false = elim (e.unit == f) as (λ b. (e.unit == f) ≡ b → b ≡ false) [
-      true ↦ λ is. let same : e.unit ≡ f = grind (nat_tests, is) in absurd (cc (ap p same, parts.0, no))
+      | true ↦ λ is. let same : e.unit ≡ f = grind (nat_tests, is) in absurd (cc (ap p same, parts.0, no))
       | false ↦ λ is. refl
     ] refl in
     ap (λ b. if b then e ∷ entries_of f es else entries_of f es) other ∙ not_mine f p es no parts.1

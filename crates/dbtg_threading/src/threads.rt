@@ -66,11 +66,7 @@ fn turns_of(
 }
 
 // The settled database as a run of programs, without results of moves.
-fn given_of(
-    alloc: Global,
-    settled: Settled,
-    members: Vec<Member>,
-) -> Result<ProgramRun, AllocError>
+fn given_of(alloc: Global, settled: Settled, members: Vec<Member>) -> Result<ProgramRun, AllocError>
     ensures history { IfOk result (λ given. given.run.history ≡ settled.history) }
     ensures image { IfOk result (λ given. given.run.image ≡ settled.image) }
     ensures units { IfOk result (λ given. given.run.units ≡ settled.units) }
