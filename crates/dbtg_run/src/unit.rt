@@ -95,8 +95,8 @@ impl RunUnit {
         (seat, journal)
     }
 
-    /// Takes room for this many more entries, if it can be had.
-    pub fn make_room(&mut self, entries: usize)
+    // Takes room for this many more entries, if it can be had.
+    pub(crate) fn make_room(&mut self, entries: usize)
         ensures { self.new ≡ self.old }
     {
         drop(self.work.journal.reserve(entries));

@@ -25,7 +25,6 @@ fn go_by<R: Wait>(
     ensures number { unit.new.unit.number ≡ unit.old.unit.number }
     ensures gone { IfOk result (HasGone db.now.schema program.now unit.new.journal) }
 {
-    unit.make_room(program.lines.len());
     let mut member = Member::beginning(alloc, &db.schema, program)?;
     while let Some(statement) = member.statement(&db.schema) {
         match db.insist(rt, alloc, unit, statement) {
