@@ -12,6 +12,8 @@ use Rattle.dbtg_program.specs.declared.program.Program.{Program}
 use Rattle.dbtg_step.specs.Core.Audit.{LeadsTo}
 use Rattle.dbtg_step.specs.Machine.SequentialDatabase.{unit_at}
 use Rattle.dbtg_going.specs.declared.member.Member.{Member}
+use Rattle.dbtg_going.specs.Goings.{IsAt, comes_of}
+use Rattle.dbtg_going.specs.Turns.{due_after}
 use Rattle.dbtg_going.proofs.Turning.{paired_at}
 use Rattle.dbtg_run.specs.declared.database.Database.{Database}
 use Rattle.dbtg_run.specs.declared.settled.Settled.{Settled}
@@ -48,6 +50,10 @@ one_more_in_turn schema program es e so_far now before f behind is = elim (last_
   | inl p ↦ subst (λ bs. statement_after schema program bs ≡ Some f.statement) p.0 (now ∙ ap (λ (x : Entry). Some x.statement) p.1)
   | inr p ↦ so_far before f p.0 p.1
 ]
+
+-- what a member's unit makes next
+pub said_after : (schema : Lists) (program : Program) (es : List Entry) (m : Member) → IsAt schema program es m → statement_after schema program es ≡ due_after schema m.made (comes_of m.going)
+said_after schema program es m at = λ i. due_after schema (sym at.made i) (sym at.going.comes i)
 
 -- if one is taken from the end and one is added there, there are as many as before
 pub same_many : {A : Type 0} (units left came back : List A) (u v : A) → units ≡ left ++ u ∷ [] → back ≡ came ++ v ∷ [] → length came ≡ length left → length back ≡ length units
