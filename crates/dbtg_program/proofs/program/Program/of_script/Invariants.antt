@@ -1,7 +1,7 @@
 use Rattle.std.proofs.Common.{◌≡◌, ◌++◌, map}
 use Rattle.std.specs.Vec.Iter.{into_iter_items}
 use Rattle.dbtg_program.specs.Scripts.{line_with}
-use Rattle.dbtg_program.proofs.script.Program.of_script.Given as goal
+use Rattle.dbtg_program.proofs.program.Program.of_script.Given as goal
 
 -- the lines that are made and those that are left to make are all of them
 abbrev pub invariant-loop-statement : goal.invariant-loop-statement
