@@ -1,6 +1,6 @@
 -- The units of a run on threads in which no program goes last: those of the first program, and then those of the turns.
 -- u is a unit, us are turns, es are entries, h is a history.
-use Rattle.std.proofs.Common.{◌≡◌, refl, sym, ◌∙◌, ap, ℕ, zero, suc, ◌+◌, true, false, Bool, ◌&&◌, List, [], ◌∷◌, ◌++◌, length, map, Option, Some, None, append-nil, append_assoc}
+use Rattle.std.proofs.Common.{◌≡◌, refl, sym, ◌∙◌, ap, ℕ, zero, suc, ◌+◌, true, false, Bool, ◌&&◌, List, [], ◌∷◌, ◌++◌, length, map, Option, Some, None, append-nil, append_assoc, arith}
 use Rattle.std.specs.Prelude.{◌==◌, filter, if◌then◌else◌, not, replicate}
 use Rattle.std.specs.List.{list_all}
 use Rattle.std.proofs.lemmas.Bool.{and_from, and_parts}
@@ -46,7 +46,7 @@ all_of_one : (f : ℕ) (us : List ℕ) → list_all (λ u. u == f) us ≡ true �
 all_of_one f [] all = refl
 all_of_one f (u ∷ us) all =
     let parts = and_parts (u == f) (list_all (λ v. v == f) us) all in
-    let same : u ≡ f = grind (nat_tests, parts.0) in
+    let same : u ≡ f = grind (arith, nat_tests, parts.0) in
     λ i. same i ∷ all_of_one f us parts.1 i
 
 mine : (f : ℕ) (es : List Entry) → list_all (λ u. u == f) (units_of es) ≡ true → entries_of f es ≡ es
@@ -60,7 +60,7 @@ not_mine f p [] no all = refl
 not_mine f p (e ∷ es) no all =
     let parts = and_parts (p e.unit) (list_all p (units_of es)) all in
     let other : (e.unit == f) ≡ false = elim (e.unit == f) as (λ b. (e.unit == f) ≡ b → b ≡ false) [
-      | true ↦ λ is. let same : e.unit ≡ f = grind (nat_tests, is) in absurd (cc (ap p same, parts.0, no))
+      | true ↦ λ is. let same : e.unit ≡ f = grind (arith, nat_tests, is) in absurd (cc (ap p same, parts.0, no))
       | false ↦ λ is. refl
     ] refl in
     ap (λ b. if b then e ∷ entries_of f es else entries_of f es) other ∙ not_mine f p es no parts.1
