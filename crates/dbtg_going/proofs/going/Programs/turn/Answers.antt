@@ -17,7 +17,7 @@ make-requires-clause-due c =
     let programs = c.args.self.now.list.now in
     let member = slice_index_or c.args.members.now (c.args.unit - 1) c.index-members-unit.result in
     let said = said_by schema programs c.args.database.now c.args.members.now c.requires c.args.unit member (at_index c.args.members.now c.args.unit c.index-members-unit.result (omega (arith, c.if-unit-eq0.false)) (omega (arith, c.if-members-unit.false))) in
-    sym said ∙ (sym c.statement.ensures ∙ (ap (option_map (λ s. s.now)) c.in-Some.is ∙ ap Some (sym c.in_ok-statement.ensures)))
+    sym said ∙ (sym c.statement.ensures ∙ (ap (option_map (λ s. s.now)) c.in-Some.is ∙ ap Some (sym c.in_ok-statement-in-Some.ensures)))
 
 pub returns-in-None-clause-turned : goal.returns-in-None-clause-turned
 returns-in-None-clause-turned c =
