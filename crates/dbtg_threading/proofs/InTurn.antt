@@ -38,8 +38,8 @@ left_pass p [] = refl
 left_pass p (u ∷ us) = kept_or_not p u (filter p us) (p u) refl (left_pass p us)
 
 every : (p : ℕ → Bool) (us : List ℕ) → ((u : ℕ) → p u ≡ true) → list_all p us ≡ true
-every p [] yes = refl
-every p (u ∷ us) yes = and_from (p u) (list_all p us) (yes u) (every p us yes)
+every p [] passes = refl
+every p (u ∷ us) passes = and_from (p u) (list_all p us) (passes u) (every p us passes)
 
 -- turns of one unit
 all_of_one : (f : ℕ) (us : List ℕ) → list_all (λ u. u == f) us ≡ true → us ≡ replicate (length us) f
@@ -56,14 +56,14 @@ mine f (e ∷ es) all =
     ap (λ b. if b then e ∷ entries_of f es else entries_of f es) parts.0 ∙ ap (λ fs. e ∷ fs) (mine f es parts.1)
 
 not_mine : (f : ℕ) (p : ℕ → Bool) (es : List Entry) → p f ≡ false → list_all p (units_of es) ≡ true → entries_of f es ≡ []
-not_mine f p [] no all = refl
-not_mine f p (e ∷ es) no all =
+not_mine f p [] fails all = refl
+not_mine f p (e ∷ es) fails all =
     let parts = and_parts (p e.unit) (list_all p (units_of es)) all in
     let other : (e.unit == f) ≡ false = elim (e.unit == f) as (λ b. (e.unit == f) ≡ b → b ≡ false) [
-      | true ↦ λ is. let same : e.unit ≡ f = grind (arith, nat_tests, is) in absurd (cc (ap p same, parts.0, no))
+      | true ↦ λ is. let same : e.unit ≡ f = grind (arith, nat_tests, is) in absurd (cc (ap p same, parts.0, fails))
       | false ↦ λ is. refl
     ] refl in
-    ap (λ b. if b then e ∷ entries_of f es else entries_of f es) other ∙ not_mine f p es no parts.1
+    ap (λ b. if b then e ∷ entries_of f es else entries_of f es) other ∙ not_mine f p es fails parts.1
 
 module _ (schema : Lists) (capacity : ℕ) (programs : List Program) where
   abbrev after : List Entry → List ℕ → List Entry
@@ -79,12 +79,12 @@ module _ (schema : Lists) (capacity : ℕ) (programs : List Program) where
   not_grown p h = record { entries = []; new_is = sym (append-nil h); pass = refl }
 
   by_effect : (p : ℕ → Bool) (h : List Entry) (u : ℕ) (s : Statement) (o : Option StatementEffect) → p u ≡ true → Grown p h (with_effect_of h u s o)
-  by_effect p h u s None yes = not_grown p h
-  by_effect p h u s (Some o) yes = record { entries = record { ticket = length h; unit = u; statement = s; answer = o.answer } ∷ []; new_is = refl; pass = and_from (p u) true yes refl }
+  by_effect p h u s None passes = not_grown p h
+  by_effect p h u s (Some o) passes = record { entries = record { ticket = length h; unit = u; statement = s; answer = o.answer } ∷ []; new_is = refl; pass = and_from (p u) true passes refl }
 
   by_turn : (p : ℕ → Bool) (h : List Entry) (u : ℕ) (o : Option Statement) → p u ≡ true → Grown p h (made schema capacity (length programs) h u o)
-  by_turn p h u None yes = not_grown p h
-  by_turn p h u (Some s) yes = by_effect p h u s (effect_of_unit schema capacity (replay schema capacity (opening_state schema (length programs)) h) u s) yes
+  by_turn p h u None passes = not_grown p h
+  by_turn p h u (Some s) passes = by_effect p h u s (effect_of_unit schema capacity (replay schema capacity (opening_state schema (length programs)) h) u s) passes
 
   by_turns : (p : ℕ → Bool) (us : List ℕ) (h : List Entry) → list_all p us ≡ true → Grown p h (after h us)
   unfolding after_turns

@@ -30,7 +30,8 @@ fn go_by<R: Wait>(
         match db.insist(rt, alloc, unit, statement) {
             Outcome::Done(_) => {}
             Outcome::NoMemory => return Err(AllocError),
-            Outcome::Spent | Outcome::Busy => unreachable!(),
+            Outcome::Spent => return Ok(member),
+            Outcome::Busy => unreachable!(),
         }
         let entry = &unit.journal()[member.made];
         member.told(alloc, &db.schema, program, entry)?;

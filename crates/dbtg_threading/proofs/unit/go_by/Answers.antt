@@ -25,14 +25,14 @@ insist-requires-clause-fits g c =
     let m = c.loop-statement.member in
     (to_be_made c.args.db.now.schema m.made m.going.state m.going.due c.in-Some.statement.now (sym c.statement.ensures ∙ ap (option_map (λ s. s.now)) c.in-Some.is)).2
 
-pub unreachable-in-Spent-requires : goal.unreachable-in-Spent-requires
-unreachable-in-Spent-requires g c =
+pub returns-in-Spent-clause-gone : goal.returns-in-Spent-clause-gone
+returns-in-Spent-clause-gone g c =
     let m = c.loop-statement.member in
     let made = to_be_made c.args.db.now.schema m.made m.going.state m.going.due c.in-Some.statement.now (sym c.statement.ensures ∙ ap (option_map (λ s. s.now)) c.in-Some.is) in
     let few : m.made < MOST_STATEMENTS = grind (arith, nat_tests, made.1) in
     let full = c.insist.ensures.spent.0 c.in-Spent.is in
     let count = c.loop-statement.invariant.at.made in
-    omega (arith, few, full, count)
+    absurd (omega (arith, few, full, count))
 
 pub bounds-journal-member : goal.bounds-journal-member
 bounds-journal-member g c =
