@@ -3,9 +3,7 @@ use denote.Param.Send.{IsSend, IsSync, sendable}
 use Rattle.std.proofs.Crossing.{crosses}
 use Rattle.dbtg_program.specs.contracts.program.Line as Line
 use Rattle.dbtg_program.specs.contracts.program.Program as Program
-use Rattle.dbtg_program.specs.contracts.going.Due as Due
 use Rattle.dbtg_program.specs.contracts.state.State as State
-use Rattle.dbtg_going.specs.contracts.member.Going as Going
 use Rattle.dbtg_going.specs.contracts.member.Member as Member
 
 line_sync : IsSync Line.the_row
@@ -17,11 +15,5 @@ program_sync = search (sendable, crosses, line_sync) depth 60 fits 20000
 state_send : IsSend State.the_row
 state_send = search (sendable, crosses) depth 60 fits 20000
 
-due_send : IsSend Due.the_row
-due_send = search (sendable, crosses) depth 60 fits 20000
-
-going_send : IsSend Going.the_row
-going_send = search (sendable, crosses, state_send, due_send) depth 60 fits 20000
-
 pub member_send : IsSend Member.the_row
-member_send = search (sendable, crosses, going_send) depth 60 fits 20000
+member_send = search (sendable, crosses, state_send) depth 60 fits 20000
