@@ -6,8 +6,7 @@ ghost use Rattle.dbtg_schema.specs.Sound.{IsSound};
 ghost use Rattle.std.specs.Prelude.{◌≡◌, ◌≤◌, ◌++◌, IfOk, OnOk, Some, filter, length};
 
 use crate::setting::Setting;
-use dbtg_going::{Around, ProgramRun, run_programs};
-use dbtg_replay::units_in_turn;
+use dbtg_going::{Around, ProgramRun, run_programs, units_in_turn};
 use dbtg_unit::{LAST_UNIT, MOST_STATEMENTS};
 use std::alloc::{AllocError, Global};
 

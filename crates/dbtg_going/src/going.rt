@@ -79,9 +79,10 @@ impl<'a> Programs<'a> {
         if unit == 0 || members.len() < unit as usize {
             return Ok(false);
         }
-        match members[unit as usize - 1].statement(self.schema)? {
+        match members[unit as usize - 1].statement(self.schema) {
             None => Ok(false),
             Some(statement) => {
+                let statement = statement.copy()?;
                 self.make(database, members, unit, statement)?;
                 Ok(true)
             }
@@ -251,8 +252,8 @@ impl<'a> Programs<'a> {
     }
 }
 
-// How far each member is.
-fn reached_by_each(alloc: Global, members: Vec<Member>) -> Result<Row<Reached>, AllocError>
+/// How far each member is.
+pub fn reached_by_each(alloc: Global, members: Vec<Member>) -> Result<Row<Reached>, AllocError>
     ensures { IfOk result (λ each. each ≡ map reached_by members.items) }
 {
     let mut each = Vec::new(alloc);

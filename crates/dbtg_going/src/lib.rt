@@ -3,12 +3,14 @@
 
 mod around;
 mod going;
+mod history;
 mod member;
 mod spelled;
 mod text;
 
 pub use around::Around;
-pub use going::{ProgramRun, programs_after, run_programs};
+pub use going::{ProgramRun, programs_after, reached_by_each, run_programs};
+pub use history::units_in_turn;
 pub use member::{Going, Member, Reached, Standing};
 pub use spelled::{lines_of, push_spelled};
 pub use text::{count_items, push_each_program, push_end, push_program, run_text};

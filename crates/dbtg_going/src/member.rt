@@ -101,12 +101,12 @@ impl Member {
     }
 
     /// The statement that is due, if its unit can make it.
-    pub fn statement(&self, schema: &Schema) -> Result<Option<Statement>, AllocError>
-        ensures { IfOk result (λ statement. statement ≡ due_after schema.now self.now.made (comes_of self.now.going)) }
+    pub fn statement(&self, schema: &Schema) -> Option<&Statement>
+        ensures { option_map (λ s. s.now) result ≡ due_after schema.now self.now.made (comes_of self.now.going) }
     {
         match self.going.statement(schema) {
-            Some(statement) if self.made < MOST_STATEMENTS => Ok(Some(statement.copy()?)),
-            _ => Ok(None),
+            Some(statement) if self.made < MOST_STATEMENTS => Some(statement),
+            _ => None,
         }
     }
 

@@ -9,3 +9,4 @@ pub mod FieldsSaid
 pub mod FaultsFound
 pub mod Entries
 pub mod Bytes
+pub mod Scripts

@@ -1,5 +1,5 @@
 -- Laws of programs.
-use Rattle.std.specs.Prelude.{◌≡◌, ℕ, Bool, true, false, ◌&&◌, List, [], ◌∷◌, map, Option, Some, None}
+use Rattle.std.specs.Prelude.{◌≡◌, ℕ, Bool, true, false, ◌&&◌, List, [], ◌∷◌, length, map, Option, Some, None, slice_get}
 use Rattle.std.specs.List.{list_all}
 use Rattle.dbtg_schema.specs.Lists.{Lists}
 use Rattle.dbtg_schema.specs.Sound.{IsSound}
@@ -10,17 +10,20 @@ use Rattle.dbtg_cells.specs.declared.key.Value.{Value}
 use Rattle.dbtg_unit.specs.Database.Statements.Fits.{values_fit}
 use Rattle.dbtg_unit.specs.declared.statement.Statement.{Statement}
 use Rattle.dbtg_unit.specs.declared.unit.Answer.{Answer}
+use Rattle.dbtg_unit.specs.declared.unit.Entry.{Entry}
 use Rattle.dbtg_script.specs.declared.fault.Cause.{Cause}
 use Rattle.dbtg_script.specs.declared.fault.Cause.TheVariants.{TooGreat}
 use Rattle.dbtg_script.specs.StatementFaults.{faults_from}
 use Rattle.dbtg_script.specs.StatementGrammar.{statement}
+use Rattle.dbtg_program.specs.declared.program.End.TheVariants.{Stop}
 use Rattle.dbtg_program.specs.declared.program.Line.{Line}
 use Rattle.dbtg_program.specs.declared.program.Program.{Program}
 use Rattle.dbtg_program.specs.declared.program.Sentence.TheVariants.{Filled}
 use Rattle.dbtg_program.specs.declared.program.Word.{Word}
 use Rattle.dbtg_program.specs.Faults.{refusal}
-use Rattle.dbtg_program.specs.Going.{Due, due, ended, line_at, next, said_word, told}
+use Rattle.dbtg_program.specs.Going.{Due, due, ended, line_at, next, said_word, state_after, told}
 use Rattle.dbtg_program.specs.Reading.{program}
+use Rattle.dbtg_program.specs.Scripts.{of_script}
 use Rattle.dbtg_program.specs.States.{ProgramState, beginning}
 use Rattle.dbtg_program.specs.Values.{can_hold}
 
@@ -64,3 +67,15 @@ abbrev pub OnlyAValueDoesNotFit : Type 0
 OnlyAValueDoesNotFit =
     (schema : Lists) (text : List ℕ) (state : ProgramState) (l : Line) (words : List Word) → refusal schema text ≡ None → are_held (program schema text).fields state.values ≡ true
     → line_at (program schema text) state ≡ Some l → l.sentence ≡ Filled words → list_all says_too_great (faults_from schema [] statement (map (said_word state) words)) ≡ true
+
+-- this statement is due; where there is none, the program ends by STOP
+abbrev pub IsDueOrStop : Option Statement → Due → Type 0
+IsDueOrStop (Some s) (due state t) = t ≡ s
+IsDueOrStop (Some s) (ended state how) = ⊥
+IsDueOrStop None (due state t) = ⊥
+IsDueOrStop None (ended state how) = how ≡ Stop
+
+-- after this many entries, whatever their answers are, a script as a program comes to the statement at that place, or to its end behind the last
+abbrev pub ScriptsAreMadeInOrder : Type 0
+ScriptsAreMadeInOrder = (schema : Lists) (script : List Statement) (entries : List Entry)
+    → IsDueOrStop (slice_get script (length entries)) (next schema (of_script script) (state_after schema (of_script script) (beginning (of_script script)) entries))

@@ -1,5 +1,6 @@
 pub mod Values
 pub mod States
+pub mod Scripts
 pub mod Conditions
 pub mod Going
 pub mod Spelling

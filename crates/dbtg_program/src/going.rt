@@ -215,15 +215,15 @@ fn go_by(
             Ok(made(line.number, statement))
         }
         Sentence::Move(operand, field) => {
-            let value = owned(alloc, state.value_of(operand))?;
+            let value = owned(alloc, state.value_of(operand.get()))?;
             Ok(put(program, state, line.number, *field, Some(value)))
         }
         Sentence::Add(operand, field) => {
-            let value = added(state.value_of(operand), state.field_value(*field));
+            let value = added(state.value_of(operand.get()), state.field_value(*field));
             Ok(put(program, state, line.number, *field, value))
         }
         Sentence::Subtract(operand, field) => {
-            let value = subtracted(state.value_of(operand), state.field_value(*field));
+            let value = subtracted(state.value_of(operand.get()), state.field_value(*field));
             Ok(put(program, state, line.number, *field, value))
         }
         Sentence::GoTo(at) => {
@@ -231,10 +231,10 @@ fn go_by(
             Ok(Progress::Goes)
         }
         Sentence::If(condition, at) => {
-            branch(state, condition, *at);
+            branch(state, condition.get(), *at);
             Ok(Progress::Goes)
         }
-        Sentence::Assert(condition) => Ok(assertion(state, line.number, condition)),
+        Sentence::Assert(condition) => Ok(assertion(state, line.number, condition.get())),
         Sentence::Stop => Ok(Progress::Ends(End::Stop)),
     }
 }

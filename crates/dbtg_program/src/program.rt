@@ -1,9 +1,9 @@
 //! A program, as it was read.
 //!
 //! Its fields are numbered from 0: first the items of the record types, type by type in the schema's order, each named r.i; then its
-//! counters. A text in a program has no spaces at its end.
+//! counters. A text in a program has no spaces at its end. Operands and conditions lie in places of their own, so that a line takes 40 bytes.
 
-use dbtg_cells::Value;
+use dbtg_cells::{Shared, Value};
 use dbtg_schema::{Item, Row};
 use dbtg_unit::Statement;
 
@@ -67,12 +67,12 @@ pub enum Sentence {
     Statement(Statement),
     /// a statement with fields
     Filled(Row<Word>),
-    Move(Operand, usize),
-    Add(Operand, usize),
-    Subtract(Operand, usize),
+    Move(Shared<Operand>, usize),
+    Add(Shared<Operand>, usize),
+    Subtract(Shared<Operand>, usize),
     GoTo(usize),
-    If(Condition, usize),
-    Assert(Condition),
+    If(Shared<Condition>, usize),
+    Assert(Shared<Condition>),
     Stop,
 }
 

@@ -17,6 +17,7 @@ use crate::judging::literal_value;
 use crate::program::{Condition, Operand, Relation, Sentence};
 use crate::text::Text;
 use crate::word::{is_equals, is_spelled, is_word, text_in, word_at};
+use dbtg_cells::Shared;
 use dbtg_script::{Token, number};
 use std::alloc::{AllocError, Global};
 
@@ -113,6 +114,14 @@ fn condition_of(alloc: Global, text: &Text, words: &[Token]) -> Result<Condition
     comparison(alloc, text, words)
 }
 
+// The operand behind the verb.
+fn first_operand(alloc: Global, text: &Text, words: &[Token]) -> Result<Shared<Operand>, AllocError>
+    ensures { IfOk result (λ o. o ≡ operand_of text.now (word_at 1 (map view words.now))) }
+{
+    let operand = operand_of(alloc, text, word_at(words, 1))?;
+    Shared::new(alloc, operand)
+}
+
 /// The sentence that these words with this verb say; a counter does nothing.
 pub fn said_by(
     alloc: Global,
@@ -124,24 +133,27 @@ pub fn said_by(
 {
     match verb {
         Keyword::Move => {
-            let value = operand_of(alloc, text, word_at(words, 1))?;
+            let value = first_operand(alloc, text, words)?;
             Ok(Sentence::Move(value, field_in(text, word_at(words, 3))))
         }
         Keyword::Add => {
-            let value = operand_of(alloc, text, word_at(words, 1))?;
+            let value = first_operand(alloc, text, words)?;
             Ok(Sentence::Add(value, field_in(text, word_at(words, 3))))
         }
         Keyword::Subtract => {
-            let value = operand_of(alloc, text, word_at(words, 1))?;
+            let value = first_operand(alloc, text, words)?;
             Ok(Sentence::Subtract(value, field_in(text, word_at(words, 3))))
         }
         Keyword::Go => Ok(Sentence::GoTo(target_of(text, word_at(words, 2)))),
         Keyword::If => {
-            let condition = condition_of(alloc, text, words)?;
+            let condition = Shared::new(alloc, condition_of(alloc, text, words)?)?;
             let target = target_of(text, word_at(words, relation_at(words) + 4));
             Ok(Sentence::If(condition, target))
         }
-        Keyword::Assert => Ok(Sentence::Assert(condition_of(alloc, text, words)?)),
+        Keyword::Assert => {
+            let condition = Shared::new(alloc, condition_of(alloc, text, words)?)?;
+            Ok(Sentence::Assert(condition))
+        }
         Keyword::Stop => Ok(Sentence::Stop),
         _ => Ok(Sentence::Heading),
     }

@@ -24,7 +24,7 @@ use Rattle.dbtg_replay.specs.Replaying.{CanShow}
 use Rattle.dbtg_replay.proofs.UnitEntries.{AllWithin, Begins, all_within, goes_on, there}
 
 -- if all elements pass a test, the one at a place passes it
-at_place : {X : Type 0} (p : X → Bool) (xs : List X) (n : ℕ) (x : X) → list_all p xs ≡ true → slice_get xs n ≡ Some x → p x ≡ true
+pub at_place : {X : Type 0} (p : X → Bool) (xs : List X) (n : ℕ) (x : X) → list_all p xs ≡ true → slice_get xs n ≡ Some x → p x ≡ true
 at_place p [] n x all at = absurd (cc (at))
 at_place p (y ∷ ys) zero x all at = let e : y ≡ x = cc (at) in subst (λ z. p z ≡ true) e (and_parts _ _ all).0
 at_place p (y ∷ ys) (suc n) x all at = at_place p ys n x (and_parts _ _ all).1 at

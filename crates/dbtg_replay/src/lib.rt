@@ -16,7 +16,7 @@ pub use first::{FirstUnit, refusals_of_first, refusals_text};
 pub use laws::a_printed_replay_is_read_back;
 pub use ordering::{
     AllMoves, behind, first_turns, moves_behind_first, moves_of_turns, serial_turns,
-    turns_behind_first, units_in_turn,
+    turns_behind_first,
 };
 pub use scripts::{Scripts, read_scripts, read_scripts_with_texts};
 pub use turns::moves_for_turns;

@@ -1,5 +1,5 @@
 //! The order in which units make their statements: turns, the moves that they stand for, and the script that is made first.
-ghost use Rattle.std.specs.Prelude.{◌≡◌, ◌≤◌, ◌++◌, IfOk, List, OnOk, drop, length, map, replicate, true};
+ghost use Rattle.std.specs.Prelude.{◌≡◌, ◌≤◌, ◌++◌, IfOk, List, OnOk, drop, length, replicate, true};
 ghost use Rattle.dbtg_schema.specs.Sound.{IsSound};
 ghost use Rattle.dbtg_unit.specs.declared.moves.Move.{Move};
 ghost use Rattle.dbtg_step.specs.Laws.{scripts_fit};
@@ -8,7 +8,7 @@ ghost use Rattle.dbtg_replay.specs.Ordering.{AreFirstMoves, StandFor, first_turn
 use dbtg_command::copy_each_script;
 use dbtg_schema::{Row, Schema};
 use dbtg_step::run_turns;
-use dbtg_unit::{Entry, LAST_UNIT, Move, Statement};
+use dbtg_unit::{LAST_UNIT, Move, Statement};
 use std::alloc::{AllocError, Global};
 
 /// The moves of a run, and how many of them, at the beginning, make the script that is made first.
@@ -46,13 +46,6 @@ pub fn serial_turns(alloc: Global, scripts: &[Row<Statement>]) -> Result<Vec<u8>
         push_turns(&mut turns, unit, script.len())?;
     }
     Ok(turns)
-}
-
-/// The units of a history, in the order of their tickets.
-pub fn units_in_turn(alloc: Global, history: &[Entry]) -> Result<Vec<u8>, AllocError>
-    ensures { IfOk result (λ units. units.items ≡ map (λ e. e.unit) history.now) }
-{
-    history.iter().map(|entry| entry.unit).collect(alloc)
 }
 
 /// The turns that make the last script, if it is to be made first.

@@ -1,5 +1,5 @@
 -- The turns that are saved after a run on threads: `replay` by them prints the same.
-use Rattle.std.proofs.Common.{◌≡◌, ℕ, zero, suc, ◌+◌, Bool, true, List, ◌++◌, length, map, None, Some, sym, ap, ◌∙◌, subst, arith}
+use Rattle.std.proofs.Common.{◌≡◌, ℕ, zero, suc, ◌+◌, Bool, true, List, [], ◌++◌, length, map, None, Some, sym, ap, ◌∙◌, subst, append-nil, arith}
 use Rattle.dbtg_schema.specs.Lists.{Lists}
 use Rattle.dbtg_unit.specs.declared.statement.Statement.{Statement}
 use Rattle.dbtg_unit.specs.declared.unit.Entry.{Entry}
@@ -26,11 +26,11 @@ history_begins : (lists : Lists) (capacity : ℕ) (scripts : List (List Statemen
 unfolding unit_at
 history_begins lists capacity scripts history image units all zero script at = absurd (cc (at))
 history_begins lists capacity scripts history image units all (suc k) script at =
-    let own = all.own k script at in
-    let number : k + 1 ≡ suc k = omega arith in
-    (own.left, ap (λ n. map (λ (e : Entry). e.statement) (entries_of n history) ++ own.left) (sym number) ∙ sym own.script_is)
+    let number : suc k ≡ k + 1 = omega arith in
+    let made = map (λ (e : Entry). e.statement) (entries_of (suc k) history) in
+    ([], append-nil made ∙ ap (λ n. map (λ (e : Entry). e.statement) (entries_of n history)) number ∙ all.own k script at)
 
-sequential : (lists : Lists) (capacity : ℕ) (scripts : List (List Statement)) (history : List Entry) (image : Image) (units : List Unit) → IsHistoryOfAll lists capacity scripts history image units → IsSequential lists capacity scripts history image units
+pub sequential : (lists : Lists) (capacity : ℕ) (scripts : List (List Statement)) (history : List Entry) (image : Image) (units : List Unit) → IsHistoryOfAll lists capacity scripts history image units → IsSequential lists capacity scripts history image units
 sequential lists capacity scripts history image units all = record {
   tickets = all.leads.history_of.tickets;
   answers = all.leads.history_of.answers_hold;

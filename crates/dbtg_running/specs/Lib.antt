@@ -6,4 +6,3 @@ pub mod Threading
 pub mod Checking
 pub mod ScriptsOnThreads
 pub mod Laws
-pub mod Inside

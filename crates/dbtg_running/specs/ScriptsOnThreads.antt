@@ -1,9 +1,8 @@
 -- What `threads` prints.
 -- lists is the schema that a text says; script k + 1 is that of the unit with number k + 1; first says whether the last of the scripts
 -- is made before all others, form is what comes before the image, and texts are those of the scripts.
-use Rattle.std.specs.Prelude.{ℕ, ◌≡◌, ◌≤◌, ◌⊎◌, ◌+◌, Bool, true, List, [], ◌++◌, length, map, None, Some, slice_get}
+use Rattle.std.specs.Prelude.{ℕ, ◌≡◌, ◌+◌, Bool, true, List, ◌++◌, length, map, None, Some, slice_get}
 use Rattle.dbtg_schema.specs.Lists.{Lists}
-use Rattle.dbtg_unit.specs.declared.limits.TheConstants.{MOST_STATEMENTS}
 use Rattle.dbtg_unit.specs.declared.statement.Statement.{Statement}
 use Rattle.dbtg_unit.specs.declared.unit.Entry.{Entry}
 use Rattle.dbtg_unit.specs.declared.unit.Unit.{Unit}
@@ -24,17 +23,11 @@ use Rattle.dbtg_replay.specs.declared.replay.AnswerForm.{AnswerForm}
 use Rattle.dbtg_replay.specs.Replaying.{IsShownReplay, shown_text}
 use Rattle.dbtg_running.specs.Threading.{audit_line}
 
--- the entries are those of the script's statements, in order: of all of them, or of as many as a journal has room for
-pub record AreOf (script : List Statement) (entries : List Entry) : Type 0 where
-  pub left : List Statement
-  pub script_is : script ≡ map (λ (e : Entry). e.statement) entries ++ left
-  pub whole : (left ≡ []) ⊎ (MOST_STATEMENTS ≤ length entries)
-
--- a history of the sequential database in which each unit makes its script from its opening state, and the image and the units
--- to which it leads
+-- a history of the sequential database in which each unit makes its script, statement by statement, and the image and the units to
+-- which it leads
 pub record IsHistoryOfAll (lists : Lists) (capacity : ℕ) (scripts : List (List Statement)) (history : List Entry) (image : Image) (units : List Unit) : Type 0 where
   pub leads : LeadsTo lists capacity (length scripts) history image units
-  pub own : (k : ℕ) (script : List Statement) → slice_get scripts k ≡ Some script → AreOf script (entries_of (k + 1) history)
+  pub own : (k : ℕ) (script : List Statement) → slice_get scripts k ≡ Some script → map (λ e. e.statement) (entries_of (k + 1) history) ≡ script
 
 -- the text is what is shown of such a history, its image and its units, and the line of the audit. The units that made its entries
 -- are in turn that of the script that is made first, once for each of its statements, and then those of the turns

@@ -1,28 +1,29 @@
-//! The command `threads`: running scripts on threads, and the text of the result.
-ghost use Rattle.std.specs.Prelude.{◌≡◌, ◌<◌, ◌++◌, ℕ, All, List, IfErr, IfNone, IfOk, IfSome, false, length, map, true};
+//! The command `threads`: scripts go on threads as programs do.
+ghost use Rattle.std.specs.Prelude.{◌≡◌, ◌≤◌, ◌++◌, ℕ, List, IfErr, IfOk, Some, false, length, map, slice_get, true};
 ghost use Rattle.dbtg_schema.specs.Sound.{IsSound};
-ghost use Rattle.dbtg_unit.specs.Database.Statements.Fits.{fits};
+ghost use Rattle.dbtg_unit.specs.declared.limits.TheConstants.{MOST_STATEMENTS as most};
+ghost use Rattle.dbtg_unit.specs.declared.statement.Statement.{Statement as Said};
 ghost use Rattle.dbtg_script.specs.Printing.WordTexts.{turns_text};
+ghost use Rattle.dbtg_program.specs.Scripts.{of_script};
 ghost use Rattle.dbtg_step.specs.Laws.{scripts_fit};
-ghost use Rattle.dbtg_run.specs.UnitView.{BelongsTo};
 ghost use Rattle.dbtg_replay.specs.Ordering.{first_turns};
-ghost use Rattle.dbtg_replay.specs.Replaying.{shown_text};
+ghost use Rattle.dbtg_replay.specs.Replaying.{CanShow, shown_text};
 ghost use Rattle.dbtg_replay.specs.declared.replay.AnswerForm.TheVariants.{Plain};
 ghost use Rattle.dbtg_command.specs.Refusals.{RefusesReplay, is_count};
-ghost use Rattle.dbtg_running.specs.ScriptsOnThreads.{IsHistoryOfAll, IsPrintedOnThreads, IsThreads, ThreadsHeld};
+ghost use Rattle.dbtg_running.specs.ScriptsOnThreads.{IsHistoryOfAll, IsThreads, ThreadsHeld};
 ghost use Rattle.dbtg_running.specs.Threading.{audit_line};
-ghost use Rattle.dbtg_running.specs.Inside.ScriptsOnThreads.{HasMadeFirst};
 ghost use Rattle.dbtg_command.specs.Sources.{ReadSchema, ToldOfRun};
 ghost use Rattle.dbtg_command.specs.declared.order.Order.TheVariants as by;
 ghost use Rattle.dbtg_command.specs.declared.order.OrderKind.TheVariants.{Serial};
 
-use dbtg_command::{AtHand, Fault, Order, Source, copy_each_script};
+use dbtg_command::{AtHand, Fault, Order, Source};
+use dbtg_going::Around;
+use dbtg_program::Program;
 use dbtg_replay::replay::{AnswerForm, Shown, push_given, schema_for_run};
-use dbtg_replay::{Scripts, first_turns, read_scripts_with_texts, units_in_turn};
-use dbtg_run::{Database, NoGate, RunUnit, Settled, run_script, run_units};
+use dbtg_replay::{Scripts, read_scripts_with_texts};
 use dbtg_schema::{Row, Schema};
 use dbtg_script::turns_text;
-use dbtg_step::Run;
+use dbtg_threading::{Lineup, OnThreads, run_on_threads};
 use dbtg_unit::Statement;
 use std::alloc::{AllocError, Global};
 use std::sync::Wait;
@@ -35,137 +36,15 @@ pub struct PrintedScripts {
     pub turns: Vec<u8>,
 }
 
-// The result of a database as that of a run, without results of moves.
-fn given_of(alloc: Global, settled: Settled) -> Run
-    ensures history { result.history ≡ settled.history }
-    ensures image { result.image ≡ settled.image }
-    ensures units { result.units ≡ settled.units }
+// The scripts as programs.
+fn programs_of(alloc: Global, scripts: Row<Row<Statement>>) -> Result<Vec<Program>, AllocError>
+    ensures { IfOk result (λ programs. programs.items ≡ map of_script scripts) }
 {
-    let Settled {
-        image,
-        history,
-        units,
-        ..
-    } = settled;
-    Run {
-        results: Row::of(Vec::new(alloc)),
-        image,
-        history,
-        units,
+    let mut programs = Vec::new(alloc);
+    for script in scripts.into_vec() {
+        programs.push(Program::of_script(alloc, script.into_vec())?)?;
     }
-}
-
-// What is shown of a run, and the line of the audit. The audit is equal by proof: no other line is printed.
-fn audited_text(
-    alloc: Global,
-    schema: &Schema,
-    shown: Shown,
-    given: &Run,
-) -> Result<Vec<u8>, AllocError>
-    ensures { IfOk result (λ out. out.items ≡ shown_text schema.now shown.entry.form shown.entry.texts.now given.now ++ audit_line) }
-{
-    if let AnswerForm::Explained(_) = shown.form {
-        // Units on threads explain no refusal: no command asks for it.
-        return Err(AllocError);
-    }
-    let mut out = Vec::new(alloc);
-    push_given(alloc, &mut out, schema, shown, given)?;
-    out.extend_from_slice(b"AUDIT EQUAL\n")?;
-    Ok(out)
-}
-
-// The result of a run, if the first tickets were drawn in these turns.
-fn said_of(
-    alloc: Global,
-    schema: &Schema,
-    shown: Shown,
-    given: &Run,
-    first: &[u8],
-) -> Result<Option<PrintedScripts>, AllocError>
-    ensures printed { IfOk result (λ found. IfSome found (λ said. said.printed.items ≡ shown_text schema.now shown.entry.form shown.entry.texts.now given.now ++ audit_line)) }
-    ensures turns { IfOk result (λ found. IfSome found (λ said. (behind : List ℕ) × (map (λ e. e.unit) given.now.history ≡ first.now ++ behind) × (said.turns.items ≡ turns_text behind))) }
-    ensures none { IfOk result (λ found. IfNone found ((behind : List ℕ) → map (λ e. e.unit) given.now.history ≡ first.now ++ behind → ⊥)) }
-{
-    let units = units_in_turn(alloc, given.history.as_slice())?;
-    let Some(behind) = units.as_slice().strip_prefix(first) else {
-        return Ok(None);
-    };
-    Ok(Some(PrintedScripts {
-        printed: audited_text(alloc, schema, shown, given)?,
-        turns: turns_text(alloc, behind)?,
-    }))
-}
-
-// Runs each script by a unit of its own, on a thread of its own.
-fn run_of<R: Threads + Wait + Sync>(
-    rt: &R,
-    alloc: Global,
-    schema: Schema,
-    capacity: u16,
-    scripts: &[Row<Statement>],
-) -> Result<Settled, AllocError>
-    requires sound { IsSound schema }
-    requires count { is_count (length scripts.now) ≡ true }
-    requires fit { scripts_fit schema scripts.now ≡ true }
-    ensures history { IfOk result (λ settled. IsHistoryOfAll schema capacity scripts.now settled.history settled.image settled.units) }
-    ensures schema { IfOk result (λ settled. settled.schema ≡ schema) }
-{
-    let (db, units) = Database::make(alloc, schema, capacity, scripts.len() as u8)?;
-    match run_units(rt, alloc, db, units, scripts, &NoGate) {
-        Ok(settled) => Ok(settled),
-        // All units of the database came, so it was memory that was refused.
-        Err(_) => Err(AllocError),
-    }
-}
-
-// The last unit makes its script alone. The scripts of the others are left, and an empty one for it.
-fn make_first<R: Wait>(
-    rt: &R,
-    alloc: Global,
-    db: &Database,
-    units: &mut Vec<RunUnit>,
-    scripts: &[Row<Statement>],
-) -> Result<Vec<Row<Statement>>, AllocError>
-    requires belong { All (BelongsTo db.now) units.old.items }
-    requires fit { All (λ script. All (λ x. fits db.now.schema x ≡ true) script) scripts.now }
-    requires count { length units.old.items ≡ length scripts.now }
-    requires some { 0 < length scripts.now }
-    ensures belong { All (BelongsTo db.now) units.new.items }
-    ensures made { IfOk result (λ left. HasMadeFirst scripts.now units.old.items left.items units.new.items) }
-{
-    let (Some((script, others)), Some(unit)) = (scripts.split_last(), units.pop()) else {
-        return Err(AllocError);
-    };
-    let mut unit = unit;
-    let ran = run_script(rt, alloc, db, &mut unit, script.as_slice(), &NoGate);
-    units.push_reserved(unit);
-    ran?;
-    let mut left = copy_each_script(alloc, others)?.into_vec();
-    left.push(Row::of(Vec::new(alloc)))?;
-    Ok(left)
-}
-
-// The last unit makes its script before the others begin; then each of these makes its own, on a thread of its own.
-fn run_behind_first<R: Threads + Wait + Sync>(
-    rt: &R,
-    alloc: Global,
-    schema: Schema,
-    capacity: u16,
-    scripts: &[Row<Statement>],
-) -> Result<Settled, AllocError>
-    requires sound { IsSound schema }
-    requires count { is_count (length scripts.now) ≡ true }
-    requires fit { scripts_fit schema scripts.now ≡ true }
-    ensures history { IfOk result (λ settled. IsHistoryOfAll schema capacity scripts.now settled.history settled.image settled.units) }
-    ensures schema { IfOk result (λ settled. settled.schema ≡ schema) }
-{
-    let (db, units) = Database::make(alloc, schema, capacity, scripts.len() as u8)?;
-    let mut units = units;
-    let left = make_first(rt, alloc, &db, &mut units, scripts)?;
-    match run_units(rt, alloc, db, units, left.as_slice(), &NoGate) {
-        Ok(settled) => Ok(settled),
-        Err(_) => Err(AllocError),
-    }
+    Ok(programs)
 }
 
 // Runs scripts on threads, the last of them before the others if it is made first.
@@ -174,47 +53,40 @@ fn run_scripts<R: Threads + Wait + Sync>(
     alloc: Global,
     schema: &Schema,
     capacity: u16,
-    scripts: &[Row<Statement>],
+    scripts: Row<Row<Statement>>,
     first: bool,
-) -> Result<Run, AllocError>
+) -> Result<OnThreads, AllocError>
     requires sound { IsSound schema.now }
-    requires count { is_count (length scripts.now) ≡ true }
-    requires fit { scripts_fit schema.now scripts.now ≡ true }
-    ensures { IfOk result (λ given. IsHistoryOfAll schema.now capacity scripts.now given.history given.image given.units) }
+    requires count { is_count (length scripts) ≡ true }
+    requires fit { scripts_fit schema.now scripts ≡ true }
+    requires short { (k : ℕ) (script : List Said) → slice_get scripts k ≡ Some script → length script ≤ most }
+    ensures history { IfOk result (λ on. IsHistoryOfAll schema.now capacity scripts on.given.run.history on.given.run.image on.given.run.units) }
+    ensures turns { IfOk result (λ on. map (λ e. e.unit) on.given.run.history ≡ first_turns first scripts ++ on.turns.items) }
 {
-    let own = schema.copy(alloc)?;
-    let settled = if first {
-        run_behind_first(rt, alloc, own, capacity, scripts)?
-    } else {
-        run_of(rt, alloc, own, capacity, scripts)?
+    let programs = programs_of(alloc, scripts)?;
+    let lineup = Lineup {
+        programs: programs.as_slice(),
+        around: Around { first, last: false },
     };
-    Ok(given_of(alloc, settled))
+    run_on_threads(rt, alloc, schema, capacity, lineup)
 }
 
-// Runs scripts on threads, and gives the result. A script that is made first draws the first tickets, because no thread is started
-// before its end. No contract of units says so: a run in which it did otherwise would be repeated.
-fn threads_text<R: Threads + Wait + Sync>(
-    rt: &R,
+// What is shown of a run, with the line of the audit, and the turns. The audit is equal by proof: no other line is printed.
+fn print_audited(
     alloc: Global,
     schema: &Schema,
-    capacity: u16,
-    scripts: &[Row<Statement>],
     shown: Shown,
-    first: bool,
+    on: &OnThreads,
 ) -> Result<PrintedScripts, AllocError>
-    requires sound { IsSound schema.now }
-    requires count { is_count (length scripts.now) ≡ true }
-    requires fit { scripts_fit schema.now scripts.now ≡ true }
-    ensures { IfOk result (λ said. IsPrintedOnThreads first shown.entry.form schema.now capacity scripts.now shown.entry.texts.now said.printed.items said.turns.items) }
+    requires { CanShow schema.now shown.form on.now.given.run }
+    ensures printed { IfOk result (λ said. said.printed.items ≡ shown_text schema.now shown.entry.form shown.entry.texts.now on.now.given.run ++ audit_line) }
+    ensures turns { IfOk result (λ said. said.turns.items ≡ turns_text on.now.turns.items) }
 {
-    let turns = first_turns(alloc, first, scripts)?;
-    'again: for _ in rt.forever() {
-        let given = run_scripts(rt, alloc, schema, capacity, scripts, first)?;
-        if let Some(said) = said_of(alloc, schema, shown, &given, turns.as_slice())? {
-            return Ok(said);
-        }
-    }
-    unreachable!()
+    let mut printed = Vec::new(alloc);
+    push_given(alloc, &mut printed, schema, shown, &on.given.run)?;
+    printed.extend_from_slice(b"AUDIT EQUAL\n")?;
+    let turns = turns_text(alloc, on.turns.as_slice())?;
+    Ok(PrintedScripts { printed, turns })
 }
 
 // What is printed of the scripts over a schema that was read.
@@ -234,17 +106,16 @@ fn threads_known<R: Threads + Wait + Sync, S: Source>(
     ensures refused { IfErr result (λ fault. ToldOfRun (S.holds source.now) (S.fails source.now) fault (S.count source.now) Serial) }
 {
     let Scripts { statements, texts } = read_scripts_with_texts(alloc, source, known)?;
+    let on = run_scripts(rt, alloc, known, capacity, statements, first)?;
     let shown = Shown {
         form,
         texts: texts.as_slice(),
     };
-    let scripts = statements.as_slice();
-    Ok(threads_text(rt, alloc, known, capacity, scripts, shown, first)?)
+    Ok(print_audited(alloc, known, shown, &on)?)
 }
 
 /// What `threads` prints of the schema and the scripts that a source gives, with the turns by which `replay` prints the same, or
-/// the first fault. The last script is made before all others, if it is made first. Refusals on threads are not explained: a form
-/// that asks for it ends with the fault of memory.
+/// the first fault. The last script is made before all others, if it is made first.
 pub fn run_scripts_on_threads<R: Threads + Wait + Sync, S: Source>(
     rt: &R,
     alloc: Global,

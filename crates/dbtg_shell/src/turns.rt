@@ -2,7 +2,7 @@
 ghost use Rattle.std.specs.Prelude.{IfOk};
 ghost use Rattle.dbtg_shell.specs.Turns.{AreTurnsOf};
 
-use dbtg_replay::units_in_turn;
+use dbtg_going::units_in_turn;
 use dbtg_script::turns_text;
 use dbtg_session::Session;
 use std::alloc::{AllocError, Global};

@@ -13,6 +13,7 @@ use Rattle.dbtg_unit.specs.Database.Statements.Effect.{StatementEffect}
 use Rattle.dbtg_unit.specs.Database.Laws.Replay.{AnswersHold, IsHistoryOf, State, entries_of, opening_state, effect_of_unit, replay}
 use Rattle.dbtg_unit.proofs.Public.{opening_length, replay_keeps_count, replays_one_more, unit_is_there}
 use Rattle.dbtg_program.specs.declared.program.Program.{Program}
+use Rattle.dbtg_going.specs.declared.member.Member.{Member}
 use Rattle.dbtg_going.specs.Turns.{after_turn, after_turns, made, statement_of, with_effect_of}
 use Rattle.dbtg_going.proofs.Turning.{numbered_one}
 use Rattle.dbtg_threading.specs.Inside.Gone.{HaveMade, statement_after}
@@ -33,12 +34,12 @@ module _ (schema : Lists) (capacity : ℕ) (programs : List Program) where
   -- ONE ENTRY
 
   -- each entry has the statement of its unit's turn
-  in_turn : (history before behind : List Entry) (e : Entry) → HaveMade schema programs history → history ≡ before ++ e ∷ behind → 0 < e.unit → e.unit ≤ length programs → statement_of schema programs before e.unit ≡ Some e.statement
-  in_turn history before behind e all is some within =
+  in_turn : (members : List Member) (history before behind : List Entry) (e : Entry) → HaveMade schema programs history members → history ≡ before ++ e ∷ behind → 0 < e.unit → e.unit ≤ length programs → statement_of schema programs before e.unit ≡ Some e.statement
+  in_turn members history before behind e all is some within =
       let program = numbered_one programs e.unit some within in
       let own : entries_of e.unit history ≡ entries_of e.unit before ++ e ∷ entries_of e.unit behind
       = ap (entries_of e.unit) is ∙ filter-append (λ (f : Entry). f.unit == e.unit) before (e ∷ behind) ∙ ap (λ es. entries_of e.unit before ++ es) (mine e behind) in
-      ap (option_and_then (λ (p : Program). statement_after schema p (entries_of e.unit before))) program.1 ∙ (all e.unit program.0 program.1).in_turn (entries_of e.unit before) e (entries_of e.unit behind) own
+      ap (option_and_then (λ (p : Program). statement_after schema p (entries_of e.unit before))) program.1 ∙ (all.each e.unit program.0 program.1).2.in_turn (entries_of e.unit before) e (entries_of e.unit behind) own
 
   with_answer : (before : List Entry) (e : Entry) (o : Option StatementEffect) → option_map (λ (o : StatementEffect). o.answer) o ≡ Some e.answer → length before ≡ e.ticket → with_effect_of before e.unit e.statement o ≡ before ++ e ∷ []
   with_answer before e None h ticket = absurd cc
@@ -48,24 +49,24 @@ module _ (schema : Lists) (capacity : ℕ) (programs : List Program) where
 
   -- ALL ENTRIES
 
-  along : (history before rest : List Entry) → HaveMade schema programs history → history ≡ before ++ rest → AnswersHold schema capacity (now before) rest → map (λ (e : Entry). e.ticket) rest ≡ range_with_len (length before) (length rest)
+  along : (members : List Member) (history before rest : List Entry) → HaveMade schema programs history members → history ≡ before ++ rest → AnswersHold schema capacity (now before) rest → map (λ (e : Entry). e.ticket) rest ≡ range_with_len (length before) (length rest)
       → after_turns schema capacity programs before (map (λ (e : Entry). e.unit) rest) ≡ before ++ rest
   unfolding AnswersHold after_turns
-  along history before [] all is answers tickets = sym (append-nil before)
-  along history before (e ∷ rest) all is answers tickets =
+  along members history before [] all is answers tickets = sym (append-nil before)
+  along members history before (e ∷ rest) all is answers tickets =
       let there = unit_is_there schema capacity (now before) e answers.0 in
       let number = units_are before in
-      let said = in_turn history before rest e all is there.0 (omega (arith, there.1, number)) in
+      let said = in_turn members history before rest e all is there.0 (omega (arith, there.1, number)) in
       let ticket : length before ≡ e.ticket = cc (tickets) in
       let turn : after_turn schema capacity programs before e.unit ≡ before ++ e ∷ []
       = ap (made schema capacity (length programs) before e.unit) said ∙ with_answer before e (effect_of_unit schema capacity (now before) e.unit e.statement) answers.0 ticket in
       let tail : map (λ (f : Entry). f.ticket) rest ≡ range_with_len (length before + 1) (length rest) = cc (tickets) in
       ap (λ es. after_turns schema capacity programs es (map (λ (f : Entry). f.unit) rest)) turn
-      ∙ along history (before ++ e ∷ []) rest all (is ∙ sym (append_assoc before (e ∷ []) rest))
+      ∙ along members history (before ++ e ∷ []) rest all (is ∙ sym (append_assoc before (e ∷ []) rest))
       (subst (λ s. AnswersHold schema capacity s rest) (sym (replays_one_more schema capacity (opening_state schema (length programs)) before e).state_is) answers.1)
       (tail ∙ ap (λ k. range_with_len k (length rest)) (sym (length-append before (e ∷ []))))
       ∙ append_assoc before (e ∷ []) rest
 
-  pub made_again : (history : List Entry) → HaveMade schema programs history → IsHistoryOf schema capacity (length programs) history → after_turns schema capacity programs [] (map (λ (e : Entry). e.unit) history) ≡ history
+  pub made_again : (members : List Member) (history : List Entry) → HaveMade schema programs history members → IsHistoryOf schema capacity (length programs) history → after_turns schema capacity programs [] (map (λ (e : Entry). e.unit) history) ≡ history
   unfolding replay
-  made_again history all of = along history [] history all refl of.answers_hold of.tickets
+  made_again members history all of = along members history [] history all refl of.answers_hold of.tickets

@@ -1,12 +1,12 @@
 -- Turns of a first program, of others, and of a last one are those of a run with a first and a last program around the others.
 -- u and v are units, us are turns.
-use Rattle.std.proofs.Common.{◌≡◌, ◌≢◌, ◌⊎◌, refl, sym, ◌∙◌, ap, subst, ℕ, zero, suc, ◌+◌, ◌-◌, ◌<◌, ◌≤◌, true, false, Bool, ◌&&◌, List, [], ◌∷◌, ◌++◌, length, map, take, drop, Option, Some, None, inl, inr, arith, append-nil, slice_get}
-use Rattle.std.specs.Prelude.{◌==◌, filter, if◌then◌else◌, is_none, not, option_and_then, replicate, ⊤}
+use Rattle.std.proofs.Common.{◌≡◌, ◌≢◌, ◌⊎◌, refl, sym, ◌∙◌, ap, subst, ℕ, zero, suc, ◌+◌, ◌-◌, ◌<◌, ◌≤◌, true, false, Bool, ◌&&◌, List, [], ◌∷◌, ◌++◌, length, map, take, drop, Option, Some, None, inl, inr, arith, append-nil}
+use Rattle.std.specs.Prelude.{◌==◌, filter, if◌then◌else◌, is_none, not, option_and_then, option_map, replicate, ⊤}
 use Rattle.std.specs.List.{list_all, range_with_len}
 use Rattle.std.proofs.lemmas.Bool.{and_parts}
 use Rattle.std.proofs.lemmas.Bool.Decides.{nat_tests}
 use Rattle.std.proofs.lemmas.List.Elements.{filter-append}
-use Rattle.std.proofs.lemmas.List.{replicate-append-replicate, take-append-drop, take_all}
+use Rattle.std.proofs.lemmas.List.{length-map, replicate-append-replicate, take-append-drop, take_all}
 use Rattle.dbtg_schema.specs.Lists.{Lists}
 use Rattle.dbtg_unit.specs.declared.limits.TheConstants.{MOST_STATEMENTS}
 use Rattle.dbtg_unit.specs.declared.statement.Statement.{Statement}
@@ -18,14 +18,18 @@ use Rattle.dbtg_unit.proofs.Public.{entries_other}
 use Rattle.dbtg_program.specs.declared.program.Program.{Program}
 use Rattle.dbtg_program.specs.Going.{AreOf}
 use Rattle.dbtg_step.specs.Machine.SequentialDatabase.{unit_at}
+use Rattle.dbtg_step.proofs.Public.{map_at}
 use Rattle.dbtg_going.specs.declared.around.Around.{Around}
 use Rattle.dbtg_going.specs.declared.going.ProgramRun.{ProgramRun}
+use Rattle.dbtg_going.specs.declared.member.Member.{Member}
+use Rattle.dbtg_going.specs.Goings.{reached_by}
 use Rattle.dbtg_going.specs.Turns.{after_turn, after_turns, first_turns, have_ended, is_heard, last_turns, made, one_less, others, reached, statement_of, to_the_end, turns_before, turns_of, with_effect_of}
+use Rattle.dbtg_going.proofs.Together.{reached_there}
 use Rattle.dbtg_going.proofs.Turning.{turns_behind}
 use Rattle.dbtg_run.specs.declared.settled.Settled.{Settled}
 use Rattle.dbtg_threading.specs.Threading.{IsRunOnThreads, is_between}
 use Rattle.dbtg_threading.specs.Inside.Between.{AreBetween}
-use Rattle.dbtg_threading.specs.Inside.Gone.{IsHistoryOfAll, each_reached, statement_after}
+use Rattle.dbtg_threading.specs.Inside.Gone.{IsHistoryOfAll, statement_after}
 use Rattle.dbtg_threading.proofs.Again.{made_again}
 
 -- none of the turns belongs to the unit
@@ -43,13 +47,13 @@ all_in_range f s (suc n) h =
     ap (λ b. b && list_all f (range_with_len (s + 1) n)) (h s (omega arith) (omega arith)) ∙ all_in_range f (s + 1) n (λ u low high. h u (omega (arith, low)) (omega (arith, high)))
 
 -- a filter that all pass keeps everything, and one that none passes keeps nothing
-all_kept : (f : ℕ → Bool) (us : List ℕ) → list_all f us ≡ true → filter f us ≡ us
+pub all_kept : (f : ℕ → Bool) (us : List ℕ) → list_all f us ≡ true → filter f us ≡ us
 all_kept f [] all = refl
 all_kept f (u ∷ us) all =
     let parts = and_parts (f u) (list_all f us) all in
     ap (λ b. if b then u ∷ filter f us else filter f us) parts.0 ∙ ap (λ vs. u ∷ vs) (all_kept f us parts.1)
 
-none_kept : (f : ℕ → Bool) (u n : ℕ) → f u ≡ false → filter f (replicate n u) ≡ []
+pub none_kept : (f : ℕ → Bool) (u n : ℕ) → f u ≡ false → filter f (replicate n u) ≡ []
 none_kept f u zero fails = refl
 none_kept f u (suc n) fails = ap (λ b. if b then u ∷ filter f (replicate n u) else filter f (replicate n u)) fails ∙ none_kept f u n fails
 
@@ -62,7 +66,7 @@ same_unit u = grind arith
 
 module _ (around : Around) (units : ℕ) where
   -- turns of the others are not ignored
-  all_heard : (us : List ℕ) → list_all (is_between around units) us ≡ true → list_all (is_heard around units) us ≡ true
+  pub all_heard : (us : List ℕ) → list_all (is_between around units) us ≡ true → list_all (is_heard around units) us ≡ true
   all_heard [] all = refl
   all_heard (u ∷ us) all =
       let parts = and_parts (is_between around units u) (list_all (is_between around units) us) all in
@@ -70,7 +74,7 @@ module _ (around : Around) (units : ℕ) where
       ap (λ b. b && list_all (is_heard around units) us) heard ∙ all_heard us parts.1
 
   -- turns of the first unit and of the last are not between
-  first_is_not : around.first ≡ true → is_between around units (others around units + 1) ≡ false
+  pub first_is_not : around.first ≡ true → is_between around units (others around units + 1) ≡ false
   first_is_not first =
       let f = others around units + 1 in
       ap (λ b. not (b && f == f) && is_heard around units f) first ∙ ap (λ b. not b && is_heard around units f) (same_unit f)
@@ -242,39 +246,18 @@ module _ (schema : Lists) (capacity : ℕ) (programs : List Program) where
 
 -- THE RUN
 
-reached_at : (schema : Lists) (programs : List Program) (history : List Entry) (s k : ℕ) (program : Program) → slice_get programs k ≡ Some program → slice_get (each_reached schema s programs history) k ≡ Some (reached schema program (s + k) history)
-reached_at schema [] history s k program at = absurd (cc (at))
-reached_at schema (p ∷ ps) history s zero program at =
-    let same : p ≡ program = cc (at) in
-    let none : s ≡ s + 0 = omega arith in
-    ap (λ q. Some (reached schema q s history)) same ∙ ap (λ u. Some (reached schema program u history)) none
-reached_at schema (p ∷ ps) history s (suc k) program at =
-    let next : s + 1 + k ≡ s + suc k = omega arith in
-    reached_at schema ps history (s + 1) k program at ∙ ap (λ u. Some (reached schema program u history)) next
-
-reached_many : (schema : Lists) (programs : List Program) (history : List Entry) (s : ℕ) → length (each_reached schema s programs history) ≡ length programs
-reached_many schema [] history s = refl
-reached_many schema (p ∷ ps) history s = ap suc (reached_many schema ps history (s + 1))
-
-reached_by_unit : (schema : Lists) (programs : List Program) (history : List Entry) (u : ℕ) (program : Program) → unit_at programs u ≡ Some program → unit_at (each_reached schema 1 programs history) u ≡ Some (reached schema program u history)
-unfolding unit_at
-reached_by_unit schema programs history zero program at = absurd (cc (at))
-reached_by_unit schema programs history (suc k) program at =
-    let next : 1 + k ≡ suc k = omega arith in
-    reached_at schema programs history 1 k program at ∙ ap (λ u. Some (reached schema program u history)) next
-
 nobody : (schema : Lists) (programs : List Program) (history : List Entry) (u : ℕ) (o : Option Program) → ((p : Program) → o ≡ Some p → statement_after schema p (entries_of u history) ≡ None) → option_and_then (λ (p : Program). statement_after schema p (entries_of u history)) o ≡ None
 nobody schema programs history u None all = refl
 nobody schema programs history u (Some p) all = all p refl
 
 -- the settled database is the result of such a run
-pub run_on_threads : (schema : Lists) (capacity : ℕ) (programs : List Program) (around : Around) (turns : List ℕ) (settled : Settled) (given : ProgramRun)
-    → IsHistoryOfAll schema capacity programs settled → AreBetween around (length programs) (map (λ (e : Entry). e.unit) settled.history) turns
-    → given.run.results ≡ [] → given.run.history ≡ settled.history → given.run.image ≡ settled.image → given.run.units ≡ settled.units → given.programs ≡ each_reached schema 1 programs settled.history
+pub run_on_threads : (schema : Lists) (capacity : ℕ) (programs : List Program) (around : Around) (turns : List ℕ) (settled : Settled) (members : List Member) (given : ProgramRun)
+    → IsHistoryOfAll schema capacity programs settled members → AreBetween around (length programs) (map (λ (e : Entry). e.unit) settled.history) turns
+    → given.run.results ≡ [] → given.run.history ≡ settled.history → given.run.image ≡ settled.image → given.run.units ≡ settled.units → given.programs ≡ map reached_by members
     → IsRunOnThreads schema capacity programs around turns given
-run_on_threads schema capacity programs around turns settled given all between results history image units each =
-    let at_end : (u : ℕ) → statement_of schema programs settled.history u ≡ None = λ u. nobody schema programs settled.history u (unit_at programs u) (λ p is. (all.made u p is).at_end) in
-    let again = made_again schema capacity programs settled.history all.made all.leads.history_of in
+run_on_threads schema capacity programs around turns settled members given all between results history image units each =
+    let at_end : (u : ℕ) → statement_of schema programs settled.history u ≡ None = λ u. nobody schema programs settled.history u (unit_at programs u) (λ p is. (all.made.each u p is).2.at_end) in
+    let again = made_again schema capacity programs members settled.history all.made all.leads.history_of in
     let by : settled.history ≡ after_turns schema capacity programs [] (turns_of schema capacity programs around (Some turns))
     = sym (turns_again schema capacity programs around (map (λ (e : Entry). e.unit) settled.history) turns between settled.history again at_end) in
     record {
@@ -286,10 +269,12 @@ run_on_threads schema capacity programs around turns settled given all between r
           image_is = image ∙ all.leads.image_is ∙ ap (λ es. image_of schema capacity (replay schema capacity (opening_state schema (length programs)) es).database) by;
           units_are = units ∙ all.leads.units_are ∙ ap (λ es. (replay schema capacity (opening_state schema (length programs)) es).units) by;
         };
-        of_programs = λ u program is. subst (λ es. AreOf schema program (entries_of u es)) (sym history) (all.made u program is).are_of;
-        count = ap length each ∙ reached_many schema programs settled.history 1;
+        of_programs = λ u program is. subst (λ es. AreOf schema program (entries_of u es)) (sym history) (all.made.each u program is).2.at.going.are_of;
+        count = ap length each ∙ length-map members reached_by ∙ all.made.count;
         reached_are = λ u program is.
-            ap (λ rs. unit_at rs u) each ∙ reached_by_unit schema programs settled.history u program is ∙ ap (λ es. Some (reached schema program u es)) (sym history);
+            let there = all.made.each u program is in
+            ap (λ rs. unit_at rs u) each ∙ map_at reached_by members u
+            ∙ ap (option_map reached_by) there.1 ∙ ap Some (reached_there schema program u settled.history there.0 there.2.at ∙ ap (reached schema program u) (sym history));
       };
       at_end = λ u. ap (λ es. statement_of schema programs es u) history ∙ at_end u;
       turns_are = left_between around (length programs) (map (λ (e : Entry). e.unit) settled.history) turns between ∙ ap (λ es. filter (is_between around (length programs)) (map (λ (e : Entry). e.unit) es)) (sym history);

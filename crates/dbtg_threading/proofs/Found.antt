@@ -40,7 +40,7 @@ lead_is p (suc m) (suc n) (u ∷ front) rest all stops few within are end =
 not_equal : (v u : ℕ) → v ≢ u → (v == u) ≡ false
 not_equal v u other = grind (arith, nat_tests, other)
 
-all_equal : (u n : ℕ) → list_all (λ v. v == u) (replicate n u) ≡ true
+pub all_equal : (u n : ℕ) → list_all (λ v. v == u) (replicate n u) ≡ true
 all_equal u zero = refl
 all_equal u (suc n) = ap (λ b. b && list_all (λ v. v == u) (replicate n u)) (same_unit u) ∙ all_equal u n
 

@@ -1,33 +1,27 @@
 -- A unit that follows a program, and what the units of a new database have made when they come back.
-use Rattle.std.proofs.Common.{◌≡◌, ◌⊎◌, ℕ, zero, suc, ◌+◌, ◌<◌, ◌≤◌, true, false, List, [], ◌∷◌, ◌++◌, length, take, drop, None, Some, refl, sym, ap, ◌∙◌, subst, inl, inr, arith, get_or}
-use Rattle.std.specs.Prelude.{◌==◌, if◌then◌else◌, nat_lt}
+use Rattle.std.proofs.Common.{◌≡◌, ◌⊎◌, ℕ, zero, suc, ◌+◌, ◌<◌, Result, Ok, Err, IfOk, is_err, false, List, [], ◌∷◌, ◌++◌, length, None, Some, refl, sym, ap, ◌∙◌, subst, inl, inr, arith, get_or}
 use Rattle.std.specs.List.{range_with_len}
-use Rattle.std.proofs.lemmas.Bool.Decides.{nat_tests}
-use Rattle.std.proofs.lemmas.List.{drop_more, get_or-map, length-map, take-append-drop}
-use Rattle.std.proofs.lemmas.List.Elements.{filter-append}
+use Rattle.std.proofs.lemmas.Bool.Decides.{leb_tells}
+use Rattle.std.proofs.lemmas.List.{get_or-map, get_or_append_left, get_or_push, length-append, length-map}
 use Rattle.std.proofs.lemmas.List.FromFn.{get_or-range_with_len, length-range_with_len}
-use Rattle.std.proofs.lemmas.Option.{get_or_from_slice_get, slice_get_read, slice_get_within}
+use Rattle.std.proofs.lemmas.Option.{get_or_from_slice_get, slice_get_within}
 use Rattle.dbtg_schema.specs.Lists.{Lists}
-use Rattle.dbtg_unit.specs.declared.limits.TheConstants.{MOST_STATEMENTS}
-use Rattle.dbtg_unit.specs.declared.statement.Statement.{Statement}
 use Rattle.dbtg_unit.specs.declared.unit.Entry.{Entry}
 use Rattle.dbtg_unit.specs.Database.Laws.Replay.{entries_of}
-use Rattle.dbtg_program.specs.declared.going.Due.TheVariants as code_due
 use Rattle.dbtg_program.specs.declared.program.Program.{Program}
 use Rattle.dbtg_step.specs.Core.Audit.{LeadsTo}
 use Rattle.dbtg_step.specs.Machine.SequentialDatabase.{unit_at}
-use Rattle.dbtg_going.specs.declared.member.Going.{Going}
 use Rattle.dbtg_going.specs.declared.member.Member.{Member}
-use Rattle.dbtg_going.specs.Goings.{IsAt, IsGoing, comes_of}
-use Rattle.dbtg_going.specs.Turns.{due_after, statement_due}
-use Rattle.dbtg_going.proofs.Turning.{to_be_made}
+use Rattle.dbtg_going.specs.Goings.{IsAt, comes_of}
+use Rattle.dbtg_going.specs.Turns.{due_after}
+use Rattle.dbtg_going.proofs.Turning.{paired_at}
 use Rattle.dbtg_run.specs.declared.database.Database.{Database}
 use Rattle.dbtg_run.specs.declared.settled.Settled.{Settled}
 use Rattle.dbtg_run.specs.Settling.{IsSettled}
 use Rattle.dbtg_run.specs.UnitView.{UnitView, opening_view, opening_views}
 use Rattle.dbtg_run.specs.Views.{Has}
 use Rattle.dbtg_run.proofs.Units.Abreast.{last_place}
-use Rattle.dbtg_threading.specs.Inside.Gone.{AreFresh, AreInTurn, HasGone, HaveGone, IsHistoryOfAll, statement_after}
+use Rattle.dbtg_threading.specs.Inside.Gone.{AreFresh, AreInTurn, HasGone, HaveGone, IsHistoryOfAll, WentBy, statement_after}
 
 -- ONE MORE ENTRY
 
@@ -57,49 +51,53 @@ one_more_in_turn schema program es e so_far now before f behind is = elim (last_
   | inr p ↦ so_far before f p.0 p.1
 ]
 
--- what is due in a program is what its unit makes, if it can make more
-pub made_next : (schema : Lists) (program : Program) (es : List Entry) (g : Going) → IsGoing schema program es g → length es < MOST_STATEMENTS → statement_after schema program es ≡ statement_due schema (comes_of g)
-made_next schema program es g at few =
-    let more : nat_lt (length es) MOST_STATEMENTS ≡ true = grind (arith, nat_tests, few) in
-    ap (due_after schema (length es)) (sym at.comes) ∙ ap (λ b. if b then statement_due schema (comes_of g) else None) more
-
--- and if it cannot, it makes nothing
-pub made_none : (schema : Lists) (program : Program) (es : List Entry) (g : Going) → IsGoing schema program es g → MOST_STATEMENTS ≤ length es → statement_after schema program es ≡ None
-made_none schema program es g at many =
-    let full : nat_lt (length es) MOST_STATEMENTS ≡ false = grind (arith, nat_tests, many) in
-    ap (due_after schema (length es)) (sym at.comes) ∙ ap (λ b. if b then statement_due schema (comes_of g) else None) full
-
--- what the unit makes next is due in an existing program, and is within the limit
-pub due_next : (schema : Lists) (program : Program) (es : List Entry) (m : Member) (x : Statement) → IsAt schema program es m → statement_after schema program es ≡ Some x → (m.going.due ≡ code_due.Statement x) × (m.made < MOST_STATEMENTS)
-due_next schema program es m x at said =
-    let found = to_be_made schema m.made m.going.state m.going.due x ((λ i. due_after schema (at.made i) (at.going.comes i)) ∙ said) in
-    let few : m.made < MOST_STATEMENTS = grind (arith, nat_tests, found.1) in
-    (found.0, few)
-
--- a history around one of its entries
-around : (history : List Entry) (i : ℕ) (e : Entry) → i < length history → e ≡ get_or history i e → history ≡ take i history ++ e ∷ drop (i + 1) history
-around history i e below is = sym (take-append-drop i history) ∙ ap (λ es. take i history ++ es) (drop_more history i e below ∙ ap (λ x. x ∷ drop (i + 1) history) (sym is))
-
--- if a history goes on with an entry of the unit, this has the statement that the unit makes
-pub makes_next : (schema : Lists) (program : Program) (u : ℕ) (history : List Entry) (i : ℕ) (e : Entry) → AreInTurn schema program (entries_of u history) → i < length history → e ≡ get_or history i e → e.unit ≡ u
-    → statement_after schema program (entries_of u (take i history)) ≡ Some e.statement
-makes_next schema program u history i e in_turn below is mine =
-    let same : (e.unit == u) ≡ true = grind (arith, nat_tests, mine) in
-    let rest = drop (i + 1) history in
-    in_turn (entries_of u (take i history)) e (entries_of u rest)
-    (ap (entries_of u) (around history i e below is) ∙ filter-append (λ (f : Entry). f.unit == u) (take i history) (e ∷ rest)
-    ∙ ap (λ b. entries_of u (take i history) ++ (if b then e ∷ entries_of u rest else entries_of u rest)) same)
-
--- the program at a place is that of the unit with the next number
-pub numbered_at : (programs : List Program) (k : ℕ) (p : Program) → k < length programs → p ≡ get_or programs k p → unit_at programs (k + 1) ≡ Some p
-unfolding unit_at
-numbered_at programs k p below is =
-    let next : k + 1 ≡ suc k = omega arith in
-    ap (unit_at programs) next ∙ slice_get_read programs (length programs) k p refl below is
+-- what a member's unit makes next
+pub said_after : (schema : Lists) (program : Program) (es : List Entry) (m : Member) → IsAt schema program es m → statement_after schema program es ≡ due_after schema m.made (comes_of m.going)
+said_after schema program es m at = λ i. due_after schema (sym at.made i) (sym at.going.comes i)
 
 -- if one is taken from the end and one is added there, there are as many as before
 pub same_many : {A : Type 0} (units left came back : List A) (u v : A) → units ≡ left ++ u ∷ [] → back ≡ came ++ v ∷ [] → length came ≡ length left → length back ≡ length units
 same_many units left came back u v units_are back_is many = last_place came back v back_is ∙ ap (λ n. n + 1) many ∙ sym (last_place left units u units_are)
+
+-- WHERE THE PROGRAMS ARE
+
+-- if memory was refused to nobody, both the others and the last came back with what is known of them
+pub both_back : {V M E : Type 0} (all others : Result V E) (last : Result M E) (P : V → Type 0) (Q : M → Type 0) (R : V → Type 0) (More : V → V → M → Type 0) → ((a b : V) (m : M) → More a b m → P b → Q m → R a)
+    → IfOk all (λ _. (is_err others ≡ false) × (is_err last ≡ false)) → IfOk all (λ a. IfOk others (λ b. IfOk last (λ m. More a b m))) → IfOk others P → IfOk last Q → IfOk all R
+both_back (Err e) others last P Q R More follows fine more p q = tt
+both_back (Ok a) (Ok b) (Ok m) P Q R More follows fine more p q = follows a b m more p q
+both_back (Ok a) (Ok b) (Err e) P Q R More follows fine more p q = absurd (cc (fine.1))
+both_back (Ok a) (Err e) last P Q R More follows fine more p q = absurd (cc (fine.0))
+
+module _ (schema : Lists) (programs : List Program) (left came : List UnitView) (members : List Member) (p : Program) (u v : UnitView) (m : Member) (at : (d : Program) → get_or programs (length left) d ≡ p)
+    (others : HaveGone schema programs left came members) (last : WentBy schema p u v m) where
+  before : (k : ℕ) (d : Program) (e f : UnitView) (g : Member) → k < length left
+      → WentBy schema (get_or programs k d) (get_or (left ++ u ∷ []) k e) (get_or (came ++ v ∷ []) k f) (get_or (members ++ m ∷ []) k g)
+  before k d e f g below =
+      let c = others.units in
+      let n = others.count in
+      rw (get_or_append_left left (u ∷ []) e k below, get_or_append_left came (v ∷ []) f k (omega (arith, c, below)), get_or_append_left members (m ∷ []) g k (omega (arith, n, below))) (others.each k d e f g below)
+
+  behind : (k : ℕ) (d : Program) (e f : UnitView) (g : Member) → k ≡ length left
+      → WentBy schema (get_or programs k d) (get_or (left ++ u ∷ []) k e) (get_or (came ++ v ∷ []) k f) (get_or (members ++ m ∷ []) k g)
+  behind k d e f g is =
+      let program : get_or programs k d ≡ p = ap (λ n. get_or programs n d) is ∙ at d in
+      rw (program, get_or_push left u e k (sym is), get_or_push came v f k (others.units ∙ sym is), get_or_push members m g k (others.count ∙ sym is)) last
+
+  each_more : (k : ℕ) (d : Program) (e f : UnitView) (g : Member) → k < length (left ++ u ∷ [])
+      → WentBy schema (get_or programs k d) (get_or (left ++ u ∷ []) k e) (get_or (came ++ v ∷ []) k f) (get_or (members ++ m ∷ []) k g)
+  each_more k d e f g below = elim (leb_tells (length left) k) [
+    | inl h ↦ behind k d e f g (let n = length-append left (u ∷ []) in omega (arith, h.1, below, n))
+    | inr h ↦ before k d e f g h.1
+  ]
+
+  -- the units that are left came back, and behind them the last
+  pub one_more_gone : (units back : List UnitView) (all : List Member) → units ≡ left ++ u ∷ [] → back ≡ came ++ v ∷ [] → all ≡ members ++ m ∷ [] → HaveGone schema programs units back all
+  one_more_gone units back all units_are back_are all_are = rw (units_are, back_are, all_are) record {
+    units = length-append came (v ∷ []) ∙ ap (λ n. n + 1) others.units ∙ sym (length-append left (u ∷ []));
+    count = length-append members (m ∷ []) ∙ ap (λ n. n + 1) others.count ∙ sym (length-append left (u ∷ []));
+    each = each_more;
+  }
 
 -- THE UNITS OF A NEW DATABASE
 
@@ -128,23 +126,31 @@ module _ (db : Database) where
   pub all_fresh : (count : ℕ) → AreFresh (opened count)
   all_fresh count k d below = ap (λ (u : UnitView). u.journal) (opened_at count k d (subst (λ n. k < n) (opened_many count) below))
 
-module _ (db : Database) (programs : List Program) (after : List UnitView) (settled : Settled) (count : db.about.units ≡ length programs)
-    (gone : HaveGone db.schema programs (opening_views db.board.shared.table_id db.about (length programs)) after) (ends : IsSettled db after settled) where
-  own : (u : ℕ) (program : Program) → unit_at programs u ≡ Some program → HasGone db.schema program (entries_of u settled.history)
+module _ (db : Database) (programs : List Program) (after : List UnitView) (members : List Member) (settled : Settled) (count : db.about.units ≡ length programs)
+    (gone : HaveGone db.schema programs (opening_views db.board.shared.table_id db.about (length programs)) after members) (ends : IsSettled db after settled) where
+  many_members : length members ≡ length programs
+  many_members = gone.count ∙ opened_many db (length programs)
+
+  own : (u : ℕ) (program : Program) → unit_at programs u ≡ Some program → (m : Member) × (unit_at members u ≡ Some m) × HasGone db.schema program (entries_of u settled.history) m
   unfolding unit_at
   own zero program at = absurd (cc (at))
   own (suc k) program at =
       let d = opened_unit db 1 in
+      let m = paired_at members programs (suc k) program (sym many_members) at in
       let below = slice_get_within programs k program at in
       let many = opened_many db (length programs) in
-      let came = gone.count in
+      let came = gone.units in
       let v = get_or after k d in
-      let went = gone.each k program d d (omega (arith, below, many)) in
+      let went = gone.each k program d d m.0 (omega (arith, below, many)) in
       let number : v.unit.number ≡ 1 + k = went.number ∙ ap (λ (u : UnitView). u.unit.number) (opened_at db (length programs) k d below) in
       let next : 1 + k ≡ suc k = omega arith in
       let journal = ends.journal v (has_at after k d (omega (arith, below, many, came))) in
-      subst (HasGone db.schema program) (sym journal ∙ ap (λ n. entries_of n settled.history) (number ∙ next))
-      (subst (λ p. HasGone db.schema p v.journal) (get_or_from_slice_get programs k program program at) went.gone)
+      let by_journal = subst (λ p. HasGone db.schema p v.journal m.0) (get_or_from_slice_get programs k program program at)
+      (subst (λ (n : Member). HasGone db.schema (get_or programs k program) v.journal n) (get_or_from_slice_get members k m.0 m.0 m.1) went.gone) in
+      (m.0, m.1, subst (λ es. HasGone db.schema program es m.0) (sym journal ∙ ap (λ n. entries_of n settled.history) (number ∙ next)) by_journal)
 
-  pub all_made : IsHistoryOfAll db.schema db.about.capacity programs settled
-  all_made = record { leads = subst (λ n. LeadsTo db.schema db.about.capacity n settled.history settled.image settled.units) count ends.leads; made = own }
+  pub all_made : IsHistoryOfAll db.schema db.about.capacity programs settled members
+  all_made = record {
+    leads = subst (λ n. LeadsTo db.schema db.about.capacity n settled.history settled.image settled.units) count ends.leads;
+    made = record { count = many_members; each = own };
+  }

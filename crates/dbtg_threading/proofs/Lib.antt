@@ -3,3 +3,4 @@ pub mod Crosses
 pub mod Again
 pub mod Around
 mod Found
+pub mod InTurn

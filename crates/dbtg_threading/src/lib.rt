@@ -3,7 +3,6 @@
 
 mod abreast;
 mod between;
-mod reaching;
 mod threads;
 mod unit;
 

@@ -1,16 +1,15 @@
 //! Runs of programs on threads, from the opening database to the settled one.
 
+ghost use Rattle.dbtg_going.specs.Goings.{reached_by};
 ghost use Rattle.dbtg_schema.specs.Sound.{IsSound};
-ghost use Rattle.dbtg_threading.specs.Inside.Gone.{HaveMade, IsHistoryOfAll, each_reached};
+ghost use Rattle.dbtg_threading.specs.Inside.Gone.{IsHistoryOfAll};
 ghost use Rattle.dbtg_threading.specs.Inside.Between.{AreBetween};
 ghost use Rattle.dbtg_threading.specs.Threading.{IsRunOnThreads};
 ghost use Rattle.std.specs.Prelude.{◌≡◌, ◌≤◌, ℕ, [], IfNone, IfOk, IfSome, List, length, map};
 
 use crate::abreast::{Lineup, run_around};
 use crate::between::turns_between;
-use crate::reaching::reached_by_each;
-use dbtg_going::{Around, ProgramRun, Reached};
-use dbtg_program::Program;
+use dbtg_going::{Around, Member, ProgramRun, reached_by_each, units_in_turn};
 use dbtg_run::{Database, Settled, settle};
 use dbtg_schema::{Row, Schema};
 use dbtg_step::Run;
@@ -26,75 +25,55 @@ pub struct OnThreads {
     pub turns: Vec<u8>,
 }
 
-/// How far each program is, and the turns.
-#[derive(Drop)]
-struct Said {
-    programs: Row<Reached>,
-    turns: Vec<u8>,
-}
-
-// Runs each program by a unit of its own, on a thread of its own, and settles the database.
+// Runs each program by a unit of its own, on a thread of its own, and settles the database. Gives also where the programs then are.
 fn settled_of<R: Threads + Wait + Sync>(
     rt: &R,
     alloc: Global,
     schema: Schema,
     capacity: u16,
     lineup: Lineup<'_>,
-) -> Result<Settled, AllocError>
+) -> Result<(Settled, Vec<Member>), AllocError>
     requires sound { IsSound schema }
     requires count { (1 ≤ length lineup.programs.now) × (length lineup.programs.now ≤ 8) }
-    ensures { IfOk result (λ settled. IsHistoryOfAll schema capacity lineup.entry.programs.now settled) }
+    ensures { IfOk result (λ made. IsHistoryOfAll schema capacity lineup.entry.programs.now made.0 made.1.items) }
 {
     let (db, units) = Database::make(alloc, schema, capacity, lineup.programs.len() as u8)?;
     let (units, ran) = run_around(rt, alloc, &db, units, lineup);
-    ran?;
+    let members = ran?;
     match settle(alloc, db, units) {
-        Ok(settled) => Ok(settled),
+        Ok(settled) => Ok((settled, members)),
         // All units of the database came, so it was memory that was refused.
         Err(_) => Err(AllocError),
     }
 }
 
-// The units of the entries, in their order.
-fn units_in_turn(alloc: Global, history: &[Entry]) -> Result<Vec<u8>, AllocError>
-    ensures { IfOk result (λ units. units.items ≡ map (λ e. e.unit) history.now) }
-{
-    history.iter().map(|entry| entry.unit).collect(alloc)
-}
-
-// What a history means if the first program made its statements before all others and the last one after them.
-fn said_of(
+// The turns of the others, if the first program made its statements before all others and the last one after them.
+fn turns_of(
     alloc: Global,
-    schema: &Schema,
-    programs: &[Program],
     around: Around,
+    units: u8,
     history: &[Entry],
-) -> Result<Option<Said>, AllocError>
-    requires few { length programs.now ≤ 8 }
-    requires made { HaveMade schema.now programs.now history.now }
-    ensures programs { IfOk result (λ found. IfSome found (λ said. said.programs ≡ each_reached schema.now 1 programs.now history.now)) }
-    ensures turns { IfOk result (λ found. IfSome found (λ said. AreBetween around (length programs.now) (map (λ e. e.unit) history.now) said.turns.items)) }
-    ensures none { IfOk result (λ found. IfNone found ((between : List ℕ) → AreBetween around (length programs.now) (map (λ e. e.unit) history.now) between → ⊥)) }
+) -> Result<Option<Vec<u8>>, AllocError>
+    requires few { units ≤ 8 }
+    ensures found { IfOk result (λ found. IfSome found (λ turns. AreBetween around units (map (λ e. e.unit) history.now) turns.items)) }
+    ensures none { IfOk result (λ found. IfNone found ((between : List ℕ) → AreBetween around units (map (λ e. e.unit) history.now) between → ⊥)) }
 {
-    let units = units_in_turn(alloc, history)?;
-    let Some(between) = turns_between(around, programs.len() as u8, units.as_slice()) else {
-        return Ok(None);
-    };
-    Ok(Some(Said {
-        programs: reached_by_each(alloc, schema, programs, history)?,
-        turns: Vec::from_slice(alloc, between)?,
-    }))
+    let turns = units_in_turn(alloc, history)?;
+    match turns_between(around, units, turns.as_slice()) {
+        Some(between) => Ok(Some(Vec::from_slice(alloc, between)?)),
+        None => Ok(None),
+    }
 }
 
 // The settled database as a run of programs, without results of moves.
-fn given_of(alloc: Global, settled: Settled, said: Said) -> OnThreads
-    ensures history { result.given.run.history ≡ settled.history }
-    ensures image { result.given.run.image ≡ settled.image }
-    ensures units { result.given.run.units ≡ settled.units }
-    ensures results { result.given.run.results ≡ [] }
-    ensures programs { result.given.programs ≡ said.programs }
-    ensures turns { result.turns ≡ said.turns }
+fn given_of(alloc: Global, settled: Settled, members: Vec<Member>) -> Result<ProgramRun, AllocError>
+    ensures history { IfOk result (λ given. given.run.history ≡ settled.history) }
+    ensures image { IfOk result (λ given. given.run.image ≡ settled.image) }
+    ensures units { IfOk result (λ given. given.run.units ≡ settled.units) }
+    ensures results { IfOk result (λ given. given.run.results ≡ []) }
+    ensures programs { IfOk result (λ given. given.programs ≡ map reached_by members.items) }
 {
+    let programs = reached_by_each(alloc, members)?;
     let Settled {
         image,
         history,
@@ -107,11 +86,7 @@ fn given_of(alloc: Global, settled: Settled, said: Said) -> OnThreads
         history,
         units,
     };
-    let Said { programs, turns } = said;
-    OnThreads {
-        given: ProgramRun { run, programs },
-        turns,
-    }
+    Ok(ProgramRun { run, programs })
 }
 
 /// Runs programs on threads to their ends, starting with the opening database, each by a unit of its own on a thread of its own. A first
@@ -128,12 +103,14 @@ pub fn run_on_threads<R: Threads + Wait + Sync>(
     requires count { (1 ≤ length lineup.programs.now) × (length lineup.programs.now ≤ 8) }
     ensures { IfOk result (λ on. IsRunOnThreads schema.now capacity lineup.entry.programs.now lineup.entry.around on.turns.items on.given) }
 {
+    let units = lineup.programs.len() as u8;
     'again: for _ in rt.forever() {
         let own = schema.copy(alloc)?;
-        let settled = settled_of(rt, alloc, own, capacity, lineup)?;
+        let (settled, members) = settled_of(rt, alloc, own, capacity, lineup)?;
         let history = settled.history.as_slice();
-        if let Some(said) = said_of(alloc, schema, lineup.programs, lineup.around, history)? {
-            return Ok(given_of(alloc, settled, said));
+        if let Some(turns) = turns_of(alloc, lineup.around, units, history)? {
+            let given = given_of(alloc, settled, members)?;
+            return Ok(OnThreads { given, turns });
         }
     }
     unreachable!()

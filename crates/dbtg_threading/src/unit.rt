@@ -4,56 +4,53 @@ ghost use Rattle.dbtg_run.specs.UnitView.{BelongsTo};
 ghost use Rattle.dbtg_threading.specs.Inside.Gone.{HasGone, WentBy};
 ghost use Rattle.std.specs.Prelude.{◌≡◌, [], IfOk};
 
-use dbtg_going::Going;
+use dbtg_going::Member;
 use dbtg_program::Program;
 use dbtg_run::{Database, Outcome, RunUnit};
-use dbtg_unit::MOST_STATEMENTS;
 use std::alloc::{AllocError, Global};
 use std::sync::Wait;
 
 // The unit makes the statements of a program from its beginning to its end, and insists on each; other units go on between its tries.
-// It stops when its journal is full. The error means that memory was refused.
+// It stops when its journal is full. Gives where the program then is; the error means that memory was refused.
 fn go_by<R: Wait>(
     rt: &R,
     alloc: Global,
     db: &Database,
     unit: &mut RunUnit,
     program: &Program,
-) -> Result<(), AllocError>
+) -> Result<Member, AllocError>
     requires belongs { BelongsTo db.now unit.old }
     requires fresh { unit.old.journal ≡ [] }
     ensures belongs { BelongsTo db.now unit.new }
     ensures number { unit.new.unit.number ≡ unit.old.unit.number }
-    ensures gone { IfOk result (λ _. HasGone db.now.schema program.now unit.new.journal) }
+    ensures gone { IfOk result (HasGone db.now.schema program.now unit.new.journal) }
 {
-    let mut going = Going::beginning(alloc, &db.schema, program)?;
-    for made in 0..MOST_STATEMENTS {
-        let Some(statement) = going.statement(&db.schema) else {
-            return Ok(());
-        };
+    let mut member = Member::beginning(alloc, &db.schema, program)?;
+    while let Some(statement) = member.statement(&db.schema) {
         match db.insist(rt, alloc, unit, statement) {
             Outcome::Done(_) => {}
-            // There is room in its journal, and it insists.
-            Outcome::NoMemory | Outcome::Spent | Outcome::Busy => return Err(AllocError),
+            Outcome::NoMemory => return Err(AllocError),
+            Outcome::Spent => return Ok(member),
+            Outcome::Busy => unreachable!(),
         }
-        let entry = &unit.journal()[made];
-        going.told(alloc, &db.schema, program, entry)?;
+        let entry = &unit.journal()[member.made];
+        member.told(alloc, &db.schema, program, entry)?;
     }
-    Ok(())
+    Ok(member)
 }
 
-/// A unit follows a program, and comes back; the error means that memory was refused to it.
+/// A unit follows a program, and comes back with where the program then is; the error means that memory was refused to it.
 pub fn run_one<R: Wait>(
     rt: &R,
     alloc: Global,
     db: &Database,
     unit: RunUnit,
     program: &Program,
-) -> (RunUnit, Result<(), AllocError>)
+) -> (RunUnit, Result<Member, AllocError>)
     requires belongs { BelongsTo db.now unit }
     requires fresh { unit.journal ≡ [] }
     ensures belongs { BelongsTo db.now result.0 }
-    ensures went { IfOk result.1 (λ _. WentBy db.now.schema program.now unit result.0) }
+    ensures went { IfOk result.1 (WentBy db.now.schema program.now unit result.0) }
 {
     let mut unit = unit;
     let ran = go_by(rt, alloc, db, &mut unit, program);

@@ -1,6 +1,5 @@
-use Rattle.std.proofs.Common.{ap, subst, sym, length, arith}
-use Rattle.std.specs.Result.{is_err}
-use Rattle.dbtg_run.proofs.Units.Abreast.{where_ok}
+use Rattle.std.proofs.Common.{sym, length, subst, arith}
+use Rattle.std.proofs.lemmas.Result.{IfOk-at_ok}
 use Rattle.dbtg_threading.specs.Inside.Gone.{AreFresh, HaveGone, IsHistoryOfAll}
 use Rattle.dbtg_threading.proofs.Gone.{all_fresh, all_made}
 use Rattle.dbtg_threading.proofs.threads.settled_of.Goals as goal
@@ -17,7 +16,8 @@ returns-in-Ok g c =
     let db = c.in_ok-db.db in
     let programs = c.args.lineup.programs.now in
     let after = c.run_around-units.result.0.items in
+    let members = c.in_ok-members.members.items in
     let settled = c.in-Ok.settled in
-    let gone = where_ok c.run_around-units.result.1 (HaveGone db.schema programs c.in_ok-db.units.items after) (ap is_err c.in_ok-ran.was) c.run_around-units.ensures.gone in
-    let made = all_made db programs after settled c.in_ok-db.ensures.database.2 (subst (λ us. HaveGone db.schema programs us after) c.in_ok-db.ensures.units gone) c.in-Ok.ensures.ok in
-    subst (λ n. IsHistoryOfAll c.args.schema n programs settled) c.in_ok-db.ensures.database.1 (subst (λ s. IsHistoryOfAll s db.about.capacity programs settled) c.in_ok-db.ensures.database.0 made)
+    let gone = IfOk-at_ok (λ members. HaveGone db.schema programs c.in_ok-db.units.items after members.items) c.in_ok-members.was c.run_around-units.ensures.gone in
+    let made = all_made db programs after members settled c.in_ok-db.ensures.database.2 (subst (λ us. HaveGone db.schema programs us after members) c.in_ok-db.ensures.units gone) c.in-Ok.ensures.ok in
+    subst (λ n. IsHistoryOfAll c.args.schema n programs settled members) c.in_ok-db.ensures.database.1 (subst (λ s. IsHistoryOfAll s db.about.capacity programs settled members) c.in_ok-db.ensures.database.0 made)

@@ -1,4 +1,5 @@
-use Rattle.std.proofs.Common.{◌-◌, inl, inr, slice_index_or, sym, ◌∙◌, arith}
+use Rattle.std.proofs.Common.{◌-◌, Some, inl, inr, slice_index_or, ap, sym, ◌∙◌, arith}
+use Rattle.std.specs.Prelude.{option_map}
 use Rattle.dbtg_going.proofs.Turning.{at_index, nothing_made, said_by, said_by_nobody}
 use Rattle.dbtg_going.proofs.going.Programs.turn.Goals as goal
 use Rattle.dbtg_going.proofs.going.Programs.turn.Goals.{then-unit-eq0-via-then-unit-eq0, then-unit-eq0-via-else-unit-eq0+then-members-unit}
@@ -16,7 +17,7 @@ make-requires-clause-due c =
     let programs = c.args.self.now.list.now in
     let member = slice_index_or c.args.members.now (c.args.unit - 1) c.index-members-unit.result in
     let said = said_by schema programs c.args.database.now c.args.members.now c.requires c.args.unit member (at_index c.args.members.now c.args.unit c.index-members-unit.result (omega (arith, c.if-unit-eq0.false)) (omega (arith, c.if-members-unit.false))) in
-    sym said ∙ (sym c.in_ok-statement.ensures ∙ c.in-Some.is)
+    sym said ∙ (sym c.statement.ensures ∙ (ap (option_map (λ s. s.now)) c.in-Some.is ∙ ap Some (sym c.in_ok-statement-in-Some.ensures)))
 
 pub returns-in-None-clause-turned : goal.returns-in-None-clause-turned
 returns-in-None-clause-turned c =
@@ -24,4 +25,4 @@ returns-in-None-clause-turned c =
     let programs = c.args.self.now.list.now in
     let member = slice_index_or c.args.members.now (c.args.unit - 1) c.index-members-unit.result in
     let said = said_by schema programs c.args.database.now c.args.members.now c.requires c.args.unit member (at_index c.args.members.now c.args.unit c.index-members-unit.result (omega (arith, c.if-unit-eq0.false)) (omega (arith, c.if-members-unit.false))) in
-    nothing_made schema programs c.args.database.now c.args.members.now c.requires c.args.unit (sym said ∙ (sym c.in_ok-statement.ensures ∙ c.in-None.is))
+    nothing_made schema programs c.args.database.now c.args.members.now c.requires c.args.unit (sym said ∙ (sym c.statement.ensures ∙ ap (option_map (λ s. s.now)) c.in-None.is))

@@ -2,7 +2,7 @@ use Rattle.std.proofs.Common.{rules}
 use Rattle.std.proofs.lemmas.Iterator.{items_from_collect, YieldsList-from_map, YieldsList-from_slice}
 use Rattle.std.proofs.lemmas.Iterator.Consumers.{YieldsList-at}
 use Rattle.dbtg_unit.specs.declared.unit.Entry.{Entry}
-use Rattle.dbtg_replay.proofs.ordering.units_in_turn.Goals as goal
+use Rattle.dbtg_going.proofs.history.units_in_turn.Goals as goal
 
 pub returns : goal.returns
 returns c =
