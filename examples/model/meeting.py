@@ -50,12 +50,12 @@ class Meeting:
 
 
 def state_of(runs):
-    """All that what comes after depends on, as words that tell states apart: all but the order in which units opened an area and the
-    versions of records, of which it has only whether a record still has the version that a unit keeps of it."""
+    """All that what comes after depends on, as words that tell states apart: all but the order in which units opened an area, what does
+    not count of programs, and the versions of records, of which it has only whether a record still has the version that a unit keeps."""
     db = runs.machine.db
     records = [(key, it.items, sorted(it.owners.items())) for key, it in sorted(db.records.items())]
     units = [(u.run, u.records, u.areas, u.places, kept_by(u, db), sorted(u.modes.items())) for u in runs.machine.units]
-    programs = [(program.due(runs.schema), program.at, program.end, program.status, program.fields) for program in runs.programs]
+    programs = [program.counted(runs.schema) for program in runs.programs]
     users = [sorted(it) for it in db.usage]
     return repr((records, sorted(db.lists.items()), db.generations, users, units, programs))
 

@@ -27,6 +27,11 @@ def has_room(picture, value):
     return 0 <= value < 10 ** min(picture[1], 18) if picture[0] == "9" else len(value) <= picture[1]
 
 
+def stands_for_value(words, i):
+    """Whether word i of a statement says a value."""
+    return i and words[i - 1] == "=" or words[:2] == ["FIND", "SORTED"] and i == 2
+
+
 class Program:
     """A program of a unit: its sentences with the numbers of their lines, its fields, and where it stands."""
 
@@ -36,6 +41,7 @@ class Program:
         for number, line in enumerate(text.split("\n"), 1):
             self.take(number, line.removesuffix("\r"))
         self.fields = {name: empty(picture) for name, picture in self.pictures.items()}
+        self.counting = {*self.counters, *(it for number in range(len(self.sentences)) for it in self.read_by(number))}
         self.at, self.status, self.made, self.end = 0, "0000", 0, None
 
     def take(self, number, line):
@@ -50,6 +56,21 @@ class Program:
             self.pictures[words[1]] = (picture[0], size)
             self.counters.append(words[1])
         self.sentences.append((number, line.removesuffix("."), words))
+
+    def read_by(self, number):
+        """The fields that a sentence reads. ADD and SUBTRACT read what they change too, MOVE does not."""
+        words = self.sentences[number][2]
+        if self.is_statement(number):
+            return [word for i, word in enumerate(words) if stands_for_value(words, i) and word in self.fields]
+        read = {"MOVE": words[1:2], "ADD": words[1::2], "SUBTRACT": words[1::2], "IF": words, "ASSERT": words}.get(words[0], [])
+        return [word for word in read if word in self.fields]
+
+    def counted(self, schema):
+        """What counts of where it stands: the due statement and its place, with its counters and the items that some sentence reads; or
+        its end and its counters."""
+        due, ended = self.due(schema), self.end is not None
+        fields = [(name, value) for name, value in self.fields.items() if name in (self.counters if ended else self.counting)]
+        return (self.end, fields) if ended else (due, self.at, fields)
 
     def value(self, word):
         if word[0] == '"':
@@ -94,7 +115,7 @@ class Program:
         """A statement with the literals of its fields' values; none may be too great for its item."""
         said = list(words)
         for i, word in enumerate(words):
-            if i and words[i - 1] == "=" or words[:2] == ["FIND", "SORTED"] and i == 2:
+            if stands_for_value(words, i):
                 if word in self.fields:
                     value = self.fields[word]
                     if not has_room(self.item_picture(schema, words, i), value):

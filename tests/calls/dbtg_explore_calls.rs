@@ -6,6 +6,8 @@ use dbtg_schema::Schema;
 use dbtg_states::Unwatched;
 use std::test::*;
 
+mod wishes;
+
 /// One area, and nothing else that the programs name.
 const HOUSE: &[u8] =
     b"SCHEMA NAME IS HOUSE.\nAREA NAME IS MAIN.\nRECORD NAME IS ROOM; WITHIN MAIN.\n  02 NUMBER PICTURE IS 9(4).\n";

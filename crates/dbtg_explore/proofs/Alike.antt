@@ -9,7 +9,7 @@ use Rattle.dbtg_unit.specs.declared.unit.Answer.{Answer}
 use Rattle.dbtg_unit.specs.declared.unit.Entry.{Entry}
 use Rattle.dbtg_unit.specs.Database.Statements.Effect.{StatementEffect}
 use Rattle.dbtg_unit.specs.Database.Statements.Fits.{fits}
-use Rattle.dbtg_unit.specs.Database.Laws.Replay.{after, after_effect, entries_of, opening_state, effect_of_unit}
+use Rattle.dbtg_unit.specs.Database.Laws.Replay.{State, after, after_effect, entries_of, opening_state, effect_of_unit}
 use Rattle.dbtg_unit.proofs.Public.{entries_mine, entries_other, replays_one_more}
 use Rattle.dbtg_program.specs.declared.program.Program.{Program}
 use Rattle.dbtg_program.specs.States.{ProgramState, beginning as program_beginning}
@@ -18,9 +18,12 @@ use Rattle.dbtg_step.specs.Machine.SequentialDatabase.{unit_at, with_unit_at}
 use Rattle.dbtg_going.specs.Turns as turns
 use Rattle.dbtg_going.specs.Turns.{comes, made, statement_due}
 use Rattle.dbtg_going.proofs.Turning.{state_behind}
-use Rattle.dbtg_explore.specs.Orders.{Meeting, after_turn, can_go_on, can_turn, due_of, history_of}
+use Rattle.dbtg_explore.specs.Counted.{counted, counted_each}
+use Rattle.dbtg_explore.specs.Orders.{Meeting, after_order, after_turn, can_go_on, can_turn, due_of, history_of}
+use Rattle.dbtg_explore.specs.Laws.{answer_of}
 use Rattle.dbtg_explore.specs.States.{Essence, MeetingState, comes_of_each, essence, essence_of, sequential_after, state_after, state_of}
 use Rattle.dbtg_explore.specs.Versions.{essential}
+use Rattle.dbtg_explore.proofs.Counted.{counted_at, counted_by, counted_due, counted_says, counted_with, next_same}
 use Rattle.dbtg_explore.proofs.Turning.{history_on}
 use Rattle.dbtg_explore.proofs.Versions.Same.{IsKept, both_step, history_kept}
 
@@ -64,6 +67,35 @@ with_made m state u (Some s) = with_outcome m state u (effect_of_unit m.schema m
 abbrev pub state_then : Meeting → MeetingState → ℕ → MeetingState
 state_then m state u = with_made m state u (due_in m state.programs u)
 
+-- WHAT COUNTS OF THE PROGRAMS
+
+-- a program of which the same counts goes on alike
+pub comes_same : (schema : Lists) (program : Program) (answer : Answer) (d e : Due) → counted program d ≡ counted program e → counted program (comes_then schema program answer d) ≡ counted program (comes_then schema program answer e)
+comes_same schema program answer (due x s) (due y t) is =
+    let said : s ≡ t = cc in
+    next_same program schema x y s answer (ap (λ (d : Due). (turns.state_in d).at) is) (ap (λ (d : Due). (turns.state_in d).values) is)
+    ∙ ap (λ v. counted program (next schema program (told program y v answer))) said
+comes_same schema program answer (ended x how) (ended y other) is = is
+comes_same schema program answer (due x s) (ended y other) is = absurd cc
+comes_same schema program answer (ended x how) (due y t) is = absurd cc
+
+module _ (schema : Lists) (ps : List Program) (u : ℕ) (ds es : List Due) (same : counted_each ps ds ≡ counted_each ps es) where
+  then_same : (answer : Answer) → counted_each ps (programs_then schema ds u answer (unit_at ps u) (unit_at ds u)) ≡ counted_each ps (programs_then schema es u answer (unit_at ps u) (unit_at es u))
+  then_same answer = by (unit_at ps u) refl (unit_at ds u) (unit_at es u) (sym (counted_at ps ds u) ∙ ap (λ l. unit_at l u) same ∙ counted_at ps es u) where
+    by : (o : Option Program) → unit_at ps u ≡ o → (d e : Option Due) → option_map (counted_by (unit_at ps u)) d ≡ option_map (counted_by (unit_at ps u)) e → counted_each ps (programs_then schema ds u answer o d) ≡ counted_each ps (programs_then schema es u answer o e)
+    by None found d e is = same
+    by (Some p) found None None is = same
+    by (Some p) found None (Some e) is = absurd cc
+    by (Some p) found (Some d) None is = absurd cc
+    by (Some p) found (Some d) (Some e) is =
+        let one : counted_by (unit_at ps u) d ≡ counted_by (unit_at ps u) e = cc in
+        let own : counted p d ≡ counted p e = ap (λ o. counted_by o d) (sym found) ∙ one ∙ ap (λ o. counted_by o e) found in
+        counted_with ps ds u (comes_then schema p answer d)
+        ∙ (λ i. with_unit_at (same i) u (counted_by (found i) (comes_then schema p answer d)))
+        ∙ ap (with_unit_at (counted_each ps es) u) (comes_same schema p answer d e own)
+        ∙ (λ i. with_unit_at (counted_each ps es) u (counted_by (sym found i) (comes_then schema p answer e)))
+        ∙ sym (counted_with ps es u (comes_then schema p answer e))
+
 -- EACH PROGRAM
 
 module _ (m : Meeting) where
@@ -88,9 +120,16 @@ module _ (m : Meeting) where
   pub due_is : (history : List Entry) (u : ℕ) → due_of m history u ≡ due_in m (state_after m history).programs u
   due_is history u = chained (unit_at m.programs u) (λ (p : Program). comes m.schema p u history) (statement_due m.schema) ∙ ap (option_and_then (statement_due m.schema)) (sym (comes_at history u))
 
-  pub can_turn_is : (history : List Entry) (u : ℕ) → can_turn m history u ≡ can_turn_in m (state_after m history).programs u
+  -- it is the same by what counts
+  due_in_same : (dues : List Due) (u : ℕ) → due_in m (counted_each m.programs dues) u ≡ due_in m dues u
+  due_in_same dues u = counted_says (statement_due m.schema) (counted_due m.schema) m.programs dues u
+
+  due_counted : (history : List Entry) (u : ℕ) → due_of m history u ≡ due_in m (essence m (state_after m history)).programs u
+  due_counted history u = due_is history u ∙ sym (due_in_same (state_after m history).programs u)
+
+  can_turn_is : (history : List Entry) (u : ℕ) → can_turn m history u ≡ can_turn_in m (essence m (state_after m history)).programs u
   can_turn_is history u =
-      λ i. is_some (due_is history u i) && not (m.last_waits && (u == length m.programs && list_any (λ v. is_some (due_is history v i)) (range_with_len 1 (length m.programs - 1))))
+      λ i. is_some (due_counted history u i) && not (m.last_waits && (u == length m.programs && list_any (λ v. is_some (due_counted history v i)) (range_with_len 1 (length m.programs - 1))))
 
   -- ONE MORE ENTRY
 
@@ -140,7 +179,7 @@ module _ (m : Meeting) where
     pub at : ProgramState
     pub comes_is : comes m.schema program u history ≡ due at s
 
-  due_by : (d : Due) (s : Statement) → statement_due m.schema d ≡ Some s → (at : ProgramState) × (d ≡ due at s)
+  pub due_by : (d : Due) (s : Statement) → statement_due m.schema d ≡ Some s → (at : ProgramState) × (d ≡ due at s)
   due_by (ended at how) s e = absurd cc
   due_by (due at t) s e = (at, ap (due at) (same (fits m.schema t) e)) where
     same : (b : Bool) → (if b then Some t else None) ≡ Some s → t ≡ s
@@ -181,38 +220,61 @@ module _ (m : Meeting) where
   programs_by dues u None = dues
   programs_by dues u (Some answer) = programs_then m.schema dues u answer (unit_at m.programs u) (unit_at dues u)
 
-  essence_then : (state : MeetingState) (u : ℕ) (q : Option StatementEffect) → essence (with_outcome m state u q) ≡ record { sequential = essential (after_effect state.sequential u q); programs = programs_by state.programs u (option_map (λ (o : StatementEffect). o.answer) q) }
+  programs_alike : (ds es : List Due) (u : ℕ) (answer : Option Answer) → counted_each m.programs ds ≡ counted_each m.programs es → counted_each m.programs (programs_by ds u answer) ≡ counted_each m.programs (programs_by es u answer)
+  programs_alike ds es u None e = e
+  programs_alike ds es u (Some answer) e = then_same m.schema m.programs u ds es e answer
+
+  essence_then : (state : MeetingState) (u : ℕ) (q : Option StatementEffect) → essence m (with_outcome m state u q) ≡ record { sequential = essential (after_effect state.sequential u q); programs = counted_each m.programs (programs_by state.programs u (option_map (λ (o : StatementEffect). o.answer) q)) }
   essence_then state u None = refl
   essence_then state u (Some o) = refl
 
-  made_alike : (x y : MeetingState) (u : ℕ) (o : Option Statement) → IsKept x.sequential → IsKept y.sequential → essence x ≡ essence y → essence (with_made m x u o) ≡ essence (with_made m y u o)
+  made_alike : (x y : MeetingState) (u : ℕ) (o : Option Statement) → IsKept x.sequential → IsKept y.sequential → essence m x ≡ essence m y → essence m (with_made m x u o) ≡ essence m (with_made m y u o)
   made_alike x y u None k l e = e
   made_alike x y u (Some s) k l e =
       let step = both_step m.schema m.capacity x.sequential y.sequential k l u s (ap (λ (z : Essence). z.sequential) e) in
+      let answer : Option Answer = option_map (λ (o : StatementEffect). o.answer) (effect_of_unit m.schema m.capacity x.sequential u s) in
+      let programs = programs_alike x.programs y.programs u answer (ap (λ (z : Essence). z.programs) e) ∙ ap (λ a. counted_each m.programs (programs_by y.programs u a)) step.answer in
       essence_then x u (effect_of_unit m.schema m.capacity x.sequential u s)
-      ∙ (λ i. record { sequential = step.alike i; programs = programs_by (e i).programs u (step.answer i) })
+      ∙ (λ i. record { sequential = step.alike i; programs = programs i })
       ∙ sym (essence_then y u (effect_of_unit m.schema m.capacity y.sequential u s))
 
-  then_alike : (x y : MeetingState) (u : ℕ) → IsKept x.sequential → IsKept y.sequential → essence x ≡ essence y → essence (state_then m x u) ≡ essence (state_then m y u)
-  then_alike x y u k l e = made_alike x y u (due_in m x.programs u) k l e ∙ ap (λ d. essence (with_made m y u d)) (ap (λ (s : Essence). due_in m s.programs u) e)
+  then_alike : (x y : MeetingState) (u : ℕ) → IsKept x.sequential → IsKept y.sequential → essence m x ≡ essence m y → essence m (state_then m x u) ≡ essence m (state_then m y u)
+  then_alike x y u k l e =
+      let dues = sym (due_in_same x.programs u) ∙ ap (λ (s : Essence). due_in m s.programs u) e ∙ due_in_same y.programs u in
+      made_alike x y u (due_in m x.programs u) k l e ∙ ap (λ d. essence m (with_made m y u d)) dues
 
-  pub due_alike : (h g : List Entry) (u : ℕ) → essence (state_after m h) ≡ essence (state_after m g) → due_of m h u ≡ due_of m g u
-  due_alike h g u e = due_is h u ∙ ap (λ (s : Essence). due_in m s.programs u) e ∙ sym (due_is g u)
+  pub due_alike : (h g : List Entry) (u : ℕ) → essence m (state_after m h) ≡ essence m (state_after m g) → due_of m h u ≡ due_of m g u
+  due_alike h g u e = due_counted h u ∙ ap (λ (s : Essence). due_in m s.programs u) e ∙ sym (due_counted g u)
 
-  pub can_turn_alike : (h g : List Entry) (u : ℕ) → essence (state_after m h) ≡ essence (state_after m g) → can_turn m h u ≡ can_turn m g u
+  pub can_turn_alike : (h g : List Entry) (u : ℕ) → essence m (state_after m h) ≡ essence m (state_after m g) → can_turn m h u ≡ can_turn m g u
   can_turn_alike h g u e = can_turn_is h u ∙ ap (λ (s : Essence). can_turn_in m s.programs u) e ∙ sym (can_turn_is g u)
 
-  pub turn_alike : (h g : List Entry) (u : ℕ) → essence (state_after m h) ≡ essence (state_after m g) → essence (state_after m (after_turn m h u)) ≡ essence (state_after m (after_turn m g u))
-  turn_alike h g u e = ap essence (state_on h u) ∙ then_alike (state_after m h) (state_after m g) u (kept_after h) (kept_after g) e ∙ sym (ap essence (state_on g u))
+  turn_alike : (h g : List Entry) (u : ℕ) → essence m (state_after m h) ≡ essence m (state_after m g) → essence m (state_after m (after_turn m h u)) ≡ essence m (state_after m (after_turn m g u))
+  turn_alike h g u e = ap (essence m) (state_on h u) ∙ then_alike (state_after m h) (state_after m g) u (kept_after h) (kept_after g) e ∙ sym (ap (essence m) (state_on g u))
 
   -- ORDERS
+
+  pub order_alike : (h g : List Entry) (o : List ℕ) → essence m (state_after m h) ≡ essence m (state_after m g) → essence m (state_after m (after_order m h o)) ≡ essence m (state_after m (after_order m g o))
+  unfolding after_order
+  order_alike h g [] e = e
+  order_alike h g (u ∷ o) e = order_alike (after_turn m h u) (after_turn m g u) o (turn_alike h g u e)
+
+  -- the answer that is due
+  pub answer_alike : (h g : List Entry) (u : ℕ) → essence m (state_after m h) ≡ essence m (state_after m g) → answer_of m h u ≡ answer_of m g u
+  answer_alike h g u e = by (due_of m h u) ∙ ap (option_and_then (λ s. answer_in (sequential_after m g) s)) (due_alike h g u e) where
+    abbrev answer_in : State → Statement → Option Answer
+    answer_in state s = option_map (λ (o : StatementEffect). o.answer) (effect_of_unit m.schema m.capacity state u s)
+
+    by : (o : Option Statement) → option_and_then (λ s. answer_in (sequential_after m h) s) o ≡ option_and_then (λ s. answer_in (sequential_after m g) s) o
+    by None = refl
+    by (Some s) = (both_step m.schema m.capacity (sequential_after m h) (sequential_after m g) (kept_after h) (kept_after g) u s (ap (λ (z : Essence). z.sequential) e)).answer
 
   -- the state after one more turn
   pub state_of_on : (o : List ℕ) (u : ℕ) → state_of m (o ++ u ∷ []) ≡ state_then m (state_of m o) u
   state_of_on o u = ap (state_after m) (history_on m o u) ∙ state_on (history_of m o) u
 
   pub same_after : (o p : List ℕ) (u : ℕ) → essence_of m o ≡ essence_of m p → essence_of m (o ++ u ∷ []) ≡ essence_of m (p ++ u ∷ [])
-  same_after o p u e = ap essence (state_of_on o u) ∙ then_alike (state_of m o) (state_of m p) u (kept_after (history_of m o)) (kept_after (history_of m p)) e ∙ sym (ap essence (state_of_on p u))
+  same_after o p u e = ap (essence m) (state_of_on o u) ∙ then_alike (state_of m o) (state_of m p) u (kept_after (history_of m o)) (kept_after (history_of m p)) e ∙ sym (ap (essence m) (state_of_on p u))
 
-  pub can_go_on_alike : (h g : List Entry) (u : ℕ) → essence (state_after m h) ≡ essence (state_after m g) → can_go_on m h u ≡ can_go_on m g u
+  pub can_go_on_alike : (h g : List Entry) (u : ℕ) → essence m (state_after m h) ≡ essence m (state_after m g) → can_go_on m h u ≡ can_go_on m g u
   can_go_on_alike h g u e = ap is_some (due_alike h g u e)

@@ -69,3 +69,7 @@ pub no_later_trans : (a b c : List ℕ) → IsNoLater a b → IsNoLater b c → 
 no_later_trans a b c (inl e) g = subst (λ (l : List ℕ). IsNoLater l c) (sym e) g
 no_later_trans a b c (inr h) (inl e) = subst (λ (l : List ℕ). IsNoLater a l) e (inr h)
 no_later_trans a b c (inr h) (inr g) = inr (before_trans a b c h g)
+
+pub before_no_later : (a b c : List ℕ) → IsBefore a b → IsNoLater b c → IsBefore a c
+before_no_later a b c h (inl e) = subst (IsBefore a) e h
+before_no_later a b c h (inr g) = before_trans a b c h g

@@ -1,9 +1,12 @@
+pub mod Counted
 pub mod Turning
 pub mod Alike
 pub mod ComesOut
 pub mod ByTurns
 pub mod Keyed
+pub mod Continuing
 pub mod Placed
+pub mod Ways
 pub mod Walks
 pub mod Before
 pub mod Entering
@@ -19,6 +22,7 @@ pub mod Said
 pub mod Transitions
 pub mod Next
 pub mod Visiting
+pub mod Wishes
 pub mod Rounding
 pub mod ForEver
 pub mod GoingRound

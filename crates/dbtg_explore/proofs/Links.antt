@@ -4,7 +4,7 @@ use Rattle.std.proofs.Common.{◌≡◌, ℕ, zero, suc, ◌+◌, ◌<◌, List,
 use Rattle.std.proofs.lemmas.List.{get_or_append_left, length_push, reverse-append}
 use Rattle.std.proofs.Math.Seq.{get_or-append_seam}
 use Rattle.dbtg_explore.specs.declared.orders.Link.{Link}
-use Rattle.dbtg_explore.specs.Inside.Links.{AreLinked, order_by, orders_on, orders_of}
+use Rattle.dbtg_explore.specs.Inside.Links.{AreLinked, IsLast, order_by, orders_on, orders_of}
 
 length_on : (os : List (List ℕ)) (ls : List Link) → length (orders_on os ls) ≡ length os + length ls
 length_on os [] = omega arith
@@ -61,8 +61,8 @@ before_at ls h i low within d = let below = before_on 1 ls h (i - 1) within d in
 
 -- one link more
 module _ (os : List (List ℕ)) (ls new : List Link) (is : orders_of ls ≡ os) (l : Link) (more : new ≡ ls ++ l ∷ []) where
-  pub pushed : (b : ℕ) → l.before ≡ b → orders_of new ≡ os ++ (get_or os b [] ++ l.unit ∷ []) ∷ []
-  pushed b at = ap orders_of more ∙ (push_on ([] ∷ []) ls l ∙ (λ i. is i ++ (get_or (is i) (at i) [] ++ l.unit ∷ []) ∷ []))
+  pub pushed : (b u : ℕ) → l ≡ record { before = b; unit = u } → orders_of new ≡ os ++ (get_or os b [] ++ u ∷ []) ∷ []
+  pushed b u at = ap orders_of more ∙ (push_on ([] ∷ []) ls l ∙ (λ i. is i ++ order_by (is i) (at i) ∷ []))
 
   pub still_linked : AreLinked 1 ls → l.before < length os → AreLinked 1 new
   still_linked h low =
@@ -70,7 +70,7 @@ module _ (os : List (List ℕ)) (ls new : List Link) (is : orders_of ls ≡ os) 
       let many = length_of ls in
       subst (AreLinked 1) (sym more) (linked_push 1 ls l h (omega arith))
 
--- from an order back to the one before it, by its link
+-- the last turn of an order
 module _ (ls : List Link) (h : AreLinked 1 ls) (i : ℕ) (low : 0 < i) (within : i < length (orders_of ls)) (link : Link) (is : link ≡ get_or ls (i - 1) link) where
   pub is_before : link.before < i
   is_before =
@@ -79,10 +79,14 @@ module _ (ls : List Link) (h : AreLinked 1 ls) (i : ℕ) (low : 0 < i) (within :
       let below = before_at ls h i low (omega arith) link in
       omega arith
 
-  pub gone_back : (turns more whole : List ℕ) → more ≡ turns ++ link.unit ∷ [] → get_or (orders_of ls) i [] ++ reverse turns ≡ whole → get_or (orders_of ls) link.before [] ++ reverse more ≡ whole
-  gone_back turns more whole more_is gone =
+  pub is_last : (os : List (List ℕ)) → orders_of ls ≡ os → IsLast os i link
+  is_last os all =
       let many = length_of ls in
-      let before = get_or (orders_of ls) link.before [] in
-      let at : get_or (orders_of ls) i [] ≡ before ++ link.unit ∷ [] = order_at ls h i low (omega arith) link ∙ ap (order_by (orders_of ls)) (sym is) in
-      let last : reverse more ≡ link.unit ∷ reverse turns = ap reverse more_is ∙ reverse-append turns (link.unit ∷ []) in
-      ap (λ (us : List ℕ). before ++ us) last ∙ sym (append_assoc before (link.unit ∷ []) (reverse turns)) ∙ ap (λ (o : List ℕ). o ++ reverse turns) (sym at) ∙ gone
+      subst (λ (ps : List (List ℕ)). IsLast ps i link) all (record { earlier = is_before; order_is = order_at ls h i low (omega arith) link ∙ ap (order_by (orders_of ls)) (sym is) })
+
+-- from an order back to the one before it, by its last turn
+pub gone_back : (os : List (List ℕ)) (i : ℕ) (link : Link) (turns more whole : List ℕ) → IsLast os i link → more ≡ turns ++ link.unit ∷ [] → get_or os i [] ++ reverse turns ≡ whole → get_or os link.before [] ++ reverse more ≡ whole
+gone_back os i link turns more whole is more_is gone =
+    let before = get_or os link.before [] in
+    let last : reverse more ≡ link.unit ∷ reverse turns = ap reverse more_is ∙ reverse-append turns (link.unit ∷ []) in
+    ap (λ (us : List ℕ). before ++ us) last ∙ sym (append_assoc before (link.unit ∷ []) (reverse turns)) ∙ ap (λ (o : List ℕ). o ++ reverse turns) (sym is.order_is) ∙ gone

@@ -77,14 +77,13 @@ module _ (m : Meeting) (seen : given.Seen) (kept : Numbers) (o : List ℕ) (n u 
 
 -- REACHED
 
-pub reaches : (m : Meeting) (o : List ℕ) (old new : search.Search) (kept : Numbers) (n : ℕ) → new.found ≡ old.found → new.edges.items ≡ old.edges.items → new.numbers ≡ kept → new.limit ≡ old.limit → IsNumberOf m kept (history_of m o) n → Grow old.numbers kept → AreSeen m kept.contents new.seen → Reaches m o old new n
-reaches m o old new kept n found_is edges_are numbers_is limit_is number keeps seen = record {
+pub reaches : (m : Meeting) (o : List ℕ) (old new : search.Search) (kept : Numbers) (n : ℕ) → new.found ≡ old.found → new.edges.items ≡ old.edges.items → new.numbers ≡ kept → IsNumberOf m kept (history_of m o) n → Grow old.numbers kept → AreSeen m kept.contents new.seen → Reaches m o old new n
+reaches m o old new kept n found_is edges_are numbers_is number keeps seen = record {
   number = subst (λ (k : Numbers). IsNumberOf m k (history_of m o) n) (sym numbers_is) number;
   keeps = subst (Grow old.numbers) (sym numbers_is) keeps;
   seen = subst (λ (k : Numbers). AreSeen m k.contents new.seen) (sym numbers_is) seen;
   found_is = found_is;
   edges_are = edges_are;
-  limit_is = limit_is;
 }
 
 -- what is so of a result in four ways

@@ -1,22 +1,22 @@
 -- What is noted of one more order.
 -- m is a meeting, o and p are orders, seen are the earlier orders, f is a failure.
-use Rattle.std.proofs.Common.{◌≡◌, refl, sym, ◌∙◌, ap, subst, ℕ, ◌+◌, ◌-◌, ◌<◌, ◌≤◌, true, false, not, List, [], ◌∷◌, ◌++◌, length, map, get_or, Option, None, Some, arith, inl, inr, ◌⊎◌, ⊎_elim, true≢false}
-use Rattle.std.specs.Prelude.{Contains, option_and_then}
+use Rattle.std.proofs.Common.{◌≡◌, refl, sym, ◌∙◌, ap, subst, ℕ, ◌+◌, ◌-◌, ◌<◌, ◌≤◌, true, false, not, List, [], ◌∷◌, ◌++◌, length, length-append, map, get_or, Option, None, Some, arith, inl, inr, ◌⊎◌, ⊎_elim, true≢false}
+use Rattle.std.specs.Prelude.{All, Contains, option_and_then}
 use Rattle.std.specs.List.{list_any, range_with_len}
 use Rattle.std.proofs.lemmas.Bool.{cases_Bool, cases_lt}
-use Rattle.std.proofs.lemmas.List.{map_push}
+use Rattle.std.proofs.lemmas.List.{get_or_append_left, map_push}
 use Rattle.std.proofs.lemmas.List.Folds.{list_any_at, list_any_none}
 use Rattle.std.proofs.lemmas.List.FromFn.{get_or-range_with_len, length-range_with_len}
-use Rattle.std.proofs.lemmas.List.Elements.{Contains-append_left, Contains-push, Contains-push_cases}
+use Rattle.std.proofs.lemmas.List.Elements.{All-append, All-cons, All-head, All-nil, All-tail, All-weaker, Contains-append_left, Contains-push, Contains-push_cases}
 use Rattle.dbtg_program.specs.declared.program.End.{End}
 use Rattle.dbtg_program.specs.declared.program.Program.{Program}
 use Rattle.dbtg_step.specs.Machine.SequentialDatabase.{unit_at}
 use Rattle.dbtg_unit.specs.declared.unit.Entry.{Entry}
 use Rattle.dbtg_explore.specs.declared.ends.Ends as given
 use Rattle.dbtg_explore.specs.declared.explored.Failure.{Failure}
-use Rattle.dbtg_explore.specs.Inside.Ends.{AreFailuresOf, AreResultsOf, FailsAt, FailsIn, FailsSo, Notes, NotesResult}
+use Rattle.dbtg_explore.specs.Inside.Ends.{AreEndsOf, AreFailuresOf, AreResultsOf, FailsAt, FailsIn, FailsSo, Notes, NotesResult}
 use Rattle.dbtg_explore.specs.Inside.Failures.{Take}
-use Rattle.dbtg_explore.specs.Inside.Found.{FoundOrders, IsEntered}
+use Rattle.dbtg_explore.specs.Inside.Found.{FoundOrders, FoundPlaces, IsEntered, IsEnteredAt, orders_at, orders_by_text}
 use Rattle.dbtg_explore.specs.Inside.Search.{AreFirsts}
 use Rattle.dbtg_explore.specs.Inside.Walks.{failure_by, failure_in}
 use Rattle.dbtg_explore.specs.Orders.{IsEnd, Meeting, can_go_on, history_of}
@@ -140,6 +140,32 @@ module _ (m : Meeting) where
         keys_are = put.keys_are ∙ (λ j. h.keys_are j ++ key_is j ∷ []) ∙ sym (map_push (result_text m) old.orders o) ∙ ap (map (result_text m)) (sym orders);
       }
 
+  -- the same by the places of orders
+  pub at_places : (os : List (List ℕ)) (text : List ℕ) (place : ℕ) (old new : FoundPlaces) → IsEnteredAt old text place new → IsEntered (orders_by_text os old) text (get_or os place []) (orders_by_text os new)
+  at_places os text place old new (inl known) = inl (known.0, ap (orders_by_text os) known.1)
+  at_places os text place old new (inr put) =
+      inr (record { absent = put.absent; keys_are = put.texts_are; orders_are = ap (orders_at os) put.places_are ∙ map_push (λ (p : ℕ). get_or os p []) old.places place })
+
+  pub still_there : (count : ℕ) (text : List ℕ) (place : ℕ) (old new : FoundPlaces) → place < count → IsEnteredAt old text place new → All (λ p. p < count) old.places → All (λ p. p < count) new.places
+  still_there count text place old new low (inl known) there = subst (λ (f : FoundPlaces). All (λ p. p < count) f.places) (sym known.1) there
+  still_there count text place old new low (inr put) there =
+      subst (All (λ p. p < count)) (sym put.places_are) (All-append (λ p. p < count) old.places (place ∷ []) there (All-cons (λ p. p < count) place [] low (All-nil (λ p. p < count))))
+
+  orders_stay : (os more : List (List ℕ)) (places : List ℕ) → All (λ p. p < length os) places → orders_at (os ++ more) places ≡ orders_at os places
+  orders_stay os more [] there = refl
+  orders_stay os more (p ∷ places) there =
+      λ i. get_or_append_left os more [] p (All-head (λ p. p < length os) p places there) i ∷ orders_stay os more places (All-tail (λ p. p < length os) p places there) i
+
+  -- nothing changes when orders are found
+  pub ends_later : (os more seen : List (List ℕ)) (e : given.Ends) → AreEndsOf m os seen e → AreEndsOf m (os ++ more) seen e
+  ends_later os more seen e h =
+      let long = length-append os more in
+      record {
+        there = All-weaker (λ p. p < length os) (λ p. p < length (os ++ more)) (λ p low. omega (arith, low, long)) e.results.places h.there;
+        results = subst (λ orders. AreResultsOf m seen (record { keys = e.results.texts; orders = orders })) (sym (orders_stay os more e.results.places h.there)) h.results;
+        failures = h.failures;
+      }
+
   pub cannot_go : (history : List Entry) (u : ℕ) → unit_at m.programs u ≡ None → can_go_on m history u ≡ false
   cannot_go history u none = rw none refl
 
@@ -170,8 +196,10 @@ module _ (m : Meeting) where
       true≢false (sym (ap not no_one) ∙ some)
 
   -- results and failures
-  pub notes_both : (o : List ℕ) (history : List Entry) (old new : given.Ends) → history ≡ history_of m o → Take (FailsIn (state_after m history)) old.failures.items new.failures.items → NotesResult m o old.results new.results → Notes m o old new
-  notes_both o history old new is takes notes seen behind h = record {
+  pub notes_both : (os : List (List ℕ)) (o : List ℕ) (history : List Entry) (old new : given.Ends) → history ≡ history_of m o → Take (FailsIn (state_after m history)) old.failures.items new.failures.items → (All (λ p. p < length os) old.results.places → All (λ p. p < length os) new.results.places)
+      → NotesResult m o (orders_by_text os old.results) (orders_by_text os new.results) → Notes m os o old new
+  notes_both os o history old new is takes there notes seen behind h = record {
+    there = there h.there;
     results = notes seen behind h.results;
     failures = failures_more seen o history old.failures.items new.failures.items is takes h.failures;
   }

@@ -33,10 +33,12 @@ use Rattle.dbtg_states.proofs.States.SameParts.{cells_same, same_at_each, same_l
 use Rattle.dbtg_explore.specs.Orders.{IsMeeting, Meeting, history_of}
 use Rattle.dbtg_explore.specs.States.{Essence, comes_of_each, essence, essence_of, sequential_after, state_after, state_of}
 use Rattle.dbtg_explore.specs.Versions.{at_first, unversioned, unversioned_database, unversioned_unit}
-use Rattle.dbtg_explore.specs.Inside.Keys.{due_numbers}
+use Rattle.dbtg_explore.specs.Counted.{counted, counted_each}
+use Rattle.dbtg_explore.specs.Inside.Keys.{due_numbers, items_read, items_read_by}
 use Rattle.dbtg_explore.specs.Inside.Parts.{IsNumberOf, cell_part, kept_count, parts_of, unit_part}
 use Rattle.dbtg_explore.proofs.Alike.{comes_at, due_is}
-use Rattle.dbtg_explore.proofs.Keyed.{due_apart, legal, said_comes, units_count}
+use Rattle.dbtg_explore.proofs.Counted.{counted_at, counted_by, counted_due}
+use Rattle.dbtg_explore.proofs.Keyed.{due_apart, due_counted, legal, said_comes, units_count}
 use Rattle.dbtg_explore.proofs.Versions.Facts.{owner_is, sort_key_is}
 use Rattle.dbtg_explore.proofs.Versions.Images.{legal_first}
 use Rattle.dbtg_explore.proofs.Versions.Stored.{first_items, first_lives}
@@ -84,37 +86,57 @@ module _ (m : Meeting) where
   -- WHAT A UNIT'S PART SAYS
 
   -- by what is due in its program, and by the unit without versions
-  abbrev pub said_of : Option Due → Option Unit → List ℕ
-  said_of d unit =
+  abbrev pub said_of : ℕ → Option Due → Option Unit → List ℕ
+  said_of u d unit =
       kept_count unit
       ∷ (if is_some (option_and_then (statement_due m.schema) d) then 1 else 0)
-      ∷ flat_map due_numbers (option_to_list d)
+      ∷ flat_map (due_numbers (items_read_by m.programs u)) (option_to_list d)
       ++ flat_map unit_numbers (option_to_list unit)
 
-  pub part_said : (h : List Entry) (u : ℕ) → unit_part m h u ≡ said_of (unit_at (state_after m h).programs u) (unit_at (unversioned (sequential_after m h)).units u)
+  pub part_said : (h : List Entry) (u : ℕ) → unit_part m h u ≡ said_of u (unit_at (state_after m h).programs u) (unit_at (unversioned (sequential_after m h)).units u)
   part_said h u =
-      ap (λ (s : Option Statement). kept_count (unit_at (unversioned (sequential_after m h)).units u) ∷ (if is_some s then 1 else 0) ∷ flat_map due_numbers (option_to_list (unit_at (state_after m h).programs u)) ++ flat_map unit_numbers (option_to_list (unit_at (unversioned (sequential_after m h)).units u)))
+      ap (λ (s : Option Statement). kept_count (unit_at (unversioned (sequential_after m h)).units u) ∷ (if is_some s then 1 else 0) ∷ flat_map (due_numbers (items_read_by m.programs u)) (option_to_list (unit_at (state_after m h).programs u)) ++ flat_map unit_numbers (option_to_list (unit_at (unversioned (sequential_after m h)).units u)))
       (due_is m h u)
+
+  -- what does not count is not said
+  said_counted : (u : ℕ) (d : Option Due) (unit : Option Unit) → said_of u (option_map (counted_by (unit_at m.programs u)) d) unit ≡ said_of u d unit
+  said_counted u None unit = refl
+  said_counted u (Some d) unit =
+      λ i. kept_count unit ∷ (if is_some (statement (unit_at m.programs u) i) then 1 else 0) ∷ (numbers (unit_at m.programs u) i ++ []) ++ flat_map unit_numbers (option_to_list unit) where
+        statement : (o : Option Program) → statement_due m.schema (counted_by o d) ≡ statement_due m.schema d
+        statement None = refl
+        statement (Some p) = counted_due m.schema p d
+
+        numbers : (o : Option Program) → due_numbers (unwrap_or (option_map items_read o) []) (counted_by o d) ≡ due_numbers (unwrap_or (option_map items_read o) []) d
+        numbers None = refl
+        numbers (Some p) = due_counted p d
+
+  pub part_counted : (h : List Entry) (u : ℕ) → unit_part m h u ≡ said_of u (unit_at (essence m (state_after m h)).programs u) (unit_at (unversioned (sequential_after m h)).units u)
+  part_counted h u =
+      let unit = unit_at (unversioned (sequential_after m h)).units u in
+      part_said h u ∙ sym (said_counted u (unit_at (state_after m h).programs u) unit) ∙ ap (λ d. said_of u d unit) (sym (counted_at m.programs (state_after m h).programs u))
 
   abbrev behind_two : List ℕ → List ℕ
   behind_two [] = []
   behind_two (a ∷ []) = []
   behind_two (a ∷ b ∷ rest) = rest
 
-  dues_spelled : (x y : Due) (a b : List ℕ) → flat_map due_numbers (option_to_list (Some x)) ++ a ≡ flat_map due_numbers (option_to_list (Some y)) ++ b → due_numbers x ++ a ≡ due_numbers y ++ b
-  dues_spelled x y a b e = sym (ap (λ l. l ++ a) (append-nil (due_numbers x))) ∙ e ∙ ap (λ l. l ++ b) (append-nil (due_numbers y))
+  -- what counts of a program that is known
+  pub counted_there : (h : List Entry) (u : ℕ) (program : Program) (d : Due) → unit_at m.programs u ≡ Some program → unit_at (state_after m h).programs u ≡ Some d → unit_at (essence m (state_after m h)).programs u ≡ Some (counted program d)
+  counted_there h u program d found stands = counted_at m.programs (state_after m h).programs u ∙ (λ i. option_map (counted_by (found i)) (stands i))
 
-  -- it tells how the program stands, and the unit without versions
+  -- it tells what counts of the program, and the unit without versions
   pub part_tells : (h g : List Entry) (u : ℕ) (program : Program) → unit_at m.programs u ≡ Some program → is_some (unit_at (unversioned (sequential_after m h)).units u) ≡ true → is_some (unit_at (unversioned (sequential_after m g)).units u) ≡ true → unit_part m h u ≡ unit_part m g u
-      → (comes m.schema program u h ≡ comes m.schema program u g) × (unit_at (unversioned (sequential_after m h)).units u ≡ unit_at (unversioned (sequential_after m g)).units u)
+      → (counted program (comes m.schema program u h) ≡ counted program (comes m.schema program u g)) × (unit_at (unversioned (sequential_after m h)).units u ≡ unit_at (unversioned (sequential_after m g)).units u)
   part_tells h g u program found here there same =
       let x = comes m.schema program u h in
       let y = comes m.schema program u g in
       let rest_of : List Entry → List ℕ = λ es. flat_map unit_numbers (option_to_list (unit_at (unversioned (sequential_after m es)).units u)) in
       let stands : (es : List Entry) → unit_at (state_after m es).programs u ≡ Some (comes m.schema program u es) = λ es. comes_at m es u ∙ ap (option_map (λ (q : Program). comes m.schema q u es)) found in
-      let spelled : flat_map due_numbers (option_to_list (Some x)) ++ rest_of h ≡ flat_map due_numbers (option_to_list (Some y)) ++ rest_of g
-      = sym (ap (λ d. flat_map due_numbers (option_to_list d) ++ rest_of h) (stands h)) ∙ ap behind_two same ∙ ap (λ d. flat_map due_numbers (option_to_list d) ++ rest_of g) (stands g) in
-      let both = due_apart m.schema program x y (rest_of h) (rest_of g) (said_comes m program u h) (said_comes m program u g) (dues_spelled x y (rest_of h) (rest_of g) spelled) in
+      let read : items_read_by m.programs u ≡ items_read program = ap (λ o. unwrap_or (option_map items_read o) []) found in
+      let one : (es : List Entry) → flat_map (due_numbers (items_read_by m.programs u)) (option_to_list (unit_at (state_after m es).programs u)) ++ rest_of es ≡ due_numbers (items_read program) (comes m.schema program u es) ++ rest_of es
+      = λ es. (λ i. flat_map (due_numbers (read i)) (option_to_list (stands es i)) ++ rest_of es) ∙ ap (λ l. l ++ rest_of es) (append-nil (due_numbers (items_read program) (comes m.schema program u es))) in
+      let both = due_apart m.schema program x y (rest_of h) (rest_of g) (said_comes m program u h) (said_comes m program u g) (sym (one h) ∙ ap behind_two same ∙ one g) in
       let units = unit_spelled _ _ [] [] here there (ap (λ l. l ++ []) both.1) in
       (both.0, units.0)
 
@@ -124,9 +146,9 @@ module _ (m : Meeting) where
     cells : (c : CellName) → is_cell m.schema m.capacity c ≡ true → cell_part m h c ≡ cell_part m g c
 
   -- so they are if the essence is
-  parts_same : (h g : List Entry) → essence (state_after m h) ≡ essence (state_after m g) → HaveSameParts h g
+  parts_same : (h g : List Entry) → essence m (state_after m h) ≡ essence m (state_after m g) → HaveSameParts h g
   parts_same h g e = record {
-    units = λ u low high. part_said h u ∙ (λ i. said_of (unit_at (e i).programs u) (unit_at (e i).sequential.units u)) ∙ sym (part_said g u);
+    units = λ u low high. part_counted h u ∙ (λ i. said_of u (unit_at (e i).programs u) (unit_at (e i).sequential.units u)) ∙ sym (part_counted g u);
     cells = λ c there. cells_same m.schema m.capacity (length m.programs) (unversioned (sequential_after m h)) (unversioned (sequential_after m g)) (ap (λ (s : Essence). s.sequential) e) c;
   }
 
@@ -139,9 +161,10 @@ module _ (m : Meeting) where
     g = history_of m p
 
     each_unit : (u : ℕ) → 0 < u → u ≤ length m.programs → (program : Program) → unit_at m.programs u ≡ Some program
-        → (unit_at (state_after m h).programs u ≡ unit_at (state_after m g).programs u) × (unit_at (unversioned (sequential_after m h)).units u ≡ unit_at (unversioned (sequential_after m g)).units u)
+        → (unit_at (essence m (state_after m h)).programs u ≡ unit_at (essence m (state_after m g)).programs u) × (unit_at (unversioned (sequential_after m h)).units u ≡ unit_at (unversioned (sequential_after m g)).units u)
     each_unit u low high program found =
-        let stands : (es : List Entry) → unit_at (state_after m es).programs u ≡ Some (comes m.schema program u es) = λ es. comes_at m es u ∙ ap (option_map (λ (q : Program). comes m.schema q u es)) found in
+        let stands : (es : List Entry) → unit_at (essence m (state_after m es)).programs u ≡ Some (counted program (comes m.schema program u es))
+        = λ es. counted_there es u program (comes m.schema program u es) found (comes_at m es u ∙ ap (option_map (λ (q : Program). comes m.schema q u es)) found) in
         let both = part_tells h g u program found (unit_there (history_of m o) u low (high_at o high)) (unit_there (history_of m p) u low (high_at p high)) (same.units u low high) in
         (stands h ∙ ap Some both.0 ∙ sym (stands g), both.1) where
           high_at : (q : List ℕ) → u ≤ length m.programs → u ≤ length (unversioned (sequential_after m (history_of m q))).units
@@ -157,16 +180,24 @@ module _ (m : Meeting) where
     unfolding unit_at
     program_at i low = there_is m.programs i low
 
-    programs_same : (state_after m h).programs ≡ (state_after m g).programs
+    programs_same : (essence m (state_after m h)).programs ≡ (essence m (state_after m g)).programs
     unfolding unit_at
     programs_same =
-        same_at_each (state_after m h).programs (state_after m g).programs (comes_length h 1 m.programs ∙ sym (comes_length g 1 m.programs)) (λ i low.
-        let few : i < length m.programs = let counted = comes_length h 1 m.programs in omega (arith, low, counted) in
+        same_at_each (essence m (state_after m h)).programs (essence m (state_after m g)).programs (count_of h ∙ sym (count_of g)) (λ i low.
+        let few : i < length m.programs = let count = count_of h in omega (arith, low, count) in
         let program = program_at i few in
         (each_unit (suc i) (omega arith) (omega (arith, few)) program.0 program.1).0) where
           comes_length : (es : List Entry) (k : ℕ) (ps : List Program) → length (comes_of_each m es k ps) ≡ length ps
           comes_length es k [] = refl
           comes_length es k (q ∷ ps) = ap suc (comes_length es (k + 1) ps)
+
+          each_length : (ps : List Program) (ds : List Due) → length (counted_each ps ds) ≡ length ds
+          each_length [] ds = refl
+          each_length (q ∷ ps) [] = refl
+          each_length (q ∷ ps) (d ∷ ds) = ap suc (each_length ps ds)
+
+          count_of : (es : List Entry) → length (essence m (state_after m es)).programs ≡ length m.programs
+          count_of es = each_length m.programs (state_after m es).programs ∙ comes_length es 1 m.programs
 
     units_same : (unversioned (sequential_after m h)).units ≡ (unversioned (sequential_after m g)).units
     unfolding unit_at

@@ -32,7 +32,7 @@ use Rattle.dbtg_states.specs.Spelling.{unit_numbers}
 use Rattle.dbtg_explore.specs.Orders.{IsMeeting, Meeting, after_turn, can_go_on, can_turn, due_of}
 use Rattle.dbtg_explore.specs.Results.{reached_of, state_text}
 use Rattle.dbtg_explore.specs.States.{comes_of_each, sequential_after, state_after, without_versions}
-use Rattle.dbtg_explore.specs.Inside.Keys.{due_numbers}
+use Rattle.dbtg_explore.specs.Inside.Keys.{due_numbers, items_read_by}
 use Rattle.dbtg_explore.specs.Inside.Parts.{kept_count, unit_part}
 use Rattle.dbtg_explore.specs.Inside.Versions.{is_in_order}
 use Rattle.dbtg_explore.specs.Versions.{unversioned, unversioned_unit}
@@ -217,22 +217,25 @@ module _ (m : Meeting) (database : Making) (goings : List Going) (w : AreStandin
   pub one_by_one : (a : List ℕ) (k f : ℕ) (p o : List ℕ) → (((a ++ k ∷ []) ++ f ∷ []) ++ p) ++ o ≡ a ++ (k ∷ f ∷ (p ++ o))
   one_by_one a k f p o = append_assoc ((a ++ k ∷ []) ++ f ∷ []) p o ∙ append_assoc (a ++ k ∷ []) (f ∷ []) (p ++ o) ∙ append_assoc a (k ∷ []) (f ∷ (p ++ o))
 
-  -- what the part of a unit says, by its program and its unit
-  pub part_there : (u : ℕ)
+  -- what the part of a unit says, by the items that its program reads, its program and its unit
+  pub part_there : (u : ℕ) (read : List Bool) → read ≡ items_read_by m.programs u
       → kept_count (unit_at (unversioned (state_now database)).units u)
       ∷ (if can_go_on m database.history u then 1 else 0)
-      ∷ flat_map (λ g. due_numbers (comes_of g)) (option_to_list (unit_at goings u))
+      ∷ flat_map (λ g. due_numbers read (comes_of g)) (option_to_list (unit_at goings u))
       ++ flat_map unit_numbers (option_to_list (unit_at (unversioned (state_now database)).units u)) ≡ unit_part m database.history u
-  part_there u =
+  part_there u read is =
       let kept = ap (λ (d : Making). kept_count (unit_at (unversioned (state_now d)).units u)) w.database_is in
       let units = ap (λ (d : Making). flat_map unit_numbers (option_to_list (unit_at (unversioned (state_now d)).units u))) w.database_is in
       λ i. kept i ∷ (if can_go_on m database.history u then 1 else 0) ∷ programs i ++ units i where
-        spelled : (o : Option Going) → flat_map (λ g. due_numbers (comes_of g)) (option_to_list o) ≡ flat_map due_numbers (option_to_list (option_map comes_of o))
+        spelled : (o : Option Going) → flat_map (λ g. due_numbers read (comes_of g)) (option_to_list o) ≡ flat_map (due_numbers read) (option_to_list (option_map comes_of o))
         spelled None = refl
         spelled (Some g) = refl
 
-        programs : flat_map (λ g. due_numbers (comes_of g)) (option_to_list (unit_at goings u)) ≡ flat_map due_numbers (option_to_list (unit_at (state_after m database.history).programs u))
-        programs = spelled (unit_at goings u) ∙ ap (λ d. flat_map due_numbers (option_to_list d)) (sym (map_at comes_of goings u) ∙ ap (λ ds. unit_at ds u) (dues_are m database.history goings w.are_going))
+        stand : option_map comes_of (unit_at goings u) ≡ unit_at (state_after m database.history).programs u
+        stand = sym (map_at comes_of goings u) ∙ ap (λ ds. unit_at ds u) (dues_are m database.history goings w.are_going)
+
+        programs : flat_map (λ g. due_numbers read (comes_of g)) (option_to_list (unit_at goings u)) ≡ flat_map (due_numbers (items_read_by m.programs u)) (option_to_list (unit_at (state_after m database.history).programs u))
+        programs = spelled (unit_at goings u) ∙ (λ i. flat_map (due_numbers (is i)) (option_to_list (stand i)))
 
   -- the text of its image, its units without versions and its programs
   pub text_is : (image : Image) → image ≡ image_of database.schema database.capacity (state_now database).database → (units : List Unit) → units ≡ (unversioned (sequential_after m database.history)).units

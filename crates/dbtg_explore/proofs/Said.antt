@@ -7,6 +7,7 @@ use Rattle.std.proofs.lemmas.Bool.{cases_lt, eqb-true, false_from_ne_true, le-le
 use Rattle.std.proofs.lemmas.List.{length-map}
 use Rattle.std.proofs.lemmas.List.Folds.{list_any_at}
 use Rattle.std.proofs.lemmas.List.FromFn.{get_or-range_with_len, length-range_with_len}
+use Rattle.dbtg_unit.specs.declared.statement.Statement.{Statement}
 use Rattle.dbtg_unit.specs.declared.unit.Entry.{Entry}
 use Rattle.dbtg_program.specs.declared.program.End.TheVariants.{Stop, Assert, Size, Astray}
 use Rattle.dbtg_program.specs.declared.program.Program.{Program}
@@ -18,12 +19,12 @@ use Rattle.dbtg_states.specs.Spelling.{unit_numbers}
 use Rattle.dbtg_explore.specs.Orders.{Meeting, can_go_on, can_turn}
 use Rattle.dbtg_explore.specs.States.{sequential_after, state_after}
 use Rattle.dbtg_explore.specs.Versions.{unversioned, unversioned_unit}
-use Rattle.dbtg_explore.specs.Inside.Keys.{due_numbers}
+use Rattle.dbtg_explore.specs.Inside.Keys.{due_numbers, items_read_by}
 use Rattle.dbtg_explore.specs.Inside.Parts.{IsNumberOf, kept_count, unit_part}
 use Rattle.dbtg_explore.specs.Inside.Standing.{failure_of, fails_in, goes_on_in, is_kept_beside, is_over_in, keeps_beside, said, turns_in}
 use Rattle.dbtg_explore.specs.Inside.Transitions.{KeepsAlone}
 use Rattle.dbtg_explore.specs.Inside.Walks.{failure_by, failure_in}
-use Rattle.dbtg_explore.proofs.Alike.{comes_at}
+use Rattle.dbtg_explore.proofs.Alike.{IsDueOf, comes_at}
 use Rattle.dbtg_explore.proofs.Keyed.{units_counted}
 use Rattle.dbtg_explore.proofs.Noting.{cannot_go}
 use Rattle.dbtg_explore.proofs.Parts.{some_at}
@@ -97,16 +98,16 @@ module _ (m : Meeting) (kept : Numbers) (h : List Entry) (n : ℕ) (at : IsNumbe
   ]
 
   -- who has failed
-  failed : (d : Due) (rest : List ℕ) → failure_of (get_or (flat_map due_numbers (option_to_list (Some d)) ++ rest) 0 0) (get_or (flat_map due_numbers (option_to_list (Some d)) ++ rest) 1 0) ≡ failure_by d
-  failed (due state s) rest = refl
-  failed (ended state Stop) rest = refl
-  failed (ended state (Assert line)) rest = refl
-  failed (ended state (Size line)) rest = refl
-  failed (ended state (Astray line)) rest = refl
+  failed : (read : List Bool) (d : Due) (rest : List ℕ) → failure_of (get_or (flat_map (due_numbers read) (option_to_list (Some d)) ++ rest) 0 0) (get_or (flat_map (due_numbers read) (option_to_list (Some d)) ++ rest) 1 0) ≡ failure_by d
+  failed read (due state s) rest = refl
+  failed read (ended state Stop) rest = refl
+  failed read (ended state (Assert line)) rest = refl
+  failed read (ended state (Size line)) rest = refl
+  failed read (ended state (Astray line)) rest = refl
 
-  failed_there : (d : Option Due) (rest : List ℕ) → is_some d ≡ true → failure_of (get_or (flat_map due_numbers (option_to_list d) ++ rest) 0 0) (get_or (flat_map due_numbers (option_to_list d) ++ rest) 1 0) ≡ option_and_then failure_by d
-  failed_there None rest none = absurd (true≢false (sym none))
-  failed_there (Some d) rest some = failed d rest
+  failed_there : (read : List Bool) (d : Option Due) (rest : List ℕ) → is_some d ≡ true → failure_of (get_or (flat_map (due_numbers read) (option_to_list d) ++ rest) 0 0) (get_or (flat_map (due_numbers read) (option_to_list d) ++ rest) 1 0) ≡ option_and_then failure_by d
+  failed_there read None rest none = absurd (true≢false (sym none))
+  failed_there read (Some d) rest some = failed read d rest
 
   program_there : (o : Option Program) (u : ℕ) → is_some o ≡ true → is_some (option_map (λ (p : Program). comes m.schema p u h) o) ≡ true
   program_there None u none = none
@@ -115,5 +116,12 @@ module _ (m : Meeting) (kept : Numbers) (h : List Entry) (n : ℕ) (at : IsNumbe
   pub fails_is : (u : ℕ) → 0 < u → u ≤ length m.programs → fails_in kept n u ≡ failure_in (state_after m h) u
   fails_is u low high =
       (λ j. failure_of (said_is u 2 low high j) (said_is u 3 low high j))
-      ∙ failed_there (unit_at (state_after m h).programs u) (flat_map unit_numbers (option_to_list (unit_at (unversioned (sequential_after m h)).units u)))
+      ∙ failed_there (items_read_by m.programs u) (unit_at (state_after m h).programs u) (flat_map unit_numbers (option_to_list (unit_at (unversioned (sequential_after m h)).units u)))
       (ap is_some (comes_at m h u) ∙ program_there (unit_at m.programs u) u (some_at m.programs u low high))
+
+  -- where a program stands in which a statement is due
+  pub at_is : (u : ℕ) (s : Statement) (d : IsDueOf m h u s) → 0 < u → u ≤ length m.programs → said kept n u 3 ≡ d.at.at
+  at_is u s d low high =
+      let there : unit_at (state_after m h).programs u ≡ Some (due d.at s) = comes_at m h u ∙ ap (option_map (λ (p : Program). comes m.schema p u h)) d.found ∙ ap Some d.comes_is in
+      said_is u 3 low high
+      ∙ ap (λ o. get_or (flat_map (due_numbers (items_read_by m.programs u)) (option_to_list o) ++ flat_map unit_numbers (option_to_list (unit_at (unversioned (sequential_after m h)).units u))) 1 0) there

@@ -10,7 +10,7 @@ use Rattle.dbtg_rounds.specs.declared.edge.Edge.{Edge}
 use Rattle.dbtg_explore.specs.Orders.{IsBefore, IsNoLater}
 use Rattle.dbtg_explore.specs.Inside.Search.{AreFirsts, HasFirst, IsTurn, IsUnderWay, LeadApart}
 use Rattle.dbtg_explore.specs.Pairwise.{ArePairwise}
-use Rattle.dbtg_explore.proofs.Before.{before_last, before_next, before_push, before_trans, no_later_push, no_later_trans}
+use Rattle.dbtg_explore.proofs.Before.{before_last, before_next, before_no_later, before_push, before_trans, no_later_push, no_later_trans}
 
 -- LISTS
 
@@ -63,7 +63,18 @@ in_order_at (x ∷ xs) i zero h low in_range = absurd (omega arith)
 in_order_at (x ∷ xs) zero (suc j) h low in_range = h.0 (get_or xs j []) (Contains-get_or xs j [] (omega arith))
 in_order_at (x ∷ xs) (suc i) (suc j) h low in_range = in_order_at xs i j h.1 (omega arith) (omega arith)
 
+pub no_later_place : (xs : List (List ℕ)) (i j : ℕ) → ArePairwise IsBefore xs → i ≤ j → j < length xs → IsNoLater (get_or xs i []) (get_or xs j [])
+no_later_place xs i j h le in_range = elim (cases_lt i j) [
+  | inl low ↦ inr (in_order_at xs i j h low in_range)
+  | inr high ↦ let e : i ≡ j = omega arith in inl (ap (λ (k : ℕ). get_or xs k []) e)
+]
+
 -- THE SEARCH
+
+-- an order comes after all that are found, while the search is at place i, and not through them
+pub record IsLater (found : List (List ℕ)) (i : ℕ) (o : List ℕ) : Type 0 where
+  pub on_the_way : i < length found
+  pub behind : (f : List ℕ) → Contains found f → IsBefore f o
 
 -- what the search needs of orders
 pub record GoOn {S : Type 0} (IsOrder : List ℕ → Type 0) (can : List ℕ → ℕ → Bool) (state : List ℕ → S) : Type 0 where
@@ -221,14 +232,52 @@ module _ {S : Type 0} (IsOrder : List ℕ → Type 0) (can : List ℕ → ℕ �
           before_trans o (get_or found i [] ++ u ∷ []) (get_or found (i + 1) [] ++ v ∷ []) last (before_push (get_or found i []) (get_or found (i + 1) []) u v (in_order_at found i (i + 1) h.in_order (omega arith) r));
     }
 
-  -- AT THE END
+  -- WHICH ORDERS ARE FOUND
 
-  module _ (found : List (List ℕ)) (es : List Edge) (i : ℕ) (through : length found ≤ i) (h : Under found es i 0) where
-    -- each order has a first order that leads to the same state
-    pub all_found : (o : List ℕ) → IsOrder o → HasFirst state found o
-    all_found o is = by (length o) o refl is where
-      by : (n : ℕ) (o : List ℕ) → length o ≡ n → IsOrder o → HasFirst state found o
-      by zero [] e is = h.begun
+  module _ (found : List (List ℕ)) (es : List Edge) (i : ℕ) (h : Under found es i 0) where
+    -- one that is found, with a turn more
+    module _ (p : List ℕ) (u : ℕ) (before : HasFirst state found p) (is : IsOrder (p ++ u ∷ [])) where
+      abbrev j : ℕ
+      j = before.is_found.0
+
+      at : get_or found j [] ≡ before.first
+      at = get_or_default found j [] before.first before.is_found.1 ∙ before.is_found.2
+
+      -- the search has gone on from there
+      known_more : j < i → HasFirst state found (p ++ u ∷ [])
+      known_more early =
+          let can_u : can before.first u ≡ true = on.can_alike before.first p u before.same ∙ on.last p u is in
+          let there = h.behind j u early (ap (λ q. can q u) at ∙ can_u) in
+          let goes : HasFirst state found (before.first ++ u ∷ []) = subst (λ q. HasFirst state found (q ++ u ∷ [])) at (turn_first found (edge j u there.0) (h.are_turns (edge j u there.0) there.1)) in
+          let same = on.state_alike before.first p u (on.more before.first u (h.are_orders before.first before.is_found) can_u) is before.same in
+          record {
+            first = goes.first;
+            is_found = goes.is_found;
+            same = goes.same ∙ same;
+            no_later = no_later_trans goes.first (before.first ++ u ∷ []) (p ++ u ∷ []) goes.no_later (no_later_push before.first p u before.no_later);
+          }
+
+      -- or not yet
+      later_more : i ≤ j → IsLater found i (p ++ u ∷ [])
+      later_more le =
+          let low = before.is_found.1 in
+          let here = get_or found i [] in
+          let first : IsNoLater here before.first = subst (IsNoLater here) at (no_later_place found i j h.in_order le low) in
+          let turn : IsNoLater (here ++ u ∷ []) (p ++ u ∷ []) = no_later_push here p u (no_later_trans here before.first p first before.no_later) in
+          record {
+            on_the_way = omega arith;
+            behind = λ f c. before_no_later f (here ++ u ∷ []) (p ++ u ∷ []) (h.earlier f u (omega arith) c (omega arith)) turn;
+          }
+
+    one_more : (p : List ℕ) (u : ℕ) → HasFirst state found p ⊎ IsLater found i p → IsOrder (p ++ u ∷ []) → HasFirst state found (p ++ u ∷ []) ⊎ IsLater found i (p ++ u ∷ [])
+    one_more p u (inl before) is = elim (cases_lt before.is_found.0 i) [ inl early ↦ inl (known_more p u before is early) | inr le ↦ inr (later_more p u before is le) ]
+    one_more p u (inr later) is = inr (record { on_the_way = later.on_the_way; behind = λ f c. before_trans f p (p ++ u ∷ []) (later.behind f c) (before_next p u) })
+
+    -- each order has a first order that leads to the same state, or comes after all that are found
+    pub found_or_later : (o : List ℕ) → IsOrder o → HasFirst state found o ⊎ IsLater found i o
+    found_or_later o is = by (length o) o refl is where
+      by : (n : ℕ) (o : List ℕ) → length o ≡ n → IsOrder o → HasFirst state found o ⊎ IsLater found i o
+      by zero [] e is = inl h.begun
       by zero (v ∷ o) e is = absurd (omega arith)
       by (suc n) o e is =
           elim (ending o) [
@@ -237,24 +286,16 @@ module _ {S : Type 0} (IsOrder : List ℕ → Type 0) (can : List ℕ → ℕ �
                 let here : IsOrder (end.front ++ end.last ∷ []) = subst IsOrder end.is is in
                 let long = length_push end.front end.last in
                 let short = ap length end.is in
-                let before = by n end.front (omega arith) (on.front end.front end.last here) in
-                subst (HasFirst state found) (sym end.is) (next end.front end.last before here)
-          ] where
-            next : (p : List ℕ) (u : ℕ) → HasFirst state found p → IsOrder (p ++ u ∷ []) → HasFirst state found (p ++ u ∷ [])
-            next p u before is =
-                let j = before.is_found.0 in
-                let low = before.is_found.1 in
-                let at : get_or found j [] ≡ before.first = get_or_default found j [] before.first low ∙ before.is_found.2 in
-                let can_u : can before.first u ≡ true = on.can_alike before.first p u before.same ∙ on.last p u is in
-                let there = h.behind j u (omega arith) (ap (λ q. can q u) at ∙ can_u) in
-                let goes : HasFirst state found (before.first ++ u ∷ []) = subst (λ q. HasFirst state found (q ++ u ∷ [])) at (turn_first found (edge j u there.0) (h.are_turns (edge j u there.0) there.1)) in
-                let same = on.state_alike before.first p u (on.more before.first u (h.are_orders before.first before.is_found) can_u) is before.same in
-                record {
-                  first = goes.first;
-                  is_found = goes.is_found;
-                  same = goes.same ∙ same;
-                  no_later = no_later_trans goes.first (before.first ++ u ∷ []) (p ++ u ∷ []) goes.no_later (no_later_push before.first p u before.no_later);
-                }
+                subst (λ q. HasFirst state found q ⊎ IsLater found i q) (sym end.is)
+                (one_more end.front end.last (by n end.front (omega arith) (on.front end.front end.last here)) here)
+          ]
+
+  -- AT THE END
+
+  module _ (found : List (List ℕ)) (es : List Edge) (i : ℕ) (through : length found ≤ i) (h : Under found es i 0) where
+    -- each order has a first order that leads to the same state
+    pub all_found : (o : List ℕ) → IsOrder o → HasFirst state found o
+    all_found o is = ⊎_elim (λ first. first) (λ later. absurd (let low = later.on_the_way in omega arith)) (found_or_later found es i h o is)
 
     -- WAYS FROM PLACE TO PLACE
 

@@ -80,20 +80,18 @@ module _ (m : Meeting) where
     begins : found.orders ≡ [] ∷ []
     begins = ap (λ (f : FoundOrders ℕ). f.orders) is
 
-    pub at_first : (s : given.Search) → s.found ≡ found → s.edges.items ≡ [] → IsNumberOf m s.numbers (history_of m []) n → AreSeen m s.numbers.contents s.seen → length found.orders ≤ s.limit → IsAt m 0 0 s
-    at_first s found_is edges_are number seen few =
+    pub at_first : (s : given.Search) → s.found ≡ found → s.edges.items ≡ [] → IsNumberOf m s.numbers (history_of m []) n → AreSeen m s.numbers.contents s.seen → IsAt m 0 0 s
+    at_first s found_is edges_are number seen =
         let orders : s.found.orders ≡ [] ∷ [] = ap (λ (f : FoundOrders ℕ). f.orders) found_is ∙ begins in
         record {
           under_way = subst (λ os. Under os s.edges.items 0 0) (sym orders) (subst (λ es. Under ([] ∷ []) es 0 0) (sym edges_are) (at_beginning (IsOrder m) (can_follow m) (essence_of m) goes_on));
           known = subst (λ (f : FoundOrders ℕ). AreNumbered m s.numbers f.keys f.orders) (sym (found_is ∙ is)) (number, tt);
           seen = seen;
-          few = let long = ap (λ (f : FoundOrders ℕ). length f.orders) found_is in omega arith;
         }
 
-    pub over_first : (limit : ℕ) → limit < length found.orders → HasMoreStates m limit
-    over_first limit more =
-        let way = subst (λ os. Under os [] 0 0) (sym begins) (at_beginning (IsOrder m) (can_follow m) (essence_of m) goes_on) in
-        record { orders = found.orders; are_apart = record { are_orders = way.are_orders; apart = way.apart }; more = more }
+  -- there are more states than have to be
+  pub more_states : (i u limit : ℕ) (s : given.Search) → IsAt m i u s → limit < length s.found.orders → HasMoreStates m limit
+  more_states i u limit s at more = record { orders = s.found.orders; are_apart = record { are_orders = at.under_way.are_orders; apart = at.under_way.apart }; more = more }
 
   -- ONE MORE TURN
 
@@ -169,27 +167,19 @@ module _ (m : Meeting) where
             ]
 
         -- the search goes on
-        pub goes_further : (new : given.Search) → new.found ≡ found → new.edges.items ≡ with_turn k → new.numbers ≡ kept → AreSeen m new.numbers.contents new.seen → new.limit ≡ old.limit → length found.orders ≤ old.limit → Goes m i (u + 1) old new
-        goes_further new found_is edges_are numbers_is seen limit_is few =
+        pub goes_further : (new : given.Search) → new.found ≡ found → new.edges.items ≡ with_turn k → new.numbers ≡ kept → AreSeen m new.numbers.contents new.seen → Goes m i (u + 1) old new
+        goes_further new found_is edges_are numbers_is seen =
             let t = subst (λ (f : FoundOrders ℕ). Turned old.found f new.edges.items i (u + 1)) (sym found_is) (subst (λ es. Turned old.found found es i (u + 1)) (sym edges_are) has_turned) in
-            let long = ap (λ (f : FoundOrders ℕ). length f.orders) found_is in
             let numbered = subst (λ k. AreNumbered m k new.found.keys new.found.orders) (sym numbers_is) (subst (λ (f : FoundOrders ℕ). AreNumbered m kept f.keys f.orders) (sym found_is) still_numbered) in
-            record { at = record { under_way = t.way; known = numbered; seen = seen; few = omega arith }; more = t.more; kept = t.kept; limit_is = limit_is }
-
-        -- or there are more states than the limit
-        pub goes_over : old.limit < length found.orders → HasMoreStates m old.limit
-        goes_over more =
-            let way = has_turned.way in
-            record { orders = found.orders; are_apart = record { are_orders = way.are_orders; apart = way.apart }; more = more }
+            record { at = record { under_way = t.way; known = numbered; seen = seen }; more = t.more; kept = t.kept }
 
   -- FROM ONE UNIT TO THE NEXT
 
   pub stays : (s : given.Search) (i u : ℕ) (in_range : i < length s.found.orders) (at : IsAt m i u s) → can_follow m (get_or s.found.orders i []) u ≡ false → Goes m i (u + 1) s s
   stays s i u in_range at cannot = record {
-    at = record { under_way = no_turn (IsOrder m) (can_follow m) (essence_of m) goes_on s.found.orders s.edges.items i u in_range at.under_way cannot; known = at.known; seen = at.seen; few = at.few };
+    at = record { under_way = no_turn (IsOrder m) (can_follow m) (essence_of m) goes_on s.found.orders s.edges.items i u in_range at.under_way cannot; known = at.known; seen = at.seen };
     more = [];
     kept = sym (append-nil s.found.orders);
-    limit_is = refl;
   }
 
   pub goes_both : (i u v : ℕ) (a b c : given.Search) → Goes m i u a b → Goes m i v b c → Goes m i v a c
@@ -197,7 +187,6 @@ module _ (m : Meeting) where
     at = h.at;
     more = g.more ++ h.more;
     kept = h.kept ∙ ap (λ os. os ++ h.more) g.kept ∙ append_assoc a.found.orders g.more h.more;
-    limit_is = h.limit_is ∙ g.limit_is;
   }
 
   pub kept_range : (i j u : ℕ) (a b : given.Search) → Goes m i u a b → j < length a.found.orders → j < length b.found.orders
@@ -210,9 +199,7 @@ module _ (m : Meeting) where
       under_way = next_place (IsOrder m) (can_follow m) (essence_of m) goes_on b.found.orders b.edges.items i (length m.programs + 1) (kept_range i i (length m.programs + 1) a b g low) g.at.under_way (λ v le. cannot_beyond (get_or b.found.orders i []) v (omega arith));
       known = g.at.known;
       seen = g.at.seen;
-      few = g.at.few;
     };
     more = g.more;
     kept = g.kept;
-    limit_is = g.limit_is;
   }

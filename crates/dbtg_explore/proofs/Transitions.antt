@@ -11,6 +11,7 @@ use Rattle.dbtg_cells.specs.declared.name.CellName.{CellName}
 use Rattle.dbtg_cells.specs.declared.name.CellName.TheVariants.{Slot}
 use Rattle.dbtg_cells.proofs.Public.{get_set_other, get_set_same, there_is}
 use Rattle.dbtg_unit.specs.declared.statement.Statement.{Statement}
+use Rattle.dbtg_unit.specs.declared.unit.Answer.{Answer}
 use Rattle.dbtg_unit.specs.declared.unit.Entry.{Entry}
 use Rattle.dbtg_unit.specs.declared.unit.Unit.{Unit}
 use Rattle.dbtg_unit.specs.Database.State.Base.{Database}
@@ -21,7 +22,8 @@ use Rattle.dbtg_unit.specs.Database.Laws.Replay.{State, after, effect_of_unit}
 use Rattle.dbtg_unit.specs.Hands.Local.{holds}
 use Rattle.dbtg_unit.proofs.Public.{In}
 use Rattle.dbtg_program.specs.declared.program.Program.{Program}
-use Rattle.dbtg_program.specs.Going.{Due}
+use Rattle.dbtg_program.specs.Going.{Due, due}
+use Rattle.dbtg_program.specs.States.{ProgramState}
 use Rattle.dbtg_step.specs.Machine.SequentialDatabase.{unit_at, with_unit_at}
 use Rattle.dbtg_going.specs.Turns.{comes, statement_due}
 use Rattle.dbtg_states.specs.declared.transitions.Passage.{Passage}
@@ -34,14 +36,16 @@ use Rattle.dbtg_states.proofs.States.Units.{unit_is}
 use Rattle.dbtg_states.proofs.States.Leads.{WasSeen, follow_later, follows, looks_are, looks_later, said_before, same_cell_said, same_unit_said}
 use Rattle.dbtg_states.proofs.States.InHand.{held_in, in_held}
 use Rattle.dbtg_explore.specs.declared.next_state.Seen as given
+use Rattle.dbtg_explore.specs.Counted.{counted}
 use Rattle.dbtg_explore.specs.Orders.{IsMeeting, Meeting, due_of, history_of}
 use Rattle.dbtg_explore.specs.States.{MeetingState, sequential_after, state_of}
 use Rattle.dbtg_explore.specs.Versions.{unversioned, unversioned_entry, unversioned_unit}
 use Rattle.dbtg_explore.specs.Inside.Parts.{cell_part, kept_count, parts_of, unit_part}
 use Rattle.dbtg_explore.specs.Inside.Transitions.{AreKnown, AreSeen, IsKnown, IsPassage, IsTransition, KeepsAlone, SlotsStay}
-use Rattle.dbtg_explore.proofs.Alike.{IsDueOf, comes_at, comes_then, due_is, due_there, programs_then, state_of_on, with_made, with_outcome}
+use Rattle.dbtg_explore.proofs.Alike.{IsDueOf, comes_at, comes_same, comes_then, due_by as due_in_state, due_is, due_there, programs_then, state_of_on, with_made, with_outcome}
+use Rattle.dbtg_explore.proofs.Counted.{counted_due}
 use Rattle.dbtg_explore.proofs.Keyed.{due_fits, legal, of_due, units_count}
-use Rattle.dbtg_explore.proofs.Parts.{part_said, part_tells, said_of}
+use Rattle.dbtg_explore.proofs.Parts.{counted_there, part_counted, part_said, part_tells, said_of}
 use Rattle.dbtg_explore.proofs.Versions.Looked.{LeadAlike, leads_alike, tells}
 use Rattle.dbtg_explore.proofs.Versions.Same.{IsKept, got_in, got_mapped, history_kept}
 
@@ -196,7 +200,7 @@ module _ (m : Meeting) (determines : LookedAtDetermines) (is : IsMeeting m) (kep
       first_unit : (p : List ℕ) (v : Unit) → slice_get (state_of m p).sequential.units (u - 1) ≡ Some v → unit_at (unversioned (sequential_after m (history_of m p))).units u ≡ Some (unversioned_unit (state_of m p).sequential.database v)
       first_unit p v is = mapped_at (unversioned_unit (state_of m p).sequential.database) (state_of m p).sequential.units u ∙ ap (option_map (unversioned_unit (state_of m p).sequential.database)) (at_number (state_of m p).sequential.units u low ∙ is)
 
-      told : (comes m.schema its.program u h ≡ comes m.schema its.program u g) × (unit_at (unversioned (sequential_after m h)).units u ≡ unit_at (unversioned (sequential_after m g)).units u)
+      told : (counted its.program (comes m.schema its.program u h) ≡ counted its.program (comes m.schema its.program u g)) × (unit_at (unversioned (sequential_after m h)).units u ≡ unit_at (unversioned (sequential_after m g)).units u)
       told = part_tells m h g u its.program its.found (ap is_some (first_unit o unit stands)) (ap is_some (first_unit q own stands')) same_part
 
       same_unit : unversioned_unit (state_of m o).sequential.database unit ≡ unversioned_unit (state_of m q).sequential.database own
@@ -206,10 +210,19 @@ module _ (m : Meeting) (determines : LookedAtDetermines) (is : IsMeeting m) (kep
       due_by es = ap (option_and_then (λ (p : Program). statement_due m.schema (comes m.schema p u es))) its.found
 
       due' : due_of m g u ≡ Some x
-      due' = due_by g ∙ ap (statement_due m.schema) (sym told.0) ∙ sym (due_by h) ∙ passed.looks_at.due
+      due' =
+          due_by g
+          ∙ sym (counted_due m.schema its.program (comes m.schema its.program u g))
+          ∙ ap (statement_due m.schema) (sym told.0)
+          ∙ counted_due m.schema its.program (comes m.schema its.program u h)
+          ∙ sym (due_by h)
+          ∙ passed.looks_at.due
+
+      stands_there : (at : ProgramState) × (comes m.schema its.program u g ≡ due at x)
+      stands_there = due_in_state m (comes m.schema its.program u g) x (sym (due_by g) ∙ due')
 
       abbrev its' : IsDueOf m g u x
-      its' = record { program = its.program; found = its.found; at = its.at; comes_is = sym told.0 ∙ its.comes_is }
+      its' = record { program = its.program; found = its.found; at = stands_there.0; comes_is = stands_there.1 }
 
       once : IsReadyWith m.schema m.capacity (sequential_after m h).database unit x names
       once = passed.looks_at.looks_at.ready unit stands
@@ -239,9 +252,14 @@ module _ (m : Meeting) (determines : LookedAtDetermines) (is : IsMeeting m) (kep
       -- the parts that were looked at say the same after both
       part_then : unit_part m h' u ≡ unit_part m g' u
       part_then =
-          let dues = own_due m o u x unit low its stands passed.looks_at.due ∙ (λ i. Some (comes_then m.schema its.program (lead.answer i) (told.0 i))) ∙ sym (own_due m q u x own low its' stands' due') in
+          let goes = λ (answer : Answer) (es : List Entry). comes_then m.schema its.program answer (comes m.schema its.program u es) in
+          let same : counted its.program (goes done.answer h) ≡ counted its.program (goes done'.answer g)
+          = ap (λ answer. counted its.program (goes answer h)) lead.answer ∙ comes_same m.schema its.program done'.answer (comes m.schema its.program u h) (comes m.schema its.program u g) told.0 in
+          let dues =
+          counted_there m h' u its.program (goes done.answer h) its.found (own_due m o u x unit low its stands passed.looks_at.due) ∙ ap Some same
+          ∙ sym (counted_there m g' u its.program (goes done'.answer g) its.found (own_due m q u x own low its' stands' due')) in
           let units = own_unit m o u x unit low its stands passed.looks_at.due ∙ ap Some lead.unit ∙ sym (own_unit m q u x own low its' stands' due') in
-          part_said m h' u ∙ (λ i. said_of m (dues i) (units i)) ∙ sym (part_said m g' u)
+          part_counted m h' u ∙ (λ i. said_of m u (dues i) (units i)) ∙ sym (part_counted m g' u)
 
       cell_same_then : (c : CellName) → In c names → cell_part m h' c ≡ cell_part m g' c
       cell_same_then c there = cell_then m o u x unit low its stands passed.looks_at.due c ∙ lead.held c (named_held c there) ∙ sym (cell_then m q u x own low its' stands' due' c)
@@ -266,7 +284,7 @@ module _ (m : Meeting) (determines : LookedAtDetermines) (is : IsMeeting m) (kep
           let dues = other_due m q u x own low its' stands' due' v apart in
           let units : unit_at (unversioned (sequential_after m g')).units v ≡ unit_at (unversioned (sequential_after m g)).units v
           = other_unit m q u x own low its' stands' due' v apart ∙ by (unit_at (state_of m q).sequential.units v) refl ∙ sym (mapped_at (unversioned_unit (state_of m q).sequential.database) (state_of m q).sequential.units v) in
-          part_said m g' v ∙ (λ i. said_of m (dues i) (units i)) ∙ sym (part_said m g v) where
+          part_said m g' v ∙ (λ i. said_of m v (dues i) (units i)) ∙ sym (part_said m g v) where
             by : (r : Option Unit) → unit_at (state_of m q).sequential.units v ≡ r → option_map (unversioned_unit done'.database) r ≡ option_map (unversioned_unit (state_of m q).sequential.database) r
             by None e = refl
             by (Some w) e = ap Some (stays_as_kept v apart w e)

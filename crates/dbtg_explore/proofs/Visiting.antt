@@ -13,17 +13,20 @@ use Rattle.dbtg_explore.specs.declared.explored.Failure.{Failure}
 use Rattle.dbtg_explore.specs.declared.search.Search as search
 use Rattle.dbtg_explore.specs.Explored.{IsExplored, IsFirstEndless}
 use Rattle.dbtg_explore.specs.Inside.Ends.{AreEndsOf, FailsIn, IsBehind, Notes}
-use Rattle.dbtg_explore.specs.Inside.Walks.{failure_by}
+use Rattle.dbtg_explore.specs.Inside.Found.{orders_at}
+use Rattle.dbtg_explore.specs.Inside.Walks.{failure_by, failure_in}
 use Rattle.dbtg_explore.specs.Inside.Search.{HasFirst}
 use Rattle.dbtg_explore.specs.Inside.Steps.{Goes, IsAt, can_follow}
 use Rattle.dbtg_explore.specs.Inside.Visits.{HasVisited, IsThrough, IsVisited}
 use Rattle.dbtg_explore.specs.Orders.{IsBefore, IsEnd, IsOrder, Meeting, history_of}
 use Rattle.dbtg_explore.specs.Pairwise.{ArePairwise}
 use Rattle.dbtg_explore.specs.Results.{AreFailures, AreResults, is_failure}
-use Rattle.dbtg_explore.specs.States.{CountsStates, Essence, MeetingState, essence_of, state_of}
+use Rattle.dbtg_explore.specs.States.{CountsStates, Essence, MeetingState, essence, essence_of, state_of}
 use Rattle.dbtg_explore.proofs.Alike.{can_go_on_alike}
 use Rattle.dbtg_explore.proofs.Before.{no_later_trans}
+use Rattle.dbtg_explore.proofs.Counted.{counted_failure, counted_says}
 use Rattle.dbtg_explore.proofs.Keyed.{same_text}
+use Rattle.dbtg_explore.proofs.Noting.{ends_later}
 use Rattle.dbtg_explore.proofs.Searched.{all_found, in_order_at}
 use Rattle.dbtg_explore.proofs.Steps.{goes_on, kept_range}
 
@@ -35,31 +38,35 @@ is_behind os i in_order low p c =
     let at : get_or os c.0 [] ≡ p = sym (get_or-take i os c.0 [] (omega arith)) ∙ get_or_default (take i os) c.0 [] p c.1 ∙ c.2 in
     subst (λ q. IsBefore q (get_or os i [])) at (in_order_at os c.0 i in_order (omega arith) low)
 
--- the states before place i are visited, and there are no more than the limit
+-- the states before place i are visited, which are no more than the limit
 pub record IsOnTheWay (m : Meeting) (limit i : ℕ) (s : search.Search) (e : ends.Ends) : Type 0 where
   pub visited : IsVisited m i s e
-  pub limit_is : s.limit ≡ limit
+  pub few : i ≤ limit
   pub within : i ≤ length s.found.orders
 
 module _ (m : Meeting) where
   -- one more state
-  pub visited_more : (i : ℕ) (old new : search.Search) (before after : ends.Ends) (o : List ℕ) → i < length old.found.orders → IsVisited m i old before → Goes m (i + 1) 0 old new → o ≡ get_or old.found.orders i [] → Notes m o before after → HasVisited m i old new after
+  pub visited_more : (i : ℕ) (old new : search.Search) (before after : ends.Ends) (o : List ℕ) → i < length old.found.orders → IsVisited m i old before → Goes m (i + 1) 0 old new → o ≡ get_or old.found.orders i [] → Notes m old.found.orders o before after → HasVisited m i new after
   visited_more i old new before after o low visited goes here notes =
       let behind = subst (IsBehind (take i old.found.orders)) (sym here) (is_behind old.found.orders i visited.at.under_way.in_order low) in
       let noted = notes (take i old.found.orders) behind visited.ends in
       let longer : take (i + 1) old.found.orders ≡ take i old.found.orders ++ o ∷ [] = take_more old.found.orders i [] low ∙ ap (λ (p : List ℕ). take i old.found.orders ++ p ∷ []) (sym here) in
       let kept : take (i + 1) new.found.orders ≡ take (i + 1) old.found.orders = ap (take (i + 1)) goes.kept ∙ take-append-le (i + 1) old.found.orders goes.more (omega arith) in
       record {
-        visited = record { at = goes.at; ends = subst (λ os. AreEndsOf m os after) (sym (kept ∙ longer)) noted };
+        visited = record {
+          at = goes.at;
+          ends =
+              subst (λ os. AreEndsOf m os (take (i + 1) new.found.orders) after) (sym goes.kept)
+              (ends_later m old.found.orders goes.more (take (i + 1) new.found.orders) after (subst (λ os. AreEndsOf m old.found.orders os after) (sym (kept ∙ longer)) noted));
+        };
         within = kept_range m (i + 1) i 0 old new goes low;
-        limit_is = goes.limit_is;
       }
 
-  pub on_the_way : (limit : ℕ) (s : search.Search) (e : ends.Ends) → IsAt m 0 0 s → s.limit ≡ limit → AreEndsOf m [] e → IsOnTheWay m limit 0 s e
-  on_the_way limit s e at limit_is none = record { visited = record { at = at; ends = none }; limit_is = limit_is; within = omega arith }
+  pub on_the_way : (limit : ℕ) (s : search.Search) (e : ends.Ends) → IsAt m 0 0 s → AreEndsOf m s.found.orders [] e → IsOnTheWay m limit 0 s e
+  on_the_way limit s e at none = record { visited = record { at = at; ends = none }; few = omega arith; within = omega arith }
 
-  pub one_on_the_way : (limit i : ℕ) (old new : search.Search) (before after : ends.Ends) → IsOnTheWay m limit i old before → HasVisited m i old new after → IsOnTheWay m limit (i + 1) new after
-  one_on_the_way limit i old new before after way h = record { visited = h.visited; limit_is = h.limit_is ∙ way.limit_is; within = let low = h.within in omega arith }
+  pub one_on_the_way : (limit i : ℕ) (s : search.Search) (e : ends.Ends) → i < limit → HasVisited m i s e → IsOnTheWay m limit (i + 1) s e
+  one_on_the_way limit i s e below h = record { visited = h.visited; few = omega (arith, below); within = let low = h.within in omega arith }
 
   -- WHEN ALL ARE VISITED
 
@@ -85,12 +92,19 @@ module _ (m : Meeting) where
   fails_there : (state : MeetingState) (f : Failure) (at : ProgramState) → unit_at state.programs f.unit ≡ Some (ended at f.how) → is_failure f.how ≡ true → FailsIn state f
   fails_there state f at there fails = ap (option_and_then failure_by) there ∙ ap (λ (b : Bool). if b then Some f.how else None) fails
 
+  -- states with the same essence have the same failures
+  fails_alike : (x y : MeetingState) (f : Failure) → essence m x ≡ essence m y → failure_in x f.unit ≡ failure_in y f.unit
+  fails_alike x y f e =
+      sym (counted_says failure_by counted_failure m.programs x.programs f.unit)
+      ∙ ap (λ (s : Essence). option_and_then failure_by (unit_at s.programs f.unit)) e
+      ∙ counted_says failure_by counted_failure m.programs y.programs f.unit
+
   module _ (limit : ℕ) (s : search.Search) (e : ends.Ends) (through : IsThrough m limit s e) where
     seen : take (length s.found.orders) s.found.orders ≡ s.found.orders
     seen = take_all (length s.found.orders) s.found.orders (omega arith)
 
-    noted : AreEndsOf m s.found.orders e
-    noted = subst (λ os. AreEndsOf m os e) seen through.visited.ends
+    noted : AreEndsOf m s.found.orders s.found.orders e
+    noted = subst (λ os. AreEndsOf m s.found.orders os e) seen through.visited.ends
 
     first_of : (o : List ℕ) → IsOrder m o → HasFirst (essence_of m) s.found.orders o
     first_of = all_found (IsOrder m) (can_follow m) (essence_of m) (goes_on m) s.found.orders s.edges.items (length s.found.orders) (omega arith) through.visited.at.under_way
@@ -103,7 +117,7 @@ module _ (m : Meeting) where
       count = refl;
     }
 
-    pub are_results : AreResults m e.results.orders
+    pub are_results : AreResults m (orders_at s.found.orders e.results.places)
     are_results =
         let results = noted.results.firsts in
         record {
@@ -130,12 +144,12 @@ module _ (m : Meeting) where
               record { order = at.0; is_order = through.visited.at.under_way.are_orders at.0 at.1; state = failed.at; ended_is = failed.ended_is; is_failure_is = failed.is_failure_is };
           all = λ f fails.
               let first = first_of fails.order fails.is_order in
-              failures.all f first.first first.is_found (subst (λ (s : Essence). option_and_then failure_by (unit_at s.programs f.unit) ≡ Some f.how) (sym first.same) (fails_there (state_of m fails.order) f fails.state fails.ended_is fails.is_failure_is));
+              failures.all f first.first first.is_found (fails_alike (state_of m first.first) (state_of m fails.order) f first.same ∙ fails_there (state_of m fails.order) f fails.state fails.ended_is fails.is_failure_is);
           in_order = failures.in_order;
         }
 
     -- so everything is explored, except for ways round
-    pub is_explored : (all : given.Explored) → all.states ≡ length s.found.orders → all.results ≡ e.results.orders → all.failures ≡ e.failures.items → IsFirstEndless m all.endless → IsExplored m all
+    pub is_explored : (all : given.Explored) → all.states ≡ length s.found.orders → all.results ≡ orders_at s.found.orders e.results.places → all.failures ≡ e.failures.items → IsFirstEndless m all.endless → IsExplored m all
     is_explored all states_are results_are failures_are endless = record {
       states = subst (CountsStates m) (sym states_are) counts;
       results = subst (AreResults m) (sym results_are) are_results;

@@ -1,7 +1,8 @@
 -- A walk: where it stands after turns are taken, and taken back.
 -- m is a meeting, u a unit, t a turn that was taken, ts are turns, w is a walk, o an order.
-use Rattle.std.proofs.Common.{◌≡◌, refl, sym, ◌∙◌, ap, subst, ℕ, ◌+◌, ◌-◌, ◌<◌, ◌≤◌, true, false, List, [], ◌∷◌, ◌++◌, length, length-append, get_or, take, drop, take-append-drop, append-nil, append_assoc, Option, Some, None, arith, true≢false}
+use Rattle.std.proofs.Common.{◌≡◌, refl, sym, ◌∙◌, ap, subst, ℕ, ◌+◌, ◌-◌, ◌<◌, ◌≤◌, Bool, true, false, List, [], ◌∷◌, ◌++◌, length, length-append, get_or, take, drop, take-append-drop, append-nil, append_assoc, Option, Some, None, arith, true≢false}
 use Rattle.std.specs.List.{take-map}
+use Rattle.std.specs.Vec.{Vec}
 use Rattle.std.proofs.lemmas.List.{length-take-le, map_push, take-append-le, take-take, take_all, take_more}
 use Rattle.dbtg_unit.specs.declared.unit.Entry.{Entry}
 use Rattle.dbtg_unit.specs.Database.Laws.Replay.{entries_of}
@@ -16,8 +17,11 @@ use Rattle.dbtg_going.proofs.Turning.{one_less}
 use Rattle.dbtg_explore.specs.declared.walk.Taken.{Taken}
 use Rattle.dbtg_explore.specs.declared.walk.Walk.{Walk}
 use Rattle.dbtg_explore.specs.Orders.{CanFollow, IsOrder, Meeting, after_order, after_turn, beginning, can_turn, history_of}
-use Rattle.dbtg_explore.specs.Inside.Walks.{AreStanding, AreTaken, HasTurned, IsTaken, Stands, StandsAt, order_of}
+use Rattle.dbtg_explore.specs.declared.way.Way.{Way}
+use Rattle.dbtg_explore.specs.Inside.Links.{GoOn, IsWay, units_of}
+use Rattle.dbtg_explore.specs.Inside.Walks.{AreStanding, AreTaken, HasTurned, IsTaken, KnowsReads, Stands, StandsAmong, StandsAt, links_of, order_of}
 use Rattle.dbtg_explore.proofs.Placed.{has_number}
+use Rattle.dbtg_explore.proofs.Ways.{first_links, go_first, taken_on, units_are}
 use Rattle.dbtg_explore.proofs.Turning.{first_can, follow_front, follow_rest, history_on, no_turn, none_follow, order_behind, order_on}
 
 -- some elements from the beginning of all, without the last of them
@@ -72,8 +76,15 @@ module _ (m : Meeting) where
   pub stands : (o : List ℕ) (w : Walk) → StandsAt m o w → Stands m w
   stands o w h = subst (λ p. StandsAt m p w) (sym h.order_is) h
 
-  pub stands_first : (database : Making) (goings : List Going) (w : Walk) → AreAfter m.schema m.capacity m.programs m.begun database goings → w.database ≡ record { making = database; stays = length database.history } → w.goings.items ≡ goings → w.turns.items ≡ [] → StandsAt m [] w
-  stands_first database goings w a d g none =
+  -- no turn is taken
+  pub among_first : (os : List (List ℕ)) (w : Walk) → StandsAt m [] w → StandsAmong m os w
+  among_first os w h = record { stands = stands [] w h; go_on = none w.turns.items h.order_is } where
+    none : (ts : List Taken) → order_of ts ≡ [] → GoOn os [] (links_of ts)
+    none [] is = tt
+    none (t ∷ ts) is = absurd (cc (is))
+
+  pub stands_first : (database : Making) (goings : List Going) (w : Walk) → AreAfter m.schema m.capacity m.programs m.begun database goings → w.database ≡ record { making = database; stays = length database.history } → w.goings.items ≡ goings → w.turns.items ≡ [] → KnowsReads m w → StandsAt m [] w
+  stands_first database goings w a d g none knows =
       let history : database.history ≡ beginning m = ap (λ (n : Making). n.history) a.database_is in
       let making : w.database.making ≡ database = ap (λ (r : Reversible). r.making) d in
       let standing : AreStanding m database goings = record {
@@ -87,6 +98,7 @@ module _ (m : Meeting) where
         order_is = ap order_of none;
         are_taken = subst (AreTaken m (beginning m)) (sym none) (none_taken (beginning m));
         stays_are = ap (λ (r : Reversible). r.stays) d ∙ ap (λ (es : List Entry). length es) history;
+        knows = knows;
       }
 
   -- the history before a turn
@@ -105,11 +117,11 @@ module _ (m : Meeting) where
       omega (arith, long, most, history, g.stays_are)
 
   -- one turn more
-  pub stands_on : (u : ℕ) (old new : Walk) (before : Going) → Stands m old → can_turn m old.database.making.history u ≡ true → HasTurned m u old.database.making new.database.making new.goings.items → new.database.stays ≡ old.database.stays
-      → unit_at old.goings.items u ≡ Some before → new.turns.items ≡ old.turns.items ++ record { unit = u; before = before } ∷ [] → StandsAt m (order_of old.turns.items ++ u ∷ []) new
-  stands_on u old new before h can turned stays found pushed =
+  pub stands_on : (place u : ℕ) (old new : Walk) (before : Going) → Stands m old → can_turn m old.database.making.history u ≡ true → HasTurned m u old.database.making new.database.making new.goings.items → new.database.stays ≡ old.database.stays
+      → unit_at old.goings.items u ≡ Some before → new.turns.items ≡ old.turns.items ++ record { place = place; unit = u; before = before } ∷ [] → new.reads ≡ old.reads → StandsAt m (order_of old.turns.items ++ u ∷ []) new
+  stands_on place u old new before h can turned stays found pushed reads =
       let order = order_of old.turns.items in
-      let t : Taken = record { unit = u; before = before } in
+      let t : Taken = record { place = place; unit = u; before = before } in
       let could : can_turn m (history_of m order) u ≡ true = ap (λ (es : List Entry). can_turn m es u) (sym h.history_is) ∙ can in
       let going : (program : Program) → unit_at m.programs u ≡ Some program → IsGoing m.schema program (entries_of u old.database.making.history) before = λ program is.
       let there = h.is_place.are_going.each u program is in
@@ -129,6 +141,7 @@ module _ (m : Meeting) where
         order_is = ap order_of pushed ∙ map_push (λ (x : Taken). x.unit) old.turns.items t;
         are_taken = subst (AreTaken m (beginning m)) (sym pushed) (taken_both (beginning m) old.turns.items (t ∷ []) h.are_taken (one_taken (history_of m order) t (subst (λ (es : List Entry). IsTaken m es t) h.history_is taken)));
         stays_are = stays ∙ h.stays_are;
+        knows = ap (λ (r : Vec (List Bool)). r.items) reads ∙ h.knows;
       }
 
   -- turns one after another
@@ -194,8 +207,8 @@ module _ (m : Meeting) where
           above = omega (arith, long, most, h.stays_are);
         }
 
-    pub stands_back : (new : Walk) → new.turns.items ≡ ts → new.database ≡ record w.database { making = made_first (length w.database.making.history - 1) w.database.making } → new.goings.items ≡ with_unit_at w.goings.items t.unit t.before → Stands m new
-    stands_back new turns database goings =
+    pub stands_back : (new : Walk) → new.turns.items ≡ ts → new.database ≡ record w.database { making = made_first (length w.database.making.history - 1) w.database.making } → new.goings.items ≡ with_unit_at w.goings.items t.unit t.before → new.reads ≡ w.reads → Stands m new
+    stands_back new turns database goings reads =
         let history = history_of m (order_of ts) in
         let making : new.database.making ≡ made_first (length w.database.making.history - 1) w.database.making = ap (λ (r : Reversible). r.making) database in
         let count : length w.database.making.history - 1 ≡ length history = omega (arith, long) in
@@ -218,19 +231,34 @@ module _ (m : Meeting) where
           order_is = refl;
           are_taken = subst (AreTaken m (beginning m)) (sym turns) front;
           stays_are = ap (λ (r : Reversible). r.stays) database ∙ h.stays_are;
+          knows = ap (λ (r : Vec (List Bool)). r.items) reads ∙ h.knows;
         }
 
   -- FROM ONE ORDER TO ANOTHER
 
-  -- what an order has behind the turns that are left can follow them
-  pub rest_follows : (o : List ℕ) (k : ℕ) (w : Walk) → IsOrder m o → Stands m w → order_of w.turns.items ≡ take k o → CanFollow m w.database.making.history (drop k o)
-  rest_follows o k w is h shared =
-      let there : w.database.making.history ≡ after_order m (beginning m) (take k o) = h.history_is ∙ ap (history_of m) shared in
-      subst (λ (es : List Entry). CanFollow m es (drop k o)) (sym there) (follow_rest m (beginning m) (take k o) (drop k o) (subst (CanFollow m (beginning m)) (sym (take-append-drop k o)) is))
+  -- what an order has behind the turns of a walk can follow them
+  pub rest_follows : (o us : List ℕ) (w : Walk) → IsOrder m o → Stands m w → order_of w.turns.items ++ us ≡ o → CanFollow m w.database.making.history us
+  rest_follows o us w is h parts =
+      subst (λ (es : List Entry). CanFollow m es us) (sym h.history_is) (follow_rest m (beginning m) (order_of w.turns.items) us (subst (CanFollow m (beginning m)) (sym parts) is))
 
-  -- both begin with these turns
-  pub shared_turns : (o : List ℕ) (k : ℕ) (old new : List Taken) → take k (order_of old) ≡ take k o → new ≡ take k old → order_of new ≡ take k o
-  shared_turns o k old new same back = ap order_of back ∙ sym (take-map (λ (t : Taken). t.unit) k old) ∙ same
+  -- the turns that stay of a way, and those behind them
+  module _ (os : List (List ℕ)) (place : ℕ) (way : Way) (old mid new : Walk) (is : IsWay os (links_of old.turns.items) place way) (stay : mid.turns.items ≡ take way.stay old.turns.items) where
+    stay_links : links_of mid.turns.items ≡ take way.stay (links_of old.turns.items)
+    stay_links = first_links way.stay old.turns.items mid.turns.items stay
 
-  pub arrives : (o : List ℕ) (k : ℕ) (mid new : Walk) → order_of mid.turns.items ≡ take k o → StandsAt m (order_of mid.turns.items ++ drop k o) new → StandsAt m o new
-  arrives o k mid new shared h = subst (λ p. StandsAt m p new) (ap (λ p. p ++ drop k o) shared ∙ take-append-drop k o) h
+    stay_units : order_of mid.turns.items ≡ units_of (take way.stay (links_of old.turns.items))
+    stay_units = sym (units_are mid.turns.items) ∙ ap units_of stay_links
+
+    pub whole_way : order_of mid.turns.items ++ units_of way.turns.items ≡ get_or os place []
+    whole_way = ap (λ o. o ++ units_of way.turns.items) stay_units ∙ is.order_is
+
+    pub arrives : StandsAt m (order_of mid.turns.items ++ units_of way.turns.items) new → StandsAt m (get_or os place []) new
+    arrives h = subst (λ p. StandsAt m p new) whole_way h
+
+    pub arrives_among : StandsAmong m os old → StandsAt m (order_of mid.turns.items ++ units_of way.turns.items) new → links_of new.turns.items ≡ links_of mid.turns.items ++ way.turns.items → StandsAmong m os new
+    arrives_among among h more =
+        let front = subst (GoOn os []) (sym stay_links) (go_first os [] (links_of old.turns.items) way.stay among.go_on) in
+        record {
+          stands = stands (order_of mid.turns.items ++ units_of way.turns.items) new h;
+          go_on = taken_on os mid.turns.items new.turns.items way.turns.items front (subst (λ o. GoOn os o way.turns.items) (sym stay_units) is.go_on) more;
+        }

@@ -14,3 +14,4 @@ pub mod Transitions
 pub mod Versions
 pub mod Visits
 pub mod Walks
+pub mod Wishes

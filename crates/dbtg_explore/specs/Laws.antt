@@ -1,13 +1,14 @@
 -- The laws of runs and orders: every run in which programs come to their ends is one of the results, a run of the machine of events and
--- one by turns; and programs can go on for ever where there is a way round.
+-- one by turns; states of the same essence go on alike; and programs can go on for ever where there is a way round.
 -- m is a meeting, u a unit.
-use Rattle.std.specs.Prelude.{ℕ, ◌≡◌, ◌≤◌, true, false, List, [], ◌∷◌, ◌++◌, Some, map, length}
+use Rattle.std.specs.Prelude.{ℕ, ◌≡◌, ◌≤◌, true, false, List, [], ◌∷◌, ◌++◌, Option, Some, map, length, option_and_then, option_map}
 use Rattle.std.specs.List.{range_with_len}
 use Rattle.dbtg_script.specs.Printing.Texts.{run_text}
 use Rattle.dbtg_unit.specs.declared.moves.Move.{Move}
 use Rattle.dbtg_unit.specs.declared.statement.Statement.{Statement}
+use Rattle.dbtg_unit.specs.declared.unit.Answer.{Answer}
 use Rattle.dbtg_unit.specs.declared.unit.Entry.{Entry}
-use Rattle.dbtg_unit.specs.Database.Laws.Replay.{entries_of}
+use Rattle.dbtg_unit.specs.Database.Laws.Replay.{effect_of_unit, entries_of}
 use Rattle.dbtg_program.specs.declared.program.Program.{Program}
 use Rattle.dbtg_program.specs.Going.{AreOf}
 use Rattle.dbtg_step.specs.declared.results.Run.{Run}
@@ -21,9 +22,9 @@ use Rattle.dbtg_going.specs.Turns.{IsRunOf, after_turns, turns_before, turns_of}
 use Rattle.dbtg_states.specs.Users.{by_unit}
 use Rattle.dbtg_explore.specs.declared.explored.Endless.{Endless}
 use Rattle.dbtg_explore.specs.Explored.{IsEndless}
-use Rattle.dbtg_explore.specs.Orders.{IsEnd, IsOrder, Meeting, beginning, can_go_on, can_turn, history_of, waits}
+use Rattle.dbtg_explore.specs.Orders.{IsEnd, IsOrder, Meeting, after_order, beginning, can_go_on, can_turn, due_of, history_of, waits}
 use Rattle.dbtg_explore.specs.Results.{reached_of, state_text}
-use Rattle.dbtg_explore.specs.States.{CountsStates, state_after, state_of}
+use Rattle.dbtg_explore.specs.States.{CountsStates, essence, sequential_after, state_after, state_of, without_versions}
 
 -- the statements of a history are those of the programs, each to its end: it begins like the meeting; the entries of each unit belong to
 -- its program; the last program makes none after that as long as it has to wait; and at the end no program can go on
@@ -64,6 +65,27 @@ pub record RunsToItsEnd (m : Meeting) (around : Around) (told turns : List ℕ) 
 -- whatever the turns
 abbrev pub EveryRunByTurnsComesOut : Meeting → Type 0
 EveryRunByTurnsComesOut m = (around : Around) (told turns : List ℕ) (given : ProgramRun) → RunsToItsEnd m around told turns given → ComesOut m given.run
+
+-- WHAT DOES NOT COUNT
+
+-- the answer that the statement due in the program of unit u gets after a history
+abbrev pub answer_of : Meeting → List Entry → ℕ → Option Answer
+answer_of m history u = option_and_then (λ s. option_map (λ o. o.answer) (effect_of_unit m.schema m.capacity (sequential_after m history) u s)) (due_of m history u)
+
+-- after both histories the same units can have their turn, make the same statement, and get the same answer; the states have the same essence,
+-- and are printed alike but for versions
+pub record StandAlike (m : Meeting) (history other : List Entry) : Type 0 where
+  pub turns : (u : ℕ) → can_turn m history u ≡ can_turn m other u
+  pub statements : (u : ℕ) → due_of m history u ≡ due_of m other u
+  pub answers : (u : ℕ) → answer_of m history u ≡ answer_of m other u
+  pub alike : essence m (state_after m history) ≡ essence m (state_after m other)
+  pub text : state_text m (without_versions (state_after m history)) ≡ state_text m (without_versions (state_after m other))
+
+-- after histories whose states have the same essence so it is, and stays so whatever turns follow
+abbrev pub EssenceIsAll : Meeting → Type 0
+EssenceIsAll m =
+    (history other : List Entry) (turns : List ℕ) → essence m (state_after m history) ≡ essence m (state_after m other)
+    → StandAlike m (after_order m history turns) (after_order m other turns)
 
 -- FOR EVER
 

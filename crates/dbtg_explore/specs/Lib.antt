@@ -1,3 +1,4 @@
+pub mod Counted
 pub mod Explored
 pub mod Laws
 pub mod Orders
@@ -5,4 +6,5 @@ pub mod Pairwise
 pub mod Results
 pub mod States
 pub mod Versions
+pub mod Wishes
 pub mod Inside

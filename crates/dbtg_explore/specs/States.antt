@@ -1,5 +1,6 @@
--- Where a meeting is. Two states count as one if they agree in everything that later statements depend on: in all but the order in which
--- units opened an area, and the versions of records. Of these it counts only whether a record still has the version that a unit keeps of it.
+-- Where a meeting is. Two states count as one if they agree in everything that later statements depend on, and that is printed: in all but
+-- the order in which units opened an area, what does not count of programs, and the versions of records. Of these it counts only whether a
+-- record still has the version that a unit keeps of it.
 -- m is a meeting, u a unit, o and p are orders.
 use Rattle.std.specs.Prelude.{ℕ, ◌≡◌, ◌+◌, ◌<◌, List, [], ◌∷◌, Contains, length}
 use Rattle.dbtg_unit.specs.declared.unit.Entry.{Entry}
@@ -8,6 +9,7 @@ use Rattle.dbtg_program.specs.declared.program.Program.{Program}
 use Rattle.dbtg_program.specs.Going.{Due}
 use Rattle.dbtg_going.specs.Turns.{comes}
 use Rattle.dbtg_states.specs.Alike.{Unordered}
+use Rattle.dbtg_explore.specs.Counted.{counted_each}
 use Rattle.dbtg_explore.specs.Orders.{IsOrder, Meeting, history_of}
 use Rattle.dbtg_explore.specs.Pairwise.{ArePairwise}
 use Rattle.dbtg_explore.specs.Versions.{essential, unversioned}
@@ -40,17 +42,17 @@ state_of m order = state_after m (history_of m order)
 abbrev pub without_versions : MeetingState → MeetingState
 without_versions state = record { sequential = unversioned state.sequential; programs = state.programs }
 
--- a state without versions, and without the order in which units opened an area
+-- a state without versions, and without the order in which units opened an area; and what counts of the programs
 pub record Essence : Type 0 where
   pub sequential : Unordered
   pub programs : List Due
 
-abbrev pub essence : MeetingState → Essence
-essence state = record { sequential = essential state.sequential; programs = state.programs }
+abbrev pub essence : Meeting → MeetingState → Essence
+essence m state = record { sequential = essential state.sequential; programs = counted_each m.programs state.programs }
 
 -- the essence of the state after an order
 abbrev pub essence_of : Meeting → List ℕ → Essence
-essence_of m order = essence (state_of m order)
+essence_of m order = essence m (state_of m order)
 
 -- HOW MANY THERE ARE
 

@@ -1,15 +1,17 @@
 //! What is noted of the states that a search finds: the results, told apart by their texts, and the failures.
 
-ghost use Rattle.dbtg_explore.specs.Inside.Ends.{AreEndsOf, FailsIn, FailsSo, NotesResult};
+ghost use Rattle.dbtg_explore.specs.Inside.Ends.{AreEndsOf, FailsIn, FailsSo};
 ghost use Rattle.dbtg_explore.specs.Inside.Failures.{Take};
+ghost use Rattle.dbtg_explore.specs.Inside.Found.{IsEnteredAt};
 ghost use Rattle.dbtg_explore.specs.Inside.Parts.{IsNumberOf};
 ghost use Rattle.dbtg_explore.specs.Inside.Standing.{fails_in};
-ghost use Rattle.dbtg_explore.specs.Inside.Walks.{StandsAt};
-ghost use Rattle.dbtg_explore.specs.Orders.{IsMeeting, Meeting as MeetingOfPrograms, can_go_on, history_of};
-ghost use Rattle.dbtg_explore.specs.States.{state_after};
+ghost use Rattle.dbtg_explore.specs.Inside.Walks.{IsPlace};
+ghost use Rattle.dbtg_explore.specs.Orders.{IsMeeting, Meeting as MeetingOfPrograms};
+ghost use Rattle.dbtg_explore.specs.Results.{state_text};
+ghost use Rattle.dbtg_explore.specs.States.{state_after, without_versions};
 ghost use Rattle.dbtg_interned.specs.Arrays.{IsArray};
 ghost use Rattle.dbtg_unit.specs.declared.unit.Entry.{Entry};
-ghost use Rattle.std.specs.Prelude.{◌≡◌, ◌<◌, ℕ, List, [], false, OnOk};
+ghost use Rattle.std.specs.Prelude.{◌≡◌, ◌<◌, ℕ, List, [], OnOk};
 
 use crate::explored::Failure;
 use crate::failures::enter_failure;
@@ -17,11 +19,10 @@ use crate::found::Found;
 use crate::meeting::Meeting;
 use crate::standing::failure;
 use crate::walk::Walk;
-use dbtg_schema::Row;
-use dbtg_states::{Numbers, as_numbers};
+use dbtg_states::Numbers;
 use std::alloc::{AllocError, Global};
 
-/// The first order to each result, and the failures.
+/// The place of the first order to each result, and the failures.
 #[derive(Drop)]
 pub struct Ends {
     pub results: Found,
@@ -65,7 +66,7 @@ fn note_each_failure(
 impl Ends {
     /// Nothing noted.
     pub fn none(alloc: Global) -> Self
-        ensures { (m : MeetingOfPrograms) → AreEndsOf m [] result }
+        ensures { (m : MeetingOfPrograms) (os : List (List ℕ)) → AreEndsOf m os [] result }
     {
         Self {
             results: Found::none(alloc),
@@ -88,23 +89,20 @@ impl Ends {
         note_each_failure(meeting, &mut self.failures, numbers, state)
     }
 
-    /// Notes the order that leads there, where no program can go on.
+    /// Notes the place of the order that leads there, where no program can go on.
     pub fn note_result(
         &mut self,
         alloc: Global,
         meeting: &Meeting,
-        order: Row<u8>,
+        place: usize,
         here: &Walk,
     ) -> Result<(), AllocError>
         requires meeting { IsMeeting meeting.now }
-        requires here { StandsAt meeting.now order here.now }
-        requires end { (u : ℕ) → can_go_on meeting.now (history_of meeting.now order) u ≡ false }
-        ensures result { OnOk result (NotesResult meeting.now order self.old.results self.new.results) }
+        requires here { IsPlace meeting.now here.now }
+        ensures result { OnOk result (IsEnteredAt self.old.results (state_text meeting.now (without_versions (state_after meeting.now here.now.database.making.history))) place self.new.results) }
         ensures failures { OnOk result (self.new.failures.items ≡ self.old.failures.items) }
     {
         let text = meeting.text(alloc, here)?;
-        let key = as_numbers(alloc, text.as_slice())?;
-        self.results.enter(key, order)?;
-        Ok(())
+        self.results.enter(text, place)
     }
 }

@@ -3,7 +3,7 @@
 ghost use Rattle.dbtg_explore.specs.Explored.{IsExplored};
 ghost use Rattle.dbtg_explore.specs.Inside.Ends.{Notes};
 ghost use Rattle.dbtg_explore.specs.Inside.Visits.{HasVisited, IsThrough, IsVisited};
-ghost use Rattle.dbtg_explore.specs.Inside.Walks.{Stands, StandsAt};
+ghost use Rattle.dbtg_explore.specs.Inside.Walks.{StandsAmong, StandsAt};
 ghost use Rattle.dbtg_explore.specs.Orders.{IsMeeting};
 ghost use Rattle.dbtg_explore.specs.States.{HasMoreStates};
 ghost use Rattle.dbtg_states.specs.declared.stop.Stop.TheVariants.{States};
@@ -54,20 +54,19 @@ impl Search {
         place: usize,
     ) -> Result<(), AllocError>
         requires meeting { IsMeeting meeting.now }
-        requires stands { Stands meeting.now walk.old }
+        requires stands { StandsAmong meeting.now self.now.found.orders walk.old }
         requires visited { IsVisited meeting.now place self.now ends.old }
         requires within { place < length self.now.found.orders }
-        ensures stands { OnOk result (Stands meeting.now walk.new) }
-        ensures notes { OnOk result (Notes meeting.now (slice_index_or self.now.found.orders place []) ends.old ends.new) }
+        ensures stands { OnOk result (StandsAmong meeting.now self.now.found.orders walk.new) }
+        ensures notes { OnOk result (Notes meeting.now self.now.found.orders (slice_index_or self.now.found.orders place []) ends.old ends.new) }
     {
         let state = self.found.number(place);
         ends.note_failures(meeting, &self.numbers, state)?;
         if !meeting.is_at_end(&self.numbers, state) {
             return Ok(());
         }
-        let order = Row::of(self.found.order(alloc, place)?);
-        meeting.go_to(alloc, walk, order.as_slice())?;
-        ends.note_result(alloc, meeting, order, walk)
+        meeting.go_to(alloc, walk, &self.found, place)?;
+        ends.note_result(alloc, meeting, place, walk)
     }
 
     // The state to which the order at this place leads: notes its ends, and finds what can be next.
@@ -78,21 +77,20 @@ impl Search {
         walk: &mut Walk<'a>,
         ends: &mut Ends,
         place: usize,
-    ) -> Result<(), Stop>
+    ) -> Result<(), AllocError>
         requires meeting { IsMeeting meeting.now }
-        requires stands { Stands meeting.now walk.old }
+        requires stands { StandsAmong meeting.now self.old.found.orders walk.old }
         requires visited { IsVisited meeting.now place self.old ends.old }
         requires within { place < length self.old.found.orders }
-        ensures stands { OnOk result (Stands meeting.now walk.new) }
-        ensures visited { OnOk result (HasVisited meeting.now place self.old self.new ends.new) }
-        ensures stopped { IfErr result (λ stop. stop ≡ States → HasMoreStates meeting.now self.old.limit) }
+        ensures stands { OnOk result (StandsAmong meeting.now self.new.found.orders walk.new) }
+        ensures visited { OnOk result (HasVisited meeting.now place self.new ends.new) }
     {
         self.note(alloc, meeting, walk, ends, place)?;
         self.go_on(alloc, meeting, place, walk)
     }
 }
 
-// All states.
+// All states, if there are no more than the limit.
 fn visit_all<'a, W: Watch>(
     alloc: Global,
     watch: &W,
@@ -102,14 +100,16 @@ fn visit_all<'a, W: Watch>(
 ) -> Result<(Search, Ends), Stop>
     requires meeting { IsMeeting meeting.now }
     requires stands { StandsAt meeting.now [] walk.old }
-    ensures stands { OnOk result (Stands meeting.now walk.new) }
     ensures through { IfOk result (λ all. IsThrough meeting.now limit all.0 all.1) }
     ensures stopped { IfErr result (λ stop. stop ≡ States → HasMoreStates meeting.now limit) }
 {
-    let mut search = Search::begin(alloc, meeting, walk, limit)?;
+    let mut search = Search::begin(alloc, meeting, walk)?;
     let mut ends = Ends::none(alloc);
     let mut place = 0;
     while place < search.found.len() {
+        if limit < search.found.len() {
+            return Err(Stop::States);
+        }
         search.visit(alloc, meeting, walk, &mut ends, place)?;
         watch.seen(search.found.len());
         place += 1;
@@ -132,12 +132,13 @@ fn explored_by<'a, W: Watch>(
     ensures stopped { IfErr result (λ stop. stop ≡ States → HasMoreStates meeting.now limit) }
 {
     let (search, ends) = visit_all(alloc, watch, meeting, walk, limit)?;
-    let states = search.found.len() as u64;
-    let endless = endless_in(alloc, search)?;
     let Ends { results, failures } = ends;
+    let states = search.found.len() as u64;
+    let results = results.orders(alloc, &search.found)?;
+    let endless = endless_in(alloc, search)?;
     Ok(Explored {
         states,
-        results: results.into_orders(),
+        results,
         failures: Row::of(failures),
         endless,
     })

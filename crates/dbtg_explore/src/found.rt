@@ -1,61 +1,71 @@
-//! Orders that were found, each the first under its key.
+//! Results that were found, each by the first place that has its text.
 
-ghost use Rattle.dbtg_explore.specs.Inside.Found.{IsEntered};
-ghost use Rattle.std.specs.Prelude.{◌≡◌, [], OnOk};
+ghost use Rattle.dbtg_explore.specs.Inside.Found.{IsEnteredAt, orders_at};
+ghost use Rattle.std.specs.Prelude.{◌≡◌, ◌<◌, All, [], length, IfOk, OnOk};
 
+use crate::known::Known;
+use dbtg_interned::Texts;
 use dbtg_schema::Row;
-use indexmap::IndexSet;
 use std::alloc::{AllocError, Global};
 use std::marker::Model;
 
-/// Orders, as they were found, each under a key that none before it has.
+/// Texts, each once, and for each the place of the order that first had it.
 pub struct Found {
-    keys: IndexSet<Vec<u64>>,
-    orders: Vec<Row<u8>>,
+    texts: Texts,
+    places: Vec<usize>,
 }
 
 impl Drop for Found {
     fn drop(self) {
-        let Self { keys: _, orders: _ } = self;
+        let Self {
+            texts: _,
+            places: _,
+        } = self;
     }
 }
 
 impl Model for Found {
-    ghost use Rattle.std.specs.Prelude.{ℕ, List, map};
-    ghost use Rattle.dbtg_explore.specs.Inside.Found.{FoundOrders};
+    ghost use Rattle.std.specs.Prelude.{◌≡◌, length};
+    ghost use Rattle.dbtg_explore.specs.Inside.Found.{FoundPlaces};
 
-    ghost Value = { FoundOrders (List ℕ) };
+    ghost Value = { FoundPlaces };
 
-    ghost view = { λ f. record { keys = map (λ k. k.items) f.keys.keys; orders = f.orders.items } };
+    ghost view = { λ f. record { texts = f.texts; places = f.places.items } };
+
+    ghost invariant = { λ f. length f.places.items ≡ length f.texts };
 }
 
 impl Found {
-    /// No orders.
+    /// No results.
     pub fn none(alloc: Global) -> Self
-        ensures { result ≡ record { keys = []; orders = [] } }
+        ensures { result ≡ record { texts = []; places = [] } }
     {
         Self {
-            keys: IndexSet::new(alloc),
-            orders: Vec::new(alloc),
+            texts: Texts::new(alloc),
+            places: Vec::new(alloc),
         }
     }
 
-    /// Appends an order, if its key is new. Gives the place of the key.
-    pub fn enter(&mut self, key: Vec<u64>, order: Row<u8>) -> Result<usize, AllocError>
-        ensures { OnOk result (IsEntered self.old key.items order self.new) }
+    /// Appends a place, if its text is new.
+    pub fn enter(&mut self, text: Vec<u8>, place: usize) -> Result<(), AllocError>
+        ensures { OnOk result (IsEnteredAt self.old text.items place self.new) }
     {
-        let (place, is_new) = self.keys.insert_full(key)?;
-        if is_new {
-            self.orders.push(order)?;
+        let number = self.texts.enter(text)?;
+        if number as usize == self.places.len() {
+            self.places.push(place)?;
         }
-        Ok(place)
+        Ok(())
     }
 
-    /// The orders, without their keys.
-    pub fn into_orders(self) -> Row<Row<u8>>
-        ensures { result ≡ self.orders }
+    /// The orders at the places.
+    pub fn orders(&self, alloc: Global, known: &Known) -> Result<Row<Row<u8>>, AllocError>
+        requires { All (λ place. place < length known.now.orders) self.now.places }
+        ensures { IfOk result (λ orders. orders ≡ orders_at known.now.orders self.now.places) }
     {
-        let Self { keys: _, orders } = self;
-        Row::of(orders)
+        let mut orders = Vec::with_capacity(alloc, self.places.len())?;
+        for place in &self.places {
+            orders.push(Row::of(known.order(alloc, *place)?))?;
+        }
+        Ok(Row::of(orders))
     }
 }

@@ -1,9 +1,10 @@
 //! States that were found, each by the first order that leads there.
 
 ghost use Rattle.dbtg_explore.specs.Inside.Found.{IsEntered};
-ghost use Rattle.std.specs.Prelude.{◌≡◌, ◌<◌, ◌++◌, ◌∷◌, [], Some, length, slice_get, slice_index_or, IfOk, OnOk};
+ghost use Rattle.dbtg_explore.specs.Inside.Links.{IsLast};
+ghost use Rattle.std.specs.Prelude.{◌≡◌, ◌<◌, ◌++◌, ◌∷◌, [], None, Some, length, slice_get, slice_index_or, IfOk, IfSome, OnOk};
 
-use crate::orders::Orders;
+use crate::orders::{Link, Orders};
 use indexmap::IndexSet;
 use std::alloc::{AllocError, Global};
 use std::marker::Model;
@@ -63,6 +64,15 @@ impl Known {
         ensures { IfOk result (λ order. order.items ≡ slice_index_or self.now.orders place []) }
     {
         self.orders.order(alloc, place)
+    }
+
+    /// The last turn of the order to the state at this place, from 0; none of the first, which is empty.
+    pub fn last(&self, place: usize) -> Option<Link>
+        requires { place < length self.now.orders }
+        ensures last { IfSome result (IsLast self.now.orders place) }
+        ensures none { result ≡ None → slice_index_or self.now.orders place [] ≡ [] }
+    {
+        self.orders.last(place)
     }
 
     /// Appends the state to which one turn more leads, if its number is new. Gives the number's place.

@@ -1,5 +1,5 @@
 //! What orders say of runs, as the contract of a function that does nothing.
-ghost use Rattle.dbtg_explore.specs.Laws.{EveryRunByTurnsComesOut, EveryRunComesOut, ForEverIsRound, RoundIsForEver};
+ghost use Rattle.dbtg_explore.specs.Laws.{EssenceIsAll, EveryRunByTurnsComesOut, EveryRunComesOut, ForEverIsRound, RoundIsForEver};
 ghost use Rattle.dbtg_explore.specs.Orders.{Meeting};
 ghost use Rattle.dbtg_explore.specs.Versions.{VersionsAreNoState};
 
@@ -22,6 +22,14 @@ pub fn every_run_by_turns_comes_out()
 /// a new state each time.
 pub fn versions_are_no_state()
     ensures { VersionsAreNoState }
+{}
+
+/// What does not count is no part of a state: after two histories whose states differ in this alone, the same units have their turn, make
+/// the same statements and get the same answers, whatever turns follow; and the same is printed there, but for versions, also of ends. So
+/// neither the status of a program, nor an item that none of its sentences reads, makes a state of its own, nor do the items of a program
+/// that has ended.
+pub fn what_counts_is_all()
+    ensures { (m : Meeting) → EssenceIsAll m }
 {}
 
 /// Where orders lead to finitely many states: if programs can go on for ever, and each unit that can have its turn always has one again

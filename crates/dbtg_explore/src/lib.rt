@@ -13,17 +13,21 @@ mod meeting;
 mod next_state;
 mod numbering;
 mod orders;
+mod reads;
 mod search;
 mod standing;
 mod text;
 mod told;
 mod unversioned;
 mod walk;
+mod way;
+mod wishes;
 
 pub use explored::{Endless, Explored, Failure, explore};
 pub use laws::{
     a_round_goes_on_for_ever, every_run_by_turns_comes_out, every_run_comes_out,
-    going_on_for_ever_goes_round, versions_are_no_state,
+    going_on_for_ever_goes_round, versions_are_no_state, what_counts_is_all,
 };
 pub use meeting::Meeting;
 pub use told::told_text;
+pub use wishes::{Wish, broken_turns, is_there};

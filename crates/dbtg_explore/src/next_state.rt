@@ -4,13 +4,14 @@ ghost use Rattle.dbtg_cells.specs.declared.name.CellName.TheVariants.{Slot};
 ghost use Rattle.dbtg_explore.specs.Inside.Next.{IsFound, Reaches, RecordsStay, is_slot};
 ghost use Rattle.dbtg_explore.specs.Inside.Steps.{IsAt};
 ghost use Rattle.dbtg_explore.specs.Inside.Transitions.{AreSeen, DueLooksAt, IsPassage};
-ghost use Rattle.dbtg_explore.specs.Inside.Walks.{Stands};
+ghost use Rattle.dbtg_explore.specs.Inside.Walks.{Stands, StandsAmong};
 ghost use Rattle.dbtg_explore.specs.Orders.{IsMeeting, Meeting as MeetingOfPrograms, can_turn, history_of};
 ghost use Rattle.dbtg_interned.specs.Arrays.{IsArray};
 ghost use Rattle.std.specs.List.{list_any};
 ghost use Rattle.std.specs.Prelude.{◌≡◌, ◌<◌, ◌++◌, ◌∷◌, [], ℕ, List, Some, true, false, length, slice_index_or, IfOk, IfSome, OnOk};
 
 use crate::meeting::Meeting;
+use crate::orders::Link;
 use crate::search::Search;
 use crate::walk::Walk;
 use dbtg_cells::CellName;
@@ -150,16 +151,16 @@ impl Search {
         requires meeting { IsMeeting meeting.now }
         requires at { IsAt meeting.now place unit self.old }
         requires within { place < length self.old.found.orders }
-        requires stands { Stands meeting.now walk.old }
+        requires stands { StandsAmong meeting.now self.old.found.orders walk.old }
         requires turn { can_turn meeting.now (history_of meeting.now (slice_index_or self.old.found.orders place [])) unit ≡ true }
-        ensures stands { OnOk result (Stands meeting.now walk.new) }
+        ensures stands { OnOk result (StandsAmong meeting.now self.new.found.orders walk.new) }
         ensures reaches { IfOk result (Reaches meeting.now (slice_index_or self.old.found.orders place [] ++ unit ∷ []) self.old self.new) }
     {
-        let order = self.found.order(alloc, place)?;
-        meeting.go_to(alloc, walk, order.as_slice())?;
+        meeting.go_to(alloc, walk, &self.found, place)?;
         let names = meeting.cells_at(alloc, walk, unit)?;
         let before = self.found.number(place);
-        let after = meeting.number_after(alloc, walk, unit, &mut self.numbers, before)?;
+        let turn = Link::new(place, unit)?;
+        let after = meeting.number_after(alloc, walk, turn, &mut self.numbers, before)?;
         if let Some(names) = names {
             let changing = has_changed_record(walk);
             let passage = Passage {
@@ -187,9 +188,9 @@ impl Search {
         requires meeting { IsMeeting meeting.now }
         requires at { IsAt meeting.now place unit self.old }
         requires within { place < length self.old.found.orders }
-        requires stands { Stands meeting.now walk.old }
+        requires stands { StandsAmong meeting.now self.old.found.orders walk.old }
         requires turn { can_turn meeting.now (history_of meeting.now (slice_index_or self.old.found.orders place [])) unit ≡ true }
-        ensures stands { OnOk result (Stands meeting.now walk.new) }
+        ensures stands { OnOk result (StandsAmong meeting.now self.new.found.orders walk.new) }
         ensures reaches { IfOk result (Reaches meeting.now (slice_index_or self.old.found.orders place [] ++ unit ∷ []) self.old self.new) }
     {
         let state = self.found.number(place);

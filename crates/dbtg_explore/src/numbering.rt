@@ -4,7 +4,7 @@
 ghost use Rattle.dbtg_cells.specs.CellNumbers.{cell_count, is_cell};
 ghost use Rattle.dbtg_cells.specs.declared.name.CellName.{CellName};
 ghost use Rattle.dbtg_explore.specs.Inside.Parts.{IsNumberOf, parts_of, unit_part};
-ghost use Rattle.dbtg_explore.specs.Inside.Walks.{HasTurned, IsPlace, Stands, StandsAt, order_of};
+ghost use Rattle.dbtg_explore.specs.Inside.Walks.{HasTurned, IsPlace, KnowsReads, Stands, StandsAt, links_of, order_of};
 ghost use Rattle.dbtg_explore.specs.Orders.{IsMeeting, can_turn};
 ghost use Rattle.dbtg_interned.specs.Arrays.{IsArray, size};
 ghost use Rattle.dbtg_states.specs.Numbers.{AreNumbers, Grow, HasPut, IsNumberBut};
@@ -12,6 +12,7 @@ ghost use Rattle.std.specs.List.{list_all};
 ghost use Rattle.std.specs.Prelude.{◌≡◌, ◌+◌, ◌-◌, ◌<◌, ◌≤◌, ◌++◌, ◌∷◌, [], List, true, length, IfOk, OnOk};
 
 use crate::meeting::Meeting;
+use crate::orders::Link;
 use crate::walk::Walk;
 use dbtg_cells::CellName;
 use dbtg_states::{Numbers, Spelling};
@@ -29,6 +30,7 @@ impl<'a> Meeting<'a> {
     ) -> Result<u32, AllocError>
         requires meeting { IsMeeting self.now }
         requires place { IsPlace self.now walk.now }
+        requires knows { KnowsReads self.now walk.now }
         requires array { IsArray numbers.old.arrays array }
         requires there { (0 < unit) × (unit ≤ length self.now.programs) }
         requires room { length self.now.programs + cell_count self.now.schema self.now.capacity ≤ size numbers.old.arrays }
@@ -49,6 +51,7 @@ impl<'a> Meeting<'a> {
     ) -> Result<u32, AllocError>
         requires meeting { IsMeeting self.now }
         requires place { IsPlace self.now walk.now }
+        requires knows { KnowsReads self.now walk.now }
         requires but { (names : List CellName) × IsNumberBut (parts_of self.now walk.now.database.making.history) numbers.old 0 names array }
         ensures keeps { IfOk result (λ n. Grow numbers.old numbers.new) }
         ensures number { IfOk result (λ n. (names : List CellName) → IsNumberBut (parts_of self.now walk.now.database.making.history) numbers.old 0 names array → IsNumberBut (parts_of self.now walk.now.database.making.history) numbers.new (length self.now.programs) names n) }
@@ -72,6 +75,7 @@ impl<'a> Meeting<'a> {
     ) -> Result<u32, AllocError>
         requires meeting { IsMeeting self.now }
         requires place { IsPlace self.now walk.now }
+        requires knows { KnowsReads self.now walk.now }
         requires cells { list_all (is_cell self.now.schema self.now.capacity) names.now ≡ true }
         requires but { IsNumberBut (parts_of self.now walk.now.database.making.history) numbers.old 0 names.now array }
         ensures keeps { IfOk result (λ n. Grow numbers.old numbers.new) }
@@ -96,6 +100,7 @@ impl<'a> Meeting<'a> {
     ) -> Result<u32, AllocError>
         requires meeting { IsMeeting self.now }
         requires place { IsPlace self.now walk.now }
+        requires knows { KnowsReads self.now walk.now }
         requires kept { AreNumbers numbers.old }
         requires room { length self.now.programs + cell_count self.now.schema self.now.capacity ≤ size numbers.old.arrays }
         ensures { IfOk result (IsNumberOf self.now numbers.new walk.now.database.making.history) }
@@ -104,27 +109,28 @@ impl<'a> Meeting<'a> {
         self.put_all(alloc, numbers, walk, 0, names.as_slice())
     }
 
-    /// The unit has its turn. Gives the number of the state to which it leads, by that of the state before it. Two places have one number
+    /// The unit of the turn has it. Gives the number of the state to which it leads, by that of the state before it. Two places have one number
     /// exactly if their states differ at most in the order in which units opened an area, and in versions that tell no kept record from
     /// its own.
     pub(crate) fn number_after(
         &self,
         alloc: Global,
         walk: &mut Walk<'a>,
-        unit: u8,
+        turn: Link,
         numbers: &mut Numbers,
         before: u32,
     ) -> Result<u32, AllocError>
         requires meeting { IsMeeting self.now }
         requires stands { Stands self.now walk.old }
-        requires turn { can_turn self.now walk.old.database.making.history unit ≡ true }
+        requires turn { can_turn self.now walk.old.database.making.history turn.unit ≡ true }
         requires before { IsNumberOf self.now numbers.old walk.old.database.making.history before }
-        ensures stands { OnOk result (StandsAt self.now (order_of walk.old.turns.items ++ unit ∷ []) walk.new) }
-        ensures turned { OnOk result (HasTurned self.now unit walk.old.database.making walk.new.database.making walk.new.goings.items) }
+        ensures stands { OnOk result (StandsAt self.now (order_of walk.old.turns.items ++ turn.unit ∷ []) walk.new) }
+        ensures turned { OnOk result (HasTurned self.now turn.unit walk.old.database.making walk.new.database.making walk.new.goings.items) }
+        ensures links { OnOk result (links_of walk.new.turns.items ≡ links_of walk.old.turns.items ++ turn ∷ []) }
         ensures keeps { IfOk result (λ n. Grow numbers.old numbers.new) }
         ensures number { IfOk result (IsNumberOf self.now numbers.new walk.new.database.making.history) }
     {
-        self.take_turn(alloc, walk, unit)?;
+        self.take_turn(alloc, walk, turn)?;
         let names = walk.database.changed();
         self.put_all(alloc, numbers, walk, before, names)
     }

@@ -1,6 +1,7 @@
 //! Orders of turns as links of eight bytes: each goes on from an earlier order by one turn.
 
-ghost use Rattle.std.specs.Prelude.{◌≡◌, ◌<◌, ◌++◌, ◌∷◌, [], length, slice_index_or, IfOk, OnOk};
+ghost use Rattle.dbtg_explore.specs.Inside.Links.{IsLast};
+ghost use Rattle.std.specs.Prelude.{◌≡◌, ◌<◌, ◌++◌, ◌∷◌, [], None, length, slice_index_or, IfOk, IfSome, OnOk};
 
 use std::alloc::{AllocError, Global};
 use std::marker::Model;
@@ -8,8 +9,20 @@ use std::marker::Model;
 /// One turn after the order at an earlier place.
 #[derive(Clone, Copy)]
 pub struct Link {
-    before: u32,
-    unit: u8,
+    pub before: u32,
+    pub unit: u8,
+}
+
+impl Link {
+    /// A place that needs more than 32 bits is refused as memory is: its states would take more of it than there is.
+    pub fn new(before: usize, unit: u8) -> Result<Self, AllocError>
+        ensures { IfOk result (λ link. link ≡ record { before = before; unit = unit }) }
+    {
+        match u32::try_from(before) {
+            Ok(before) => Ok(Self { before, unit }),
+            Err(_) => Err(AllocError),
+        }
+    }
 }
 
 /// Orders, the empty one first. Each other goes on from one before it.
@@ -52,17 +65,25 @@ impl Orders {
         self.links.len() + 1
     }
 
-    /// Appends the order at a place with one turn more. A place that needs more than 32 bits is refused as memory is: its states would
-    /// take more of it than there is.
+    /// Appends the order at a place with one turn more.
     pub fn push(&mut self, before: usize, unit: u8) -> Result<(), AllocError>
         requires { before < length self.old }
         ensures { OnOk result (self.new ≡ self.old ++ (slice_index_or self.old before [] ++ unit ∷ []) ∷ []) }
     {
-        let Ok(before) = u32::try_from(before) else {
-            return Err(AllocError);
-        };
-        self.links.push(Link { before, unit })?;
+        self.links.push(Link::new(before, unit)?)?;
         Ok(())
+    }
+
+    /// The last turn of the order at this place, from 0; none of the first, which is empty.
+    pub fn last(&self, place: usize) -> Option<Link>
+        requires { place < length self.now }
+        ensures last { IfSome result (IsLast self.now place) }
+        ensures none { result ≡ None → slice_index_or self.now place [] ≡ [] }
+    {
+        if place == 0 {
+            return None;
+        }
+        Some(self.links[place - 1])
     }
 
     /// The order at this place, from 0.
@@ -72,8 +93,7 @@ impl Orders {
     {
         let mut turns = Vec::new(alloc);
         let mut at = place;
-        while at > 0 {
-            let link = self.links[at - 1];
+        while let Some(link) = self.last(at) {
             turns.push(link.unit)?;
             at = link.before as usize;
         }

@@ -1,57 +1,42 @@
 //! A search through all states to which orders lead. It goes on from each state that it has found, from the first on, by one turn of each
 //! unit in rising order. So it comes to each state by the first order that leads there.
 
-ghost use Rattle.dbtg_explore.specs.Inside.Walks.{Stands, StandsAt};
+ghost use Rattle.dbtg_explore.specs.Inside.Walks.{StandsAmong, StandsAt};
 ghost use Rattle.dbtg_explore.specs.Inside.Steps.{Goes, IsAt};
 ghost use Rattle.dbtg_explore.specs.Orders.{IsMeeting, can_turn, history_of};
-ghost use Rattle.dbtg_explore.specs.States.{HasMoreStates};
-ghost use Rattle.dbtg_states.specs.declared.stop.Stop.TheVariants.{States};
-ghost use Rattle.std.specs.Prelude.{◌≡◌, ◌+◌, ◌<◌, [], true, length, slice_index_or, IfErr, IfOk, OnOk};
+ghost use Rattle.std.specs.Prelude.{◌≡◌, ◌+◌, ◌<◌, [], true, length, slice_index_or, IfOk, OnOk};
 
 use crate::known::Known;
 use crate::meeting::Meeting;
 use crate::next_state::Seen;
 use crate::walk::Walk;
 use dbtg_rounds::Edge;
-use dbtg_states::{Numbers, Stop};
+use dbtg_states::Numbers;
 use std::alloc::{AllocError, Global};
 
-/// The first order to each state that is found, the numbers of states, the turns from state to state, and how many states there may be.
+/// The first order to each state that is found, the numbers of states, and the turns from state to state.
 #[derive(Drop)]
 pub struct Search {
     pub found: Known,
     pub numbers: Numbers,
     pub seen: Seen,
     pub edges: Vec<Edge>,
-    pub limit: usize,
 }
 
 impl Search {
     /// The state in which the programs meet, where the walk stands.
-    pub fn begin(
-        alloc: Global,
-        meeting: &Meeting,
-        walk: &Walk,
-        limit: usize,
-    ) -> Result<Search, Stop>
+    pub fn begin(alloc: Global, meeting: &Meeting, walk: &Walk) -> Result<Search, AllocError>
         requires meeting { IsMeeting meeting.now }
         requires stands { StandsAt meeting.now [] walk.now }
-        ensures at { IfOk result (IsAt meeting.now 0 0) }
-        ensures limit { IfOk result (λ search. search.limit ≡ limit) }
-        ensures stopped { IfErr result (λ stop. stop ≡ States → HasMoreStates meeting.now limit) }
+        ensures { IfOk result (IsAt meeting.now 0 0) }
     {
         let mut numbers = meeting.places().no_numbers(alloc)?;
         let number = meeting.first_number(alloc, &mut numbers, walk)?;
-        let found = Known::first(alloc, number)?;
-        if limit < found.len() {
-            return Err(Stop::States);
-        }
         Ok(Search {
-            found,
+            found: Known::first(alloc, number)?,
             numbers,
             seen: Seen::none(alloc),
             edges: Vec::new(alloc),
-            limit,
         })
     }
 
@@ -63,22 +48,18 @@ impl Search {
         place: usize,
         walk: &mut Walk<'a>,
         unit: u8,
-    ) -> Result<(), Stop>
+    ) -> Result<(), AllocError>
         requires meeting { IsMeeting meeting.now }
         requires at { IsAt meeting.now place unit self.old }
         requires within { place < length self.old.found.orders }
-        requires stands { Stands meeting.now walk.old }
+        requires stands { StandsAmong meeting.now self.old.found.orders walk.old }
         requires turn { can_turn meeting.now (history_of meeting.now (slice_index_or self.old.found.orders place [])) unit ≡ true }
-        ensures stands { OnOk result (Stands meeting.now walk.new) }
+        ensures stands { OnOk result (StandsAmong meeting.now self.new.found.orders walk.new) }
         ensures goes { OnOk result (Goes meeting.now place (unit + 1) self.old self.new) }
-        ensures stopped { IfErr result (λ stop. stop ≡ States → HasMoreStates meeting.now self.old.limit) }
     {
         let number = self.next_state(alloc, meeting, place, walk, unit)?;
         let to = self.found.enter(number, place, unit)?;
         self.edges.push(Edge::new(place, unit, to)?)?;
-        if self.limit < self.found.len() {
-            return Err(Stop::States);
-        }
         Ok(())
     }
 
@@ -90,14 +71,13 @@ impl Search {
         place: usize,
         walk: &mut Walk<'a>,
         unit: u8,
-    ) -> Result<(), Stop>
+    ) -> Result<(), AllocError>
         requires meeting { IsMeeting meeting.now }
         requires at { IsAt meeting.now place unit self.old }
         requires within { place < length self.old.found.orders }
-        requires stands { Stands meeting.now walk.old }
-        ensures stands { OnOk result (Stands meeting.now walk.new) }
+        requires stands { StandsAmong meeting.now self.old.found.orders walk.old }
+        ensures stands { OnOk result (StandsAmong meeting.now self.new.found.orders walk.new) }
         ensures goes { OnOk result (Goes meeting.now place (unit + 1) self.old self.new) }
-        ensures stopped { IfErr result (λ stop. stop ≡ States → HasMoreStates meeting.now self.old.limit) }
     {
         let state = self.found.number(place);
         if !meeting.can_turn(&self.numbers, state, unit) {
@@ -113,14 +93,13 @@ impl Search {
         meeting: &Meeting<'a>,
         place: usize,
         walk: &mut Walk<'a>,
-    ) -> Result<(), Stop>
+    ) -> Result<(), AllocError>
         requires meeting { IsMeeting meeting.now }
         requires at { IsAt meeting.now place 0 self.old }
         requires within { place < length self.old.found.orders }
-        requires stands { Stands meeting.now walk.old }
-        ensures stands { OnOk result (Stands meeting.now walk.new) }
+        requires stands { StandsAmong meeting.now self.old.found.orders walk.old }
+        ensures stands { OnOk result (StandsAmong meeting.now self.new.found.orders walk.new) }
         ensures goes { OnOk result (Goes meeting.now (place + 1) 0 self.old self.new) }
-        ensures stopped { IfErr result (λ stop. stop ≡ States → HasMoreStates meeting.now self.old.limit) }
     {
         for before in 0..meeting.units() {
             self.go_on_by(alloc, meeting, place, walk, before + 1)?;

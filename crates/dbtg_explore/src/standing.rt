@@ -10,8 +10,8 @@ use crate::meeting::Meeting;
 use dbtg_program::End;
 use dbtg_states::Numbers;
 
-// The number at this place of what the array of a state says of a unit; 0 if it says nothing there.
-fn said(numbers: &Numbers, state: u32, unit: u8, at: usize) -> u64
+/// The number at this place of what the array of a state says of a unit; 0 if it says nothing there.
+pub(crate) fn said(numbers: &Numbers, state: u32, unit: u8, at: usize) -> u64
     requires array { IsArray numbers.now.arrays state }
     requires numbered { 0 < unit }
     ensures { result ≡ said numbers.now state unit at }

@@ -1,29 +1,37 @@
-//! A walk from state to state: a database and programs that stand after the turns of an order, and go to others by way of the turns with
-//! which both orders begin.
+//! A walk from state to state: a database and programs that stand after the turns of an order. To go to another it takes back the turns in
+//! which they differ, and no others.
 
-ghost use Rattle.dbtg_explore.specs.Inside.Walks.{AreStanding, HasTurned, Stands, StandsAt, order_of};
+ghost use Rattle.dbtg_explore.specs.Inside.Links.{units_of};
+ghost use Rattle.dbtg_explore.specs.Inside.Walks.{AreStanding, HasTurned, Stands, StandsAmong, StandsAt, links_of, order_of};
 ghost use Rattle.dbtg_explore.specs.Orders.{CanFollow, IsMeeting, IsOrder, Meeting as MeetingOfPrograms, can_turn, due_of};
 ghost use Rattle.dbtg_step.specs.Machine.SequentialDatabase.{unit_at, with_unit_at};
-ghost use Rattle.std.specs.Prelude.{◌≡◌, ◌≤◌, ◌<◌, ◌-◌, ◌++◌, ◌∷◌, [], Some, true, length, take, IfOk, OnOk};
+ghost use Rattle.std.specs.Prelude.{◌≡◌, ◌≤◌, ◌<◌, ◌-◌, ◌++◌, ◌∷◌, [], Some, true, length, slice_index_or, take, IfOk, OnOk};
 
+use crate::known::Known;
 use crate::meeting::Meeting;
+use crate::orders::Link;
+use crate::reads::each_items_read;
+use crate::way::way_to;
 use dbtg_going::{Going, programs_after};
+use dbtg_schema::Row;
 use dbtg_step::ReversibleDatabase;
 use dbtg_unit::Statement;
 use std::alloc::{AllocError, Global};
 
-/// A turn that was taken: its unit, and where its program was before.
+/// A turn that was taken: the place of the order behind which it was taken, its unit, and where its program was before.
 #[derive(Drop)]
 pub struct Taken {
+    pub place: u32,
     pub unit: u8,
     pub before: Going,
 }
 
-/// A database and programs after these turns, which can be taken back.
+/// A database and programs after these turns, which can be taken back; and which items the programs read.
 pub struct Walk<'a> {
     pub database: ReversibleDatabase<'a>,
     pub goings: Vec<Going>,
     pub turns: Vec<Taken>,
+    pub reads: Vec<Row<bool>>,
 }
 
 impl<'a> Drop for Walk<'a> {
@@ -32,21 +40,9 @@ impl<'a> Drop for Walk<'a> {
             database: _,
             goings: _,
             turns: _,
+            reads: _,
         } = self;
     }
-}
-
-// How many of the turns are those with which the order begins.
-fn shared_with(turns: &[Taken], order: &[u8]) -> usize
-    ensures within { (result ≤ length turns.now) × (result ≤ length order.now) }
-    ensures same { take result (order_of turns.now) ≡ take result order.now }
-{
-    for (at, turn) in turns.iter().enumerate() {
-        if order.len() <= at || order[at] != turn.unit {
-            return at;
-        }
-    }
-    turns.len()
 }
 
 // The program of the unit is again where it was before.
@@ -65,7 +61,7 @@ impl<'a> Walk<'a> {
         ensures stands { (m : MeetingOfPrograms) → Stands m self.old → Stands m self.new }
         ensures turns { self.new.turns.items ≡ take (length self.old.turns.items - 1) self.old.turns.items }
     {
-        if let Some(Taken { unit, before }) = self.turns.pop() {
+        if let Some(Taken { unit, before, .. }) = self.turns.pop() {
             let count = self.database.database().history().len();
             self.database.take_back_to(count - 1);
             put_back(self.goings.as_mut_slice(), unit, before);
@@ -102,6 +98,7 @@ impl<'a> Meeting<'a> {
             database: ReversibleDatabase::of(alloc, database),
             goings,
             turns: Vec::new(alloc),
+            reads: each_items_read(alloc, self.programs)?,
         })
     }
 
@@ -134,50 +131,65 @@ impl<'a> Meeting<'a> {
         &self,
         alloc: Global,
         walk: &mut Walk<'a>,
-        unit: u8,
+        turn: Link,
     ) -> Result<(), AllocError>
         requires stands { Stands self.now walk.old }
-        requires turn { can_turn self.now walk.old.database.making.history unit ≡ true }
-        ensures stands { OnOk result (StandsAt self.now (order_of walk.old.turns.items ++ unit ∷ []) walk.new) }
-        ensures turned { OnOk result (HasTurned self.now unit walk.old.database.making walk.new.database.making walk.new.goings.items) }
+        requires turn { can_turn self.now walk.old.database.making.history turn.unit ≡ true }
+        ensures stands { OnOk result (StandsAt self.now (order_of walk.old.turns.items ++ turn.unit ∷ []) walk.new) }
+        ensures turned { OnOk result (HasTurned self.now turn.unit walk.old.database.making walk.new.database.making walk.new.goings.items) }
+        ensures links { OnOk result (links_of walk.new.turns.items ≡ links_of walk.old.turns.items ++ turn ∷ []) }
     {
+        let unit = turn.unit;
         match self.due(walk, unit) {
             None => Ok(()),
             Some(statement) => {
                 let statement = statement.copy()?;
                 let goings = walk.goings.as_mut_slice();
                 let before = self.make(alloc, &mut walk.database, goings, unit, statement)?;
-                walk.turns.push(Taken { unit, before })?;
+                walk.turns.push(Taken {
+                    place: turn.before,
+                    unit,
+                    before,
+                })?;
                 Ok(())
             }
         }
     }
 
     // These turns, one after another.
-    fn take_turns(&self, alloc: Global, walk: &mut Walk<'a>, units: &[u8]) -> Result<(), AllocError>
+    fn take_turns(
+        &self,
+        alloc: Global,
+        walk: &mut Walk<'a>,
+        turns: &[Link],
+    ) -> Result<(), AllocError>
         requires stands { Stands self.now walk.old }
-        requires turns { CanFollow self.now walk.old.database.making.history units.now }
-        ensures { OnOk result (StandsAt self.now (order_of walk.old.turns.items ++ units.now) walk.new) }
+        requires turns { CanFollow self.now walk.old.database.making.history (units_of turns.now) }
+        ensures stands { OnOk result (StandsAt self.now (order_of walk.old.turns.items ++ units_of turns.now) walk.new) }
+        ensures links { OnOk result (links_of walk.new.turns.items ≡ links_of walk.old.turns.items ++ turns.now) }
     {
-        for unit in units {
-            self.take_turn(alloc, walk, *unit)?;
+        for turn in turns {
+            self.take_turn(alloc, walk, *turn)?;
         }
         Ok(())
     }
 
-    /// Goes to where an order leads.
+    /// Goes to where the order at a place leads.
     pub(crate) fn go_to(
         &self,
         alloc: Global,
         walk: &mut Walk<'a>,
-        order: &[u8],
+        found: &Known,
+        place: usize,
     ) -> Result<(), AllocError>
-        requires stands { Stands self.now walk.old }
-        requires order { IsOrder self.now order.now }
-        ensures { OnOk result (StandsAt self.now order.now walk.new) }
+        requires stands { StandsAmong self.now found.now.orders walk.old }
+        requires within { place < length found.now.orders }
+        requires order { IsOrder self.now (slice_index_or found.now.orders place []) }
+        ensures stands { OnOk result (StandsAt self.now (slice_index_or found.now.orders place []) walk.new) }
+        ensures among { OnOk result (StandsAmong self.now found.now.orders walk.new) }
     {
-        let shared = shared_with(walk.turns.as_slice(), order);
-        walk.take_back_to(shared);
-        self.take_turns(alloc, walk, &order[shared..])
+        let way = way_to(alloc, found, walk.turns.as_slice(), place)?;
+        walk.take_back_to(way.stay);
+        self.take_turns(alloc, walk, way.turns.as_slice())
     }
 }

@@ -39,8 +39,8 @@ fn push_standing(out: &mut Vec<u8>, standing: Standing) -> Result<(), AllocError
     }
 }
 
-// How many fields come before the counters.
-fn count_items(program: &Program) -> usize
+/// How many fields come before the counters.
+pub fn count_items(program: &Program) -> usize
     ensures { result ≡ count_items program.now }
 {
     let fields = program.fields.as_slice();

@@ -1,11 +1,11 @@
 -- What is noted of the orders that a search has found: results and failures.
--- m is a meeting, o and p are orders, seen are the earlier ones.
-use Rattle.std.specs.Prelude.{ℕ, ◌≡◌, ◌++◌, List, [], ◌∷◌, Option, Some, Contains, map}
+-- m is a meeting, o and p are orders, os are all that are found, seen are the earlier ones.
+use Rattle.std.specs.Prelude.{ℕ, ◌≡◌, ◌<◌, ◌++◌, List, [], ◌∷◌, Option, Some, All, Contains, length, map}
 use Rattle.dbtg_unit.specs.declared.unit.Entry.{Entry}
 use Rattle.dbtg_program.specs.declared.program.End.{End}
 use Rattle.dbtg_explore.specs.declared.ends.Ends as given
 use Rattle.dbtg_explore.specs.declared.explored.Failure.{Failure}
-use Rattle.dbtg_explore.specs.Inside.Found.{FoundOrders}
+use Rattle.dbtg_explore.specs.Inside.Found.{FoundOrders, orders_by_text}
 use Rattle.dbtg_explore.specs.Inside.Walks.{failure_in}
 use Rattle.dbtg_explore.specs.Inside.Search.{AreFirsts}
 use Rattle.dbtg_explore.specs.Orders.{IsBefore, IsEnd, Meeting}
@@ -36,9 +36,10 @@ pub record AreResultsOf (m : Meeting) (seen : List (List ℕ)) (results : FoundO
   pub firsts : AreFirsts (IsEnd m) (result_text m) seen results.orders
   pub keys_are : results.keys ≡ map (result_text m) results.orders
 
--- all that is noted after these orders
-pub record AreEndsOf (m : Meeting) (seen : List (List ℕ)) (ends : given.Ends) : Type 0 where
-  pub results : AreResultsOf m seen ends.results
+-- all that is noted after these orders; of each result there is the place of its order
+pub record AreEndsOf (m : Meeting) (os seen : List (List ℕ)) (ends : given.Ends) : Type 0 where
+  pub there : All (λ place. place < length os) ends.results.places
+  pub results : AreResultsOf m seen (orders_by_text os ends.results)
   pub failures : AreFailuresOf m seen ends.failures.items
 
 -- an order comes after all these
@@ -50,5 +51,5 @@ abbrev pub NotesResult : Meeting → List ℕ → FoundOrders (List ℕ) → Fou
 NotesResult m o old new = (seen : List (List ℕ)) → IsBehind seen o → AreResultsOf m seen old → AreResultsOf m (seen ++ o ∷ []) new
 
 -- and so are its failures
-abbrev pub Notes : Meeting → List ℕ → given.Ends → given.Ends → Type 0
-Notes m o old new = (seen : List (List ℕ)) → IsBehind seen o → AreEndsOf m seen old → AreEndsOf m (seen ++ o ∷ []) new
+abbrev pub Notes : Meeting → List (List ℕ) → List ℕ → given.Ends → given.Ends → Type 0
+Notes m os o old new = (seen : List (List ℕ)) → IsBehind seen o → AreEndsOf m os seen old → AreEndsOf m os (seen ++ o ∷ []) new

@@ -41,4 +41,3 @@ pub record Reaches (m : Meeting) (o : List ℕ) (old new : search.Search) (n : �
   pub seen : AreSeen m new.numbers.contents new.seen
   pub found_is : new.found ≡ old.found
   pub edges_are : new.edges.items ≡ old.edges.items
-  pub limit_is : new.limit ≡ old.limit

@@ -12,18 +12,18 @@ use Rattle.dbtg_states.specs.Spelling.{unit_numbers}
 use Rattle.dbtg_explore.specs.Orders.{Meeting, can_go_on, history_of}
 use Rattle.dbtg_explore.specs.States.{sequential_after, state_after}
 use Rattle.dbtg_explore.specs.Versions.{unversioned, unversioned_database}
-use Rattle.dbtg_explore.specs.Inside.Keys.{due_numbers}
+use Rattle.dbtg_explore.specs.Inside.Keys.{due_numbers, items_read_by}
 
 -- how many records a unit keeps
 abbrev pub kept_count : Option Unit → ℕ
 kept_count unit = unwrap_or (option_map (λ (v : Unit). length v.kept) unit) 0
 
--- for a unit how many records it keeps, whether its program can go on, how it stands, and the unit without versions
+-- for a unit how many records it keeps, whether its program can go on, what counts of it, and the unit without versions
 abbrev pub unit_part : Meeting → List Entry → ℕ → List ℕ
 unit_part m history u =
     kept_count (unit_at (unversioned (sequential_after m history)).units u)
     ∷ (if can_go_on m history u then 1 else 0)
-    ∷ flat_map due_numbers (option_to_list (unit_at (state_after m history).programs u))
+    ∷ flat_map (due_numbers (items_read_by m.programs u)) (option_to_list (unit_at (state_after m history).programs u))
     ++ flat_map unit_numbers (option_to_list (unit_at (unversioned (sequential_after m history)).units u))
 
 -- what a cell says without versions

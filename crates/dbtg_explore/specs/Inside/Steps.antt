@@ -1,6 +1,6 @@
 -- What the code of a search holds.
 -- m is a meeting, o is an order, i is the place of an order that is found, u is a unit.
-use Rattle.std.specs.Prelude.{ℕ, ◌≡◌, ◌≤◌, ◌++◌, Bool, List, length}
+use Rattle.std.specs.Prelude.{ℕ, ◌≡◌, ◌++◌, Bool, List}
 use Rattle.dbtg_explore.specs.declared.search.Search as given
 use Rattle.dbtg_explore.specs.Inside.Parts.{AreNumbered}
 use Rattle.dbtg_explore.specs.Inside.Search.{IsUnderWay}
@@ -17,11 +17,9 @@ pub record IsAt (m : Meeting) (i u : ℕ) (s : given.Search) : Type 0 where
   pub under_way : IsUnderWay (IsOrder m) (can_follow m) (essence_of m) s.found.orders s.edges.items i u
   pub known : AreNumbered m s.numbers s.found.keys s.found.orders
   pub seen : AreSeen m s.numbers.contents s.seen
-  pub few : length s.found.orders ≤ s.limit
 
 -- it has gone on to place i and unit u, and kept what it had found
 pub record Goes (m : Meeting) (i u : ℕ) (old new : given.Search) : Type 0 where
   pub at : IsAt m i u new
   pub more : List (List ℕ)
   pub kept : new.found.orders ≡ old.found.orders ++ more
-  pub limit_is : new.limit ≡ old.limit

@@ -1,6 +1,6 @@
 -- A walk from state to state: where it stands, and the turns that led there.
--- m is a meeting, u a unit, t a turn that was taken, w a walk.
-use Rattle.std.specs.Prelude.{ℕ, ◌≡◌, ◌++◌, true, List, [], ◌∷◌, Option, Some, None, if◌then◌else◌, length, map, option_and_then, ⊤}
+-- m is a meeting, u a unit, t a turn that was taken, w a walk, os are the orders that are found.
+use Rattle.std.specs.Prelude.{ℕ, ◌≡◌, ◌<◌, ◌-◌, ◌++◌, true, List, [], ◌∷◌, Option, Some, None, if◌then◌else◌, length, map, option_and_then, slice_get, ⊤}
 use Rattle.dbtg_unit.specs.declared.unit.Entry.{Entry}
 use Rattle.dbtg_unit.specs.Database.Laws.Replay.{entries_of}
 use Rattle.dbtg_step.specs.Core.Whole.{Making}
@@ -10,11 +10,14 @@ use Rattle.dbtg_program.specs.declared.program.Program.{Program}
 use Rattle.dbtg_program.specs.Going.{Due, due, ended}
 use Rattle.dbtg_step.specs.Machine.SequentialDatabase.{unit_at}
 use Rattle.dbtg_going.specs.Goings.{AreGoing, IsGoing}
+use Rattle.dbtg_explore.specs.declared.orders.Link.{Link}
 use Rattle.dbtg_explore.specs.declared.walk.Taken.{Taken}
 use Rattle.dbtg_explore.specs.declared.walk.Walk.{Walk}
+use Rattle.dbtg_explore.specs.Inside.Links.{GoOn}
 use Rattle.dbtg_explore.specs.Orders.{IsOrder, Meeting, after_turn, beginning, can_turn, history_of}
 use Rattle.dbtg_explore.specs.Results.{is_failure}
 use Rattle.dbtg_explore.specs.States.{MeetingState}
+use Rattle.dbtg_explore.specs.Inside.Keys.{items_read}
 
 -- the database has a unit for each program, and each program is where its unit's entries have led it
 pub record AreStanding (m : Meeting) (database : Making) (goings : List Going) : Type 0 where
@@ -35,6 +38,15 @@ pub record HasTurned (m : Meeting) (u : ℕ) (old new : Making) (goings : List G
 abbrev pub order_of : List Taken → List ℕ
 order_of ts = map (λ t. t.unit) ts
 
+-- the same with the places behind whose orders they were taken
+abbrev pub links_of : List Taken → List Link
+links_of ts = map (λ t. record { before = t.place; unit = t.unit }) ts
+
+-- the last of the first turns, as many as this, is this one
+pub record EndsWith (ts : List Taken) (count : ℕ) (link : Link) : Type 0 where
+  pub some : 0 < count
+  pub last_is : slice_get (links_of ts) (count - 1) ≡ Some link
+
 -- its unit could have the turn after a history and made one statement, and its program was before where the unit's entries had led it
 pub record IsTaken (m : Meeting) (history : List Entry) (t : Taken) : Type 0 where
   pub could : can_turn m history t.unit ≡ true
@@ -54,6 +66,10 @@ AreTaken m history (t ∷ ts) = IsTaken m history t × AreTaken m (after_turn m 
 abbrev pub IsPlace : Meeting → Walk → Type 0
 IsPlace m w = AreStanding m w.database.making w.goings.items
 
+-- it knows which items the programs read
+abbrev pub KnowsReads : Meeting → Walk → Type 0
+KnowsReads m w = w.reads.items ≡ map items_read m.programs
+
 -- it stands where an order leads, whose turns can be taken back
 pub record StandsAt (m : Meeting) (order : List ℕ) (w : Walk) : Type 0 where
   pub is_order : IsOrder m order
@@ -62,10 +78,16 @@ pub record StandsAt (m : Meeting) (order : List ℕ) (w : Walk) : Type 0 where
   pub order_is : order_of w.turns.items ≡ order
   pub are_taken : AreTaken m (beginning m) w.turns.items
   pub stays_are : w.database.stays ≡ length (beginning m)
+  pub knows : KnowsReads m w
 
 -- it stands where its turns have led
 abbrev pub Stands : Meeting → Walk → Type 0
 Stands m w = StandsAt m (order_of w.turns.items) w
+
+-- and each turn was taken behind the order at its place
+pub record StandsAmong (m : Meeting) (os : List (List ℕ)) (w : Walk) : Type 0 where
+  pub stands : Stands m w
+  pub go_on : GoOn os [] (links_of w.turns.items)
 
 -- FAILURES
 

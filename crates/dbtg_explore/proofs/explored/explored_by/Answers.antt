@@ -4,7 +4,7 @@ use Rattle.dbtg_explore.proofs.explored.explored_by.Goals as goal
 
 pub returns-clause-explored : goal.returns-clause-explored
 returns-clause-explored g c =
-    is_explored c.args.meeting.now c.args.limit c.in_ok-search.search c.in_ok-search.ends c.in_ok-search.ensures.through _ c.len-states.ensures c.into_orders.ensures c.of.ensures (c.in_ok-endless.ensures c.args.meeting.now c.in_ok-search.ensures.through.visited.at)
+    is_explored c.args.meeting.now c.args.limit c.in_ok-search.search c.in_ok-search.ends c.in_ok-search.ensures.through _ c.len-states.ensures c.in_ok-results.ensures c.of.ensures (c.in_ok-endless.ensures c.args.meeting.now c.in_ok-search.ensures.through.visited.at)
 
 pub endless_in-requires : goal.endless_in-requires
 endless_in-requires g c = (c.args.meeting.now, c.in_ok-search.ensures.through.visited.at)
@@ -13,3 +13,6 @@ pub returns-in_err-endless-clause-stopped : goal.returns-in_err-endless-clause-s
 returns-in_err-endless-clause-stopped g c =
     let told = err_from_is_err_and c.from_residual-in_err-endless.result c.from_residual-in_err-endless.ensures.1 in
     rw (told.1, told.2) (λ e. absurd (cc (e)))
+
+pub orders-requires : goal.orders-requires
+orders-requires g c = c.in_ok-search.ensures.through.visited.ends.there

@@ -12,10 +12,10 @@ returns-in-Some c =
     let going = c.in-Some.going.now in
     let found = one_got goings goings c.args.unit going c.requires refl c.in-Some.ensures.lookup.0 c.in-Some.ensures.lookup.1 in
     on_ok_weaker c.spell_going.result
-    (λ is. is ∙ ap (λ l. c.args.out.now.items ++ l) (sym (append-nil (due_numbers (comes_of going))) ∙ ap (λ o. flat_map (λ g. due_numbers (comes_of g)) (option_to_list o)) (sym found))) c.spell_going.ensures
+    (λ is. is ∙ ap (λ l. c.args.out.now.items ++ l) (sym (append-nil (due_numbers c.args.read.now (comes_of going))) ∙ ap (λ o. flat_map (λ g. due_numbers c.args.read.now (comes_of g)) (option_to_list o)) (sym found))) c.spell_going.ensures
 
 pub returns-in-None : goal.returns-in-None
 returns-in-None c =
     let goings = c.args.goings.now in
     let none = none_got goings goings c.args.unit c.requires refl c.in-None.ensures.lookup.0 in
-    sym (append-nil c.args.out.now.items) ∙ ap (λ o. c.args.out.now.items ++ flat_map (λ g. due_numbers (comes_of g)) (option_to_list o)) (sym none)
+    sym (append-nil c.args.out.now.items) ∙ ap (λ o. c.args.out.now.items ++ flat_map (λ g. due_numbers c.args.read.now (comes_of g)) (option_to_list o)) (sym none)

@@ -1,7 +1,5 @@
 use Rattle.std.proofs.Common.{◌≡◌, ◌+◌, ℕ, [], subst, length, get_or, arith}
-use Rattle.std.proofs.lemmas.Result.{err_from_is_err_and}
 use Rattle.dbtg_explore.specs.Inside.Steps.{Goes}
-use Rattle.dbtg_explore.specs.States.{HasMoreStates}
 use Rattle.dbtg_explore.proofs.Steps.{cannot_before, goes_both, goes_to_next, kept_range, stays}
 use Rattle.dbtg_explore.proofs.search.Search.go_on.Goals as goal
 
@@ -21,11 +19,6 @@ loop-before-preserved c = (
   goes_both c.args.meeting.now c.args.place (c.loop-before.before + 1) (c.loop-before.before + 1 + 1) c.args.self.now c.loop-before.self c.go_on_by.new.self c.loop-before.invariant.0 c.in_ok-go_on_by.ensures.goes,
   c.in_ok-go_on_by.ensures.stands,
 )
-
-pub returns-in_err-go_on_by-clause-stopped : goal.returns-in_err-go_on_by-clause-stopped
-returns-in_err-go_on_by-clause-stopped c =
-    let told = err_from_is_err_and c.from_residual.result c.from_residual.ensures.1 in
-    rw (told.1, told.2) (λ e. subst (HasMoreStates c.args.meeting.now) c.loop-before.invariant.0.limit_is (c.in_err-go_on_by.ensures.stopped e))
 
 pub returns-clause-goes : goal.returns-clause-goes
 returns-clause-goes c =

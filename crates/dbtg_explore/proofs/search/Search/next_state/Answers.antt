@@ -33,7 +33,7 @@ returns-in-Some-clause-reaches c =
     let at = state_at m s.numbers s.found.keys s.found.orders c.args.place n c.requires.at.known c.requires.within c.number-state.ensures in
     if_ok_four c.put_looks.result _ _ _ _ _
     (λ j once keeps is_array wrote.
-    reaches m (o ++ c.args.unit ∷ []) s (record s { numbers = new }) new j refl refl refl refl
+    reaches m (o ++ c.args.unit ∷ []) s (record s { numbers = new }) new j refl refl refl
     (known_number m s.seen s.numbers o n c.args.unit t c.requires.at.seen at c.in-Some.ensures new j once keeps is_array (wrote ∙ ap (λ (looks : List Look). written looks (elements s.numbers.arrays n)) c.as_slice.ensures))
     keeps (seen_later m s.numbers.contents new.contents keeps.contents s.seen c.requires.at.seen))
     c.put_looks.ensures.kept c.put_looks.ensures.keeps c.put_looks.ensures.array c.put_looks.ensures.elements

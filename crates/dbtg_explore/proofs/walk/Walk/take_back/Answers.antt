@@ -41,5 +41,5 @@ returns-in-Some-clause-stands c = λ m h.
     let t = c.in-Some.field-0 in
     let count : length c.history-count.result.now ≡ length s.database.making.history = ap (λ (es : List Entry). length es) (c.history-count.ensures.history ∙ ap (λ (d : Making). d.history) c.database.ensures) in
     let long : length c.put_back.new.goings ≡ s.goings.len = omega (arith, c.put_back.auto.goings, c.as_mut_slice.ensures.len) in
-    stands_back m s c.pop.new.self.items t h c.in-Some.ensures.items (record { database = c.take_back_to.new.self; goings = with_items s.goings c.put_back.new.goings; turns = c.pop.new.self }) refl
-    (c.take_back_to.ensures ∙ (λ i. record s.database { making = made_first (count i - 1) s.database.making })) (with_items_is s.goings c.put_back.new.goings long ∙ c.put_back.ensures ∙ ap (λ (gs : List Going). with_unit_at gs t.unit t.before) c.as_mut_slice.ensures.value)
+    stands_back m s c.pop.new.self.items t h c.in-Some.ensures.items (record { database = c.take_back_to.new.self; goings = with_items s.goings c.put_back.new.goings; turns = c.pop.new.self; reads = s.reads }) refl
+    (c.take_back_to.ensures ∙ (λ i. record s.database { making = made_first (count i - 1) s.database.making })) (with_items_is s.goings c.put_back.new.goings long ∙ c.put_back.ensures ∙ ap (λ (gs : List Going). with_unit_at gs t.unit t.before) c.as_mut_slice.ensures.value) refl

@@ -1,0 +1,250 @@
+-- Wishes: whether the turn after an order breaks one depends on the state alone, so the first that is found is the first of all.
+-- m is a meeting, w a wish, h and g are histories, o, p and q are orders, i, j and k places among the orders that are found.
+use Rattle.std.proofs.Common.{◌≡◌, refl, sym, ◌∙◌, ap, subst, ℕ, ◌+◌, ◌<◌, ◌≤◌, Bool, true, false, ◌&&◌, List, [], ◌∷◌, ◌++◌, length, length-append, get_or, Option, None, Some, arith, inl, inr}
+use Rattle.std.specs.Prelude.{◌==◌, Contains, is_some, not, option_and_then, option_map}
+use Rattle.std.proofs.lemmas.Bool.{cases_lt, true≢false}
+use Rattle.std.proofs.lemmas.List.{get_or_append_left, get_or_default, same_from_push}
+use Rattle.std.proofs.lemmas.List.Elements.{Contains-get_or}
+use Rattle.dbtg_schema.specs.Lookups.{some_and}
+use Rattle.dbtg_unit.specs.declared.statement.Statement.{Statement}
+use Rattle.dbtg_unit.specs.declared.unit.Answer.{Answer}
+use Rattle.dbtg_unit.specs.declared.unit.Entry.{Entry}
+use Rattle.dbtg_unit.specs.Database.Laws.Replay.{effect_of_unit}
+use Rattle.dbtg_unit.specs.Database.Statements.Codes.{status_code}
+use Rattle.dbtg_unit.specs.Database.Statements.Effect.{StatementEffect}
+use Rattle.dbtg_program.specs.declared.program.Program.{Program}
+use Rattle.dbtg_program.specs.Going.{Due, due, ended}
+use Rattle.dbtg_step.specs.Machine.SequentialDatabase.{unit_at}
+use Rattle.dbtg_going.specs.Turns.{comes, made, with_effect_of}
+use Rattle.dbtg_states.specs.Numbers.{Numbers}
+use Rattle.dbtg_explore.specs.declared.search.Search as given
+use Rattle.dbtg_explore.specs.declared.wishes.Wish.{Wish}
+use Rattle.dbtg_explore.specs.Counted.{counted}
+use Rattle.dbtg_explore.specs.Inside.Parts.{IsNumberOf}
+use Rattle.dbtg_explore.specs.Inside.Search.{HasFirst}
+use Rattle.dbtg_explore.specs.Inside.Standing.{said, turns_in}
+use Rattle.dbtg_explore.specs.Inside.Steps.{IsAt, can_follow}
+use Rattle.dbtg_explore.specs.Inside.Wishes.{HoldsBefore, is_next, line_of, stands_there}
+use Rattle.dbtg_explore.specs.Laws.{answer_of}
+use Rattle.dbtg_explore.specs.Orders.{IsNoLater, IsOrder, Meeting, after_turn, beginning, can_turn, due_of, history_of, waits}
+use Rattle.dbtg_explore.specs.States.{Essence, essence, essence_of, sequential_after, state_after}
+use Rattle.dbtg_explore.specs.Wishes.{BreaksBy, HoldsSoFar, IsJudged, breaks, is_wished, stands_in}
+use Rattle.dbtg_explore.proofs.Alike.{IsDueOf, answer_alike, can_turn_alike, comes_at, due_alike, due_there}
+use Rattle.dbtg_explore.proofs.Before.{no_later_push, no_later_trans}
+use Rattle.dbtg_explore.proofs.Counted.{counted_at, counted_by}
+use Rattle.dbtg_explore.proofs.Placed.{has_number}
+use Rattle.dbtg_explore.proofs.Said.{at_is, turns_is}
+use Rattle.dbtg_explore.proofs.Searched.{all_found, found_or_later, no_later_place}
+use Rattle.dbtg_explore.proofs.Steps.{goes_on}
+use Rattle.dbtg_explore.proofs.Turning.{follow_front, history_on, last_can, order_on}
+
+module _ (m : Meeting) where
+  -- WHICH STATEMENT
+
+  -- what counts of a program says in which line its statement stands
+  stands_counted : (line : ℕ) (p : Program) (d : Due) → stands_in line p (counted p d) ≡ stands_in line p d
+  stands_counted line p (due x s) = refl
+  stands_counted line p (ended x how) = refl
+
+  counted_there : (h : List Entry) (u : ℕ) → unit_at (essence m (state_after m h)).programs u ≡ option_map (λ (p : Program). counted p (comes m.schema p u h)) (unit_at m.programs u)
+  counted_there h u = counted_at m.programs (state_after m h).programs u ∙ ap (option_map (counted_by (unit_at m.programs u))) (comes_at m h u) ∙ by (unit_at m.programs u) where
+    by : (o : Option Program) → option_map (counted_by o) (option_map (λ (p : Program). comes m.schema p u h) o) ≡ option_map (λ (p : Program). counted p (comes m.schema p u h)) o
+    by None = refl
+    by (Some p) = refl
+
+  pub wished_alike : (w : Wish) (h g : List Entry) → essence m (state_after m h) ≡ essence m (state_after m g) → is_wished m w h ≡ is_wished m w g
+  wished_alike w h g e =
+      by (unit_at m.programs w.unit) (sym (counted_there h w.unit) ∙ ap (λ (s : Essence). unit_at s.programs w.unit) e ∙ counted_there g w.unit) where
+        by : (o : Option Program) → option_map (λ (p : Program). counted p (comes m.schema p w.unit h)) o ≡ option_map (λ (p : Program). counted p (comes m.schema p w.unit g)) o
+            → some_and (λ (p : Program). stands_in w.line p (comes m.schema p w.unit h)) o ≡ some_and (λ (p : Program). stands_in w.line p (comes m.schema p w.unit g)) o
+        by None is = refl
+        by (Some p) is =
+            let same : counted p (comes m.schema p w.unit h) ≡ counted p (comes m.schema p w.unit g) = cc (is) in
+            sym (stands_counted w.line p (comes m.schema p w.unit h)) ∙ ap (stands_in w.line p) same ∙ stands_counted w.line p (comes m.schema p w.unit g)
+
+  -- WHAT IT MAKES
+
+  -- a turn's statement and its answer
+  pub record IsMade (h : List Entry) (u : ℕ) (e : Entry) : Type 0 where
+    pub statement : due_of m h u ≡ Some e.statement
+    pub answer : answer_of m h u ≡ Some e.answer
+
+  no_longer : (h : List Entry) (e : Entry) → h ≡ h ++ e ∷ [] → ⊥
+  no_longer h e is = let long = length-append h (e ∷ []) in let same = ap (λ (es : List Entry). length es) is in omega arith
+
+  abbrev effect_there : List Entry → ℕ → Statement → Option StatementEffect
+  effect_there h u s = effect_of_unit m.schema m.capacity (sequential_after m h) u s
+
+  abbrev answer_by : Option StatementEffect → Option Answer
+  answer_by q = option_map (λ (r : StatementEffect). r.answer) q
+
+  pub made_there : (h : List Entry) (u : ℕ) (e : Entry) → after_turn m h u ≡ h ++ e ∷ [] → IsMade h u e
+  made_there h u e is = by (due_of m h u) refl is where
+    by_effect : (s : Statement) (q : Option StatementEffect) → due_of m h u ≡ Some s → effect_there h u s ≡ q → with_effect_of h u s q ≡ h ++ e ∷ [] → IsMade h u e
+    by_effect s None said effects is = absurd (no_longer h e is)
+    by_effect s (Some r) said effects is =
+        let both = same_from_push h h _ e is in
+        let same = both.1 in
+        let statement : s ≡ e.statement = ap (λ (x : Entry). x.statement) same in
+        let answer : r.answer ≡ e.answer = ap (λ (x : Entry). x.answer) same in
+        record {
+          statement = said ∙ ap Some statement;
+          answer = ap (λ (o : Option Statement). option_and_then (λ (x : Statement). answer_by (effect_there h u x)) o) said ∙ ap answer_by effects ∙ ap Some answer;
+        }
+
+    by : (o : Option Statement) → due_of m h u ≡ o → made m.schema m.capacity (length m.programs) h u o ≡ h ++ e ∷ [] → IsMade h u e
+    by None said is = absurd (no_longer h e is)
+    by (Some s) said is = by_effect s (effect_there h u s) said refl is
+
+  -- an entry with the same
+  pub record MakesSame (h : List Entry) (u : ℕ) (e : Entry) : Type 0 where
+    pub entry : Entry
+    pub history_is : after_turn m h u ≡ h ++ entry ∷ []
+    pub statement : entry.statement ≡ e.statement
+    pub answer : entry.answer ≡ e.answer
+
+  pub makes_same : (h : List Entry) (u : ℕ) (e : Entry) → IsMade h u e → MakesSame h u e
+  makes_same h u e is = by (effect_there h u e.statement) refl (sym (ap (λ (o : Option Statement). option_and_then (λ (x : Statement). answer_by (effect_there h u x)) o) is.statement) ∙ is.answer) where
+    by : (q : Option StatementEffect) → effect_there h u e.statement ≡ q → answer_by (effect_there h u e.statement) ≡ Some e.answer → MakesSame h u e
+    by None effects answers =
+        let none : None ≡ Some e.answer = sym (ap answer_by effects) ∙ answers in
+        absurd (cc (none))
+    by (Some r) effects answers =
+        let answer : Some r.answer ≡ Some e.answer = sym (ap answer_by effects) ∙ answers in
+        record {
+          entry = record { ticket = length h; unit = u; statement = e.statement; answer = r.answer };
+          history_is = ap (made m.schema m.capacity (length m.programs) h u) is.statement ∙ ap (with_effect_of h u e.statement) effects;
+          statement = refl;
+          answer = cc (answer);
+        }
+
+  -- BEHIND AN ORDER
+
+  module _ (w : Wish) where
+    -- a wish is broken alike behind orders that lead to the same state
+    pub breaks_alike : (q p : List ℕ) (b : BreaksBy m w q) → essence_of m p ≡ essence_of m b.before → IsOrder m p → BreaksBy m w (p ++ w.unit ∷ [])
+    breaks_alike q p b e is =
+        let u = w.unit in
+        let h = history_of m b.before in
+        let g = history_of m p in
+        let can : can_turn m g u ≡ true = can_turn_alike m g h u e ∙ last_can m b.before u (subst (IsOrder m) b.order_is b.is_order) in
+        let there : IsMade h u b.entry = made_there h u b.entry (sym (history_on m b.before u) ∙ ap (history_of m) (sym b.order_is) ∙ b.history_is) in
+        let here : IsMade g u b.entry = record { statement = due_alike m g h u e ∙ there.statement; answer = answer_alike m g h u e ∙ there.answer } in
+        let same = makes_same g u b.entry here in
+        record {
+          before = p;
+          order_is = refl;
+          is_order = order_on m p u is can;
+          wished = wished_alike w g h e ∙ b.wished;
+          entry = same.entry;
+          history_is = history_on m p u ∙ same.history_is;
+          breaks_is = (λ i. breaks w (status_code (same.statement i) (same.answer i).status)) ∙ b.breaks_is;
+        }
+
+    pub record IsNext (h : List Entry) : Type 0 where
+      pub can : can_turn m h w.unit ≡ true
+      pub wished : is_wished m w h ≡ true
+
+    pub next_both : (h : List Entry) → is_next m w h ≡ true → IsNext h
+    next_both h is = by (can_turn m h w.unit) refl is where
+      by : (b : Bool) → can_turn m h w.unit ≡ b → (b && is_wished m w h) ≡ true → IsNext h
+      by true can wished = record { can = can; wished = wished }
+      by false cannot no = absurd (true≢false (sym no))
+
+    -- what is before the last turn
+    before_is : (o : List ℕ) (b : BreaksBy m w (o ++ w.unit ∷ [])) → b.before ≡ o
+    before_is o b = let both = same_from_push o b.before w.unit w.unit b.order_is in sym both.0
+
+    pub next_there : (o : List ℕ) → BreaksBy m w (o ++ w.unit ∷ []) → is_next m w (history_of m o) ≡ true
+    next_there o b =
+        let can : can_turn m (history_of m o) w.unit ≡ true = last_can m o w.unit b.is_order in
+        let wished : is_wished m w (history_of m o) ≡ true = ap (λ p. is_wished m w (history_of m p)) (sym (before_is o b)) ∙ b.wished in
+        λ i. can i && wished i
+
+    pub made_last : (o : List ℕ) (b : BreaksBy m w (o ++ w.unit ∷ [])) → history_of m (o ++ w.unit ∷ []) ≡ history_of m o ++ b.entry ∷ []
+    made_last o b = b.history_is ∙ ap (λ p. history_of m p ++ b.entry ∷ []) (before_is o b)
+
+    -- WHICH IS FIRST
+
+    module _ (s : given.Search) (i : ℕ) (at : IsAt m i 0 s) where
+      abbrev os : List (List ℕ)
+      os = s.found.orders
+
+      abbrev order_at : ℕ → List ℕ
+      order_at k = get_or os k []
+
+      -- an order that breaks it has a first order among those that are found, or comes after them
+      module _ (q : List ℕ) (b : BreaksBy m w q) where
+        before_order : IsOrder m b.before
+        before_order = follow_front m (beginning m) b.before (w.unit ∷ []) (subst (IsOrder m) b.order_is b.is_order)
+
+        breaks_at : (first : HasFirst (essence_of m) os b.before) → BreaksBy m w (order_at first.is_found.0 ++ w.unit ∷ [])
+        breaks_at first =
+            let here : order_at first.is_found.0 ≡ first.first = get_or_default os first.is_found.0 [] first.first first.is_found.1 ∙ first.is_found.2 in
+            subst (λ p. BreaksBy m w (p ++ w.unit ∷ [])) (sym here) (breaks_alike q first.first b first.same (at.under_way.are_orders first.first first.is_found))
+
+        -- behind a place before which it holds no order breaks it earlier
+        no_earlier : (k : ℕ) → k < length os → HoldsBefore m w os k → IsNoLater (order_at k ++ w.unit ∷ []) q
+        no_earlier k low holds =
+            subst (IsNoLater (order_at k ++ w.unit ∷ [])) (sym b.order_is) (no_later_push (order_at k) b.before w.unit (elim (found_or_later (IsOrder m) (can_follow m) (essence_of m) (goes_on m) os s.edges.items i at.under_way b.before before_order) [
+              | inl first ↦
+                  let j = first.is_found.0 in
+                  let here : order_at j ≡ first.first = get_or_default os j [] first.first first.is_found.1 ∙ first.is_found.2 in
+                  elim (cases_lt j k) [
+                    | inl early ↦ absurd (holds j early (breaks_at first))
+                    | inr le ↦ no_later_trans (order_at k) first.first b.before (subst (IsNoLater (order_at k)) here (no_later_place os k j at.under_way.in_order le first.is_found.1)) first.no_later
+                  ]
+              | inr later ↦ inr (later.behind (order_at k) (Contains-get_or os k [] low))
+            ]))
+
+      pub first_breaks : (k : ℕ) (turns : List ℕ) → k < length os → HoldsBefore m w os k → turns ≡ order_at k ++ w.unit ∷ [] → BreaksBy m w turns → IsJudged m w (Some turns)
+      first_breaks k turns low holds is b = (b, λ q c. subst (λ o. IsNoLater o q) (sym is) (no_earlier q c k low holds))
+
+      pub none_breaks : length os ≤ i → HoldsBefore m w os i → IsJudged m w None
+      none_breaks through holds q b =
+          let first = all_found (IsOrder m) (can_follow m) (essence_of m) (goes_on m) os s.edges.items i through at.under_way b.before (before_order q b) in
+          let low = first.is_found.1 in
+          holds first.is_found.0 (omega arith) (breaks_at q b first)
+
+      pub holds_so_far : (n : ℕ) → n < length os → HoldsBefore m w os (length os) → HoldsSoFar m w n
+      holds_so_far n more holds = record {
+        more = record { orders = os; are_apart = record { are_orders = at.under_way.are_orders; apart = at.under_way.apart }; more = more };
+        holds = λ o c b. holds c.0 c.1 (subst (λ p. BreaksBy m w (p ++ w.unit ∷ [])) (sym (get_or_default os c.0 [] o c.1 ∙ c.2)) b);
+      }
+
+    -- one place more
+    pub holds_more : (xs : List (List ℕ)) (k : ℕ) → HoldsBefore m w xs k → (BreaksBy m w (get_or xs k [] ++ w.unit ∷ []) → ⊥) → HoldsBefore m w xs (k + 1)
+    holds_more xs k holds here j low = elim (cases_lt j k) [
+      | inl below ↦ holds j below
+      | inr above ↦ let e : j ≡ k = omega arith in λ b. here (subst (λ (n : ℕ). BreaksBy m w (get_or xs n [] ++ w.unit ∷ [])) e b)
+    ]
+
+    -- more orders that are found
+    pub holds_kept : (xs more ys : List (List ℕ)) (k : ℕ) → ys ≡ xs ++ more → k ≤ length xs → HoldsBefore m w xs k → HoldsBefore m w ys k
+    holds_kept xs more ys k is within holds j low b =
+        let there : get_or ys j [] ≡ get_or xs j [] = ap (λ (zs : List (List ℕ)). get_or zs j []) is ∙ get_or_append_left xs more [] j (omega (arith, low, within)) in
+        holds j low (subst (λ p. BreaksBy m w (p ++ w.unit ∷ [])) there b)
+
+-- BY THE ARRAY OF A STATE
+
+module _ (m : Meeting) (kept : Numbers) (h : List Entry) (n : ℕ) (at : IsNumberOf m kept h n) (w : Wish) where
+  due_where : (b : Option Statement) → due_of m h w.unit ≡ b → can_turn m h w.unit ≡ true → (s : Statement) × (due_of m h w.unit ≡ Some s)
+  due_where None none can =
+      let cannot : can_turn m h w.unit ≡ false = ap (λ (o : Option Statement). is_some o && not (waits m h w.unit)) none in
+      absurd (true≢false (sym can ∙ cannot))
+  due_where (Some s) some can = (s, some)
+
+  stands_is : can_turn m h w.unit ≡ true → stands_there m kept n w.unit w.line ≡ is_wished m w h
+  stands_is can =
+      let said_due = due_where (due_of m h w.unit) refl can in
+      let d = due_there m h w.unit said_due.0 said_due.1 in
+      let number = has_number m.programs w.unit d.program d.found in
+      let where_it_is : said kept n w.unit 3 ≡ d.at.at = at_is m kept h n at w.unit said_due.0 d number.0 number.1 in
+      (λ i. some_and (λ (p : Program). line_of p (where_it_is i) == w.line) (d.found i))
+      ∙ sym (ap (some_and (λ (p : Program). stands_in w.line p (comes m.schema p w.unit h))) d.found ∙ ap (stands_in w.line d.program) d.comes_is)
+
+  pub next_is : (turns_in m kept n w.unit && stands_there m kept n w.unit w.line) ≡ is_next m w h
+  next_is = ap (λ b. b && stands_there m kept n w.unit w.line) (turns_is m kept h n at w.unit) ∙ by (can_turn m h w.unit) refl where
+    by : (b : Bool) → can_turn m h w.unit ≡ b → (b && stands_there m kept n w.unit w.line) ≡ (b && is_wished m w h)
+    by false cannot = refl
+    by true can = stands_is can

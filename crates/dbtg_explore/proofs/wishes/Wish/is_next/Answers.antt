@@ -1,0 +1,38 @@
+use Rattle.std.proofs.Common.{◌∙◌, [], sym, get_or}
+use Rattle.dbtg_explore.specs.Orders.{history_of}
+use Rattle.dbtg_explore.proofs.Numbered.{numbered_low, state_at}
+use Rattle.dbtg_explore.proofs.Placed.{turn_numbered}
+use Rattle.dbtg_explore.proofs.Said.{turns_is}
+use Rattle.dbtg_explore.proofs.Wishes.{next_is}
+use Rattle.dbtg_explore.proofs.wishes.Wish.is_next.Goals as goal
+
+pub number-state-requires : goal.number-state-requires
+number-state-requires c = let s = c.args.search.now in numbered_low c.args.meeting.now s.numbers s.found.keys s.found.orders c.args.place c.requires.at.1.known c.requires.within
+
+pub can_turn-requires-clause-array : goal.can_turn-requires-clause-array
+can_turn-requires-clause-array c =
+    let s = c.args.search.now in
+    let at = state_at c.args.meeting.now s.numbers s.found.keys s.found.orders c.args.place c.number-state.result c.requires.at.1.known c.requires.within c.number-state.ensures in
+    at.number.is_array
+
+pub stands_there-requires-clause-array : goal.stands_there-requires-clause-array
+stands_there-requires-clause-array c =
+    let s = c.args.search.now in
+    let at = state_at c.args.meeting.now s.numbers s.found.keys s.found.orders c.args.place c.number-state.result c.requires.at.1.known c.requires.within c.number-state.ensures in
+    at.number.is_array
+
+pub stands_there-requires-clause-numbered : goal.stands_there-requires-clause-numbered
+stands_there-requires-clause-numbered c =
+    let m = c.args.meeting.now in
+    let s = c.args.search.now in
+    let h = history_of m (get_or s.found.orders c.args.place []) in
+    let at = state_at m s.numbers s.found.keys s.found.orders c.args.place c.number-state.result c.requires.at.1.known c.requires.within c.number-state.ensures in
+    turn_numbered m h c.args.self.unit (sym (turns_is m s.numbers h c.number-state.result at c.args.self.unit) ∙ ?)
+
+pub returns : goal.returns
+returns c =
+    let m = c.args.meeting.now in
+    let s = c.args.search.now in
+    let h = history_of m (get_or s.found.orders c.args.place []) in
+    let at = state_at m s.numbers s.found.keys s.found.orders c.args.place c.number-state.result c.requires.at.1.known c.requires.within c.number-state.ensures in
+    ?
