@@ -375,7 +375,12 @@ fn tell_unwished(rt: &HostRuntime, call: &Call, codes: &[u8]) -> ExitCode {
 }
 
 fn no_status(rt: &HostRuntime, wished: Wished, codes: &str) -> ExitCode {
-    let Wished { unit, place, status, .. } = wished;
+    let Wished {
+        unit,
+        place,
+        status,
+        ..
+    } = wished;
     let _ = eprintln!(rt; "no status {status:04} of {unit}.{place}:{codes}");
     ExitCode::from(WRONG_WORDS)
 }
