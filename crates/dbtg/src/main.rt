@@ -381,7 +381,7 @@ fn no_status(rt: &HostRuntime, wished: Wished, codes: &str) -> ExitCode {
         status,
         ..
     } = wished;
-    let _ = eprintln!(rt; "no status {status:04} of {unit}.{place}:{codes}");
+    let _ = eprintln!(rt; "no status {status:04} of {unit}.{place}: {codes}");
     ExitCode::from(WRONG_WORDS)
 }
 

@@ -6,6 +6,7 @@ use Rattle.dbtg_program.specs.declared.program.Program.{Program}
 use Rattle.dbtg_program.specs.Reading.{program}
 use Rattle.dbtg_going.specs.declared.going.ProgramRun.{ProgramRun}
 use Rattle.dbtg_going.specs.Turns.{IsRunOf, after_turns, turns_before}
+use Rattle.dbtg_explain.specs.Verbs.{can_have, codes_of_verb}
 use Rattle.dbtg_command.specs.declared.fault.Fault.{Fault}
 use Rattle.dbtg_command.specs.declared.fault.Fault.TheVariants as fault
 use Rattle.dbtg_command.specs.declared.fault.Fault.TheVariants.{Memory}
@@ -27,7 +28,7 @@ use Rattle.dbtg_exploring.specs.declared.command.Said.{Said}
 use Rattle.dbtg_exploring.specs.declared.command.Said.TheVariants.{Listed, NoStatement, NoStatus}
 use Rattle.dbtg_exploring.specs.declared.setting.Exploring.{Exploring}
 use Rattle.dbtg_exploring.specs.Texts.{AreTold}
-use Rattle.dbtg_exploring.specs.Wishes.{IsVerdict, can_have, codes_text, verb_of}
+use Rattle.dbtg_exploring.specs.Wishes.{IsVerdict, verb_of}
 
 -- the meeting of these programs that is asked for, after these turns
 abbrev pub meeting_of : Lists → List Program → Exploring → List ℕ → Meeting
@@ -107,7 +108,7 @@ IsSaid (Some w) schema programs texts told asked (Listed printed) =
     ((verb : List ℕ) × (verb_of (meeting_of schema programs asked []) texts asked.around w ≡ Some verb) × (can_have verb w.status ≡ true)) × IsListed schema programs texts told asked printed
 IsSaid (Some w) schema programs texts told asked NoStatement = verb_of (meeting_of schema programs asked []) texts asked.around w ≡ None
 IsSaid (Some w) schema programs texts told asked (NoStatus text) =
-    (verb : List ℕ) × (verb_of (meeting_of schema programs asked []) texts asked.around w ≡ Some verb) × (can_have verb w.status ≡ false) × (text.items ≡ codes_text verb)
+    (verb : List ℕ) × (verb_of (meeting_of schema programs asked []) texts asked.around w ≡ Some verb) × (can_have verb w.status ≡ false) × (text.items ≡ codes_of_verb verb)
 
 -- memory ran out; or the first program ends, and there are too many states
 abbrev pub GivesUp : Lists → List Program → List ℕ → Exploring → Fault → Type 0

@@ -1,10 +1,6 @@
--- A wish for the status of a statement, as `explore` is asked for it: the statement, the statuses that it can have, and what is printed.
+-- A wish for the status of a statement, as `explore` is asked for it: the verb of its statement, and what is printed.
 -- m is a meeting, w a wish; texts are those of the programs; around says which programs run before and after the others.
-use Rattle.std.specs.Prelude.{ℕ, ◌≡◌, ◌==◌, ◌+◌, ◌&&◌, ◌||◌, Bool, true, false, not, List, [], ◌∷◌, ◌++◌, Option, Some, None, codes, decimal, flat_map, is_some, length, option_map, if◌then◌else◌}
-use Rattle.std.specs.List.{range_with_len}
-use Rattle.std.specs.Str.{bytes_eq}
-use Rattle.dbtg_schema.specs.Lookups.{some_and}
-use Rattle.dbtg_explain.specs.Explaining.{field, status_rows}
+use Rattle.std.specs.Prelude.{ℕ, ◌≡◌, ◌==◌, ◌+◌, ◌&&◌, Bool, true, false, not, List, [], ◌∷◌, ◌++◌, Option, Some, None, codes, decimal, is_some, length, option_map, if◌then◌else◌}
 use Rattle.dbtg_explain.specs.FaultyWord.{line_at}
 use Rattle.dbtg_script.specs.Printing.Texts.{four_digits}
 use Rattle.dbtg_script.specs.Printing.WordTexts.{turns_text}
@@ -35,24 +31,6 @@ first_plain [] = []
 abbrev pub verb_of : Meeting → List (List ℕ) → Around → Wish → Option (List ℕ)
 verb_of m texts around w =
     if is_there m w && is_met around (length m.programs) w.unit then option_map (λ text. first_plain (tokens false (line_at w.line text))) (unit_at texts w.unit) else None
-
--- ITS STATUSES
-
--- the table that is explained has a row of this status and verb
-abbrev pub has_row : List ℕ → ℕ → Bool
-has_row verb code = not (code == 0) && some_and (λ rows. bytes_eq (field 1 rows.0) verb) (status_rows code)
-
--- a statement with this verb is done, or refused as the table says
-abbrev pub can_have : List ℕ → ℕ → Bool
-can_have verb code = code == 0 || has_row verb code
-
--- a space and the status, if a statement with this verb can have it
-abbrev pub code_text : List ℕ → ℕ → List ℕ
-code_text verb code = if can_have verb code then 32 ∷ four_digits code else []
-
--- the same of each status of four digits
-abbrev pub codes_text : List ℕ → List ℕ
-codes_text verb = flat_map (code_text verb) (range_with_len 0 10000)
 
 -- WHAT IS PRINTED
 

@@ -15,8 +15,9 @@ ghost use Rattle.std.specs.Prelude.{◌≡◌, ◌≤◌, ◌++◌, IfErr, IfOk,
 
 use crate::begun::{begun_turns, run_before};
 use crate::setting::{Exploring, Setting};
-use crate::wishes::{can_have, codes_text, verb_of, verdict_text};
+use crate::wishes::{verb_of, verdict_text};
 use dbtg_command::{Fault, Source, read_schema};
+use dbtg_explain::{can_have, codes_of_verb};
 use dbtg_explore::{Explored, Meeting, Wish, broken_turns, explore};
 use dbtg_going::ProgramRun;
 use dbtg_replay::replay::{AnswerForm, check_count};
@@ -225,7 +226,7 @@ fn explore_wished<W: Watch>(
         return Ok(Said::NoStatement);
     };
     if !can_have(verb, wish.status) {
-        return Ok(Said::NoStatus(codes_text(alloc, verb)?));
+        return Ok(Said::NoStatus(codes_of_verb(alloc, verb)?));
     }
     Ok(Said::Listed(explore_setting(alloc, watch, setting, programs)?))
 }
