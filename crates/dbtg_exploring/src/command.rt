@@ -5,7 +5,7 @@ ghost use Rattle.dbtg_command.specs.Sources.{ReadSchema};
 ghost use Rattle.dbtg_explore.specs.Explored.{IsExplored};
 ghost use Rattle.dbtg_explore.specs.Orders.{IsMeeting};
 ghost use Rattle.dbtg_explore.specs.Wishes.{IsJudged};
-ghost use Rattle.dbtg_exploring.specs.Exploring.{ExploresHeld, GivesUp, IsExploration, IsListed, IsListedIf, IsOver, IsPrinted, IsRunBefore, IsSaid, IsTooLarge, ToldOfExploring, meeting_of};
+ghost use Rattle.dbtg_exploring.specs.Exploring.{ExploresHeld, GivesUp, IsExploration, IsListed, IsListedIf, IsOver, IsPrinted, IsRunBefore, IsSaid, IsTooLarge, ToldOfExploring};
 ghost use Rattle.dbtg_exploring.specs.Wishes.{IsVerdict};
 ghost use Rattle.dbtg_program.specs.Reading.{program};
 ghost use Rattle.dbtg_running.specs.Reading.{ReadPrograms};
@@ -143,19 +143,6 @@ fn print_meeting<W: Watch>(
     }
 }
 
-// The meeting of the programs after these turns.
-fn meeting_of<'a>(setting: &Setting<'a>, begun: &'a [u8]) -> Meeting<'a>
-    ensures { result.now ≡ meeting_of setting.now.schema.now setting.now.programs.now setting.now.asked begun.now }
-{
-    Meeting {
-        schema: setting.schema,
-        capacity: setting.asked.capacity,
-        programs: setting.programs,
-        begun,
-        last_waits: setting.asked.around.last,
-    }
-}
-
 // What is printed of programs that meet after this run.
 fn explore_behind<W: Watch>(
     alloc: Global,
@@ -172,7 +159,13 @@ fn explore_behind<W: Watch>(
     ensures refused { IfErr result (IsTooLarge setting.now.schema.now setting.now.programs.now setting.now.told.now setting.now.asked) }
 {
     let begun = begun_turns(alloc, setting, before)?;
-    let meeting = meeting_of(setting, begun.as_slice());
+    let meeting = Meeting {
+        schema: setting.schema,
+        capacity: setting.asked.capacity,
+        programs: setting.programs,
+        begun: begun.as_slice(),
+        last_waits: setting.asked.around.last,
+    };
     print_meeting(alloc, watch, setting, &meeting, beside)
 }
 
@@ -220,8 +213,15 @@ fn explore_wished<W: Watch>(
     ensures done { IfOk result (IsSaid (Some wish) setting.now.schema.now setting.now.programs.now programs.now.texts.items setting.now.told.now setting.now.asked) }
     ensures refused { IfErr result (GivesUp setting.now.schema.now setting.now.programs.now setting.now.told.now setting.now.asked) }
 {
-    let meeting = meeting_of(setting, &[]);
     let around = setting.asked.around;
+    // Which statements there are does not depend on turns.
+    let meeting = Meeting {
+        schema: setting.schema,
+        capacity: setting.asked.capacity,
+        programs: setting.programs,
+        begun: &[],
+        last_waits: around.last,
+    };
     let Some(verb) = verb_of(&meeting, programs.texts.as_slice(), around, wish) else {
         return Ok(Said::NoStatement);
     };
