@@ -259,13 +259,13 @@ module _ (m : Meeting) where
   order_alike h g [] e = e
   order_alike h g (u ∷ o) e = order_alike (after_turn m h u) (after_turn m g u) o (turn_alike h g u e)
 
+  abbrev answer_in : State → ℕ → Statement → Option Answer
+  answer_in state u s = option_map (λ (o : StatementEffect). o.answer) (effect_of_unit m.schema m.capacity state u s)
+
   -- the answer that is due
   pub answer_alike : (h g : List Entry) (u : ℕ) → essence m (state_after m h) ≡ essence m (state_after m g) → answer_of m h u ≡ answer_of m g u
-  answer_alike h g u e = by (due_of m h u) ∙ ap (option_and_then (λ s. answer_in (sequential_after m g) s)) (due_alike h g u e) where
-    abbrev answer_in : State → Statement → Option Answer
-    answer_in state s = option_map (λ (o : StatementEffect). o.answer) (effect_of_unit m.schema m.capacity state u s)
-
-    by : (o : Option Statement) → option_and_then (λ s. answer_in (sequential_after m h) s) o ≡ option_and_then (λ s. answer_in (sequential_after m g) s) o
+  answer_alike h g u e = by (due_of m h u) ∙ ap (option_and_then (answer_in (sequential_after m g) u)) (due_alike h g u e) where
+    by : (o : Option Statement) → option_and_then (answer_in (sequential_after m h) u) o ≡ option_and_then (answer_in (sequential_after m g) u) o
     by None = refl
     by (Some s) = (both_step m.schema m.capacity (sequential_after m h) (sequential_after m g) (kept_after h) (kept_after g) u s (ap (λ (z : Essence). z.sequential) e)).answer
 

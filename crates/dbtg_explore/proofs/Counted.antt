@@ -75,6 +75,9 @@ dropped c k zero vs h = all_count c k vs (λ f low. h f (omega (arith, low)))
 dropped c k (suc n) [] h = refl
 dropped c k (suc n) (v ∷ vs) h = dropped c (k + 1) n vs (λ f low. h f (omega (arith, low)))
 
+dropped_first : (c : ℕ → Bool) (n : ℕ) (vs : List Value) → ((f : ℕ) → n ≤ f → c f ≡ true) → drop n (values_from c 0 vs) ≡ drop n vs
+dropped_first c n vs h = dropped c 0 n vs (λ f low. h f (omega (arith, low)))
+
 -- a test that holds of an element
 any_there : {X : Type 0} (test : X → Bool) (xs : List X) (k : ℕ) (x : X) → slice_get xs k ≡ Some x → test x ≡ true → list_any test xs ≡ true
 any_there test [] k x e h = absurd cc
@@ -93,7 +96,7 @@ module _ (p : Program) where
     pub values : AgreeIn x.values y.values
 
   -- so do those to which these steps lead, which are otherwise equal
-  LeadSame : Step → Step → Type 0
+  abbrev LeadSame : Step → Step → Type 0
   LeadSame (goes x) (goes y) = AreSame x y
   LeadSame (makes s) (makes t) = s ≡ t
   LeadSame (ends how) (ends other) = how ≡ other
@@ -126,7 +129,9 @@ module _ (p : Program) where
   module _ (x y : ProgramState) (same : AgreeIn x.values y.values) where
     same_value : (f : ℕ) → counts p f ≡ true → field_value x f ≡ field_value y f
     same_value f h =
-        ap (λ v. unwrap_or v (Num 0)) (sym (there (counts p) 0 x.values f h) ∙ ap (λ vs. slice_get vs f) same ∙ there (counts p) 0 y.values f h)
+        let first : 0 + f ≡ f = omega arith in
+        let counting = ap (counts p) first ∙ h in
+        ap (λ v. unwrap_or v (Num 0)) (sym (there (counts p) 0 x.values f counting) ∙ ap (λ vs. slice_get vs f) same ∙ there (counts p) 0 y.values f counting)
 
     same_operand : (o : Operand) → ((f : ℕ) → is_field f o ≡ true → counts p f ≡ true) → value_of x o ≡ value_of y o
     same_operand (Literal v) h = refl
@@ -187,16 +192,16 @@ module _ (p : Program) where
     there_same : (at : ℕ) → AreSame (record x { at = at }) (record y { at = at })
     there_same at = record { at = refl; status = same.status; values = same.values }
 
+    abbrev set_in : ProgramState → ℕ → Value → ProgramState
+    set_in z f v = record (onward z) { values = slice_set z.values f v }
+
     put_same : (line f : ℕ) (v : Option Value) → LeadSame (put p x line f v) (put p y line f v)
     put_same line f None = refl
     put_same line f (Some v) = by (has_room p f v) where
-      abbrev set_in : ProgramState → ProgramState
-      set_in z = record (onward z) { values = slice_set z.values f v }
-
       values : AgreeIn (slice_set x.values f v) (slice_set y.values f v)
       values = set_there (counts p) 0 x.values f v ∙ ap (λ vs. slice_set vs f (if counts p (0 + f) then v else Num 0)) same.values ∙ sym (set_there (counts p) 0 y.values f v)
 
-      by : (b : Bool) → LeadSame (if b then goes (set_in x) else ends (ending.Size line)) (if b then goes (set_in y) else ends (ending.Size line))
+      by : (b : Bool) → LeadSame (if b then goes (set_in x f v) else ends (ending.Size line)) (if b then goes (set_in y f v) else ends (ending.Size line))
       by true = record { at = ap (λ n. n + 1) same.at; status = same.status; values = values }
       by false = refl
 
@@ -247,19 +252,19 @@ module _ (p : Program) where
   within_same : (schema : Lists) (n line : ℕ) (x y : ProgramState) → AreSame x y → counted p (within schema p n line x) ≡ counted p (within schema p n line y)
   unfolding within
   within_same schema zero line x y same = ended_same x y (ending.Astray line) same.values
-  within_same schema (suc n) line x y same = by (at_line schema p x (line_at p x)) (at_line schema p y (line_at p y)) (step_same x y same schema) where
-    by : (a b : Step) → LeadSame a b → counted p (from_step a x (λ behind. within schema p n (line_number p x) behind)) ≡ counted p (from_step b y (λ behind. within schema p n (line_number p y) behind))
-    by (goes a) (goes b) s =
-        within_same schema n (line_number p x) a b s
+  within_same schema (suc n) line x y same = by (λ line a b s. within_same schema n line a b s) (at_line schema p x (line_at p x)) (at_line schema p y (line_at p y)) (step_same x y same schema) where
+    by : ((line : ℕ) (a b : ProgramState) → AreSame a b → counted p (within schema p n line a) ≡ counted p (within schema p n line b)) → (a b : Step) → LeadSame a b → counted p (from_step a x (λ behind. within schema p n (line_number p x) behind)) ≡ counted p (from_step b y (λ behind. within schema p n (line_number p y) behind))
+    by further (goes a) (goes b) s =
+        further (line_number p x) a b s
         ∙ ap (λ k. counted p (within schema p n (unwrap_or (option_map (λ (l : Line). l.number) (slice_get p.lines k)) 0) b)) same.at
-    by (makes s) (makes t) e = λ i. due (record { at = same.at i; values = same.values i; status = 0 }) (e i)
-    by (ends how) (ends other) e = ended_same x y how same.values ∙ ap (λ z. counted p (ended y z)) e
-    by (goes a) (makes t) s = absurd s
-    by (goes a) (ends how) s = absurd s
-    by (makes a) (goes b) s = absurd s
-    by (makes a) (ends how) s = absurd s
-    by (ends how) (goes b) s = absurd s
-    by (ends how) (makes t) s = absurd s
+    by further (makes s) (makes t) e = λ i. due (record { at = same.at i; values = same.values i; status = 0 }) (e i)
+    by further (ends how) (ends other) e = ended_same x y how same.values ∙ ap (λ z. counted p (ended y z)) e
+    by further (goes a) (makes t) s = absurd s
+    by further (goes a) (ends how) s = absurd s
+    by further (makes a) (goes b) s = absurd s
+    by further (makes a) (ends how) s = absurd s
+    by further (ends how) (goes b) s = absurd s
+    by further (ends how) (makes t) s = absurd s
 
   -- AFTER AN ANSWER
 
@@ -302,10 +307,10 @@ counted_failure p (ended x how) = refl
 counted_text : (u : ℕ) (p : Program) (d : Due) → program_text u p (reached_of (counted p d)) ≡ program_text u p (reached_of d)
 counted_text u p (due x s) =
     ap (λ vs. codes "PROGRAM " ++ decimal u ++ 32 ∷ standing_text GoesOn ++ items_text vs (drop (count_items p) p.fields) ++ 10 ∷ [])
-    (dropped (counts p) 0 (count_items p) x.values (λ f low. or_left (is_counter p f) (reads p f) (le-leb (count_items p) f low)))
+    (dropped_first (counts p) (count_items p) x.values (λ f low. or_left (is_counter p f) (reads p f) (le-leb (count_items p) f low)))
 counted_text u p (ended x how) =
     ap (λ vs. codes "PROGRAM " ++ decimal u ++ 32 ∷ standing_text (Ended how) ++ items_text vs (drop (count_items p) p.fields) ++ 10 ∷ [])
-    (dropped (is_counter p) 0 (count_items p) x.values (λ f low. le-leb (count_items p) f low))
+    (dropped_first (is_counter p) (count_items p) x.values (λ f low. le-leb (count_items p) f low))
 
 pub counted_texts : (u : ℕ) (ps : List Program) (ds : List Due) → programs_text u ps (map reached_of (counted_each ps ds)) ≡ programs_text u ps (map reached_of ds)
 counted_texts u [] ds = refl

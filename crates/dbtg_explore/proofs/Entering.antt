@@ -125,38 +125,28 @@ module _ (old new : List (List ℕ)) (text : List ℕ) (n : ℕ) (once : IsOnce 
 
   module _ (places : List ℕ) (f : FoundPlaces) (f_is : record { texts = old; places = places } ≡ f) (place : ℕ) (long : length places ≡ length old) where
     -- a new text
-    pub text_new : (more : List ℕ) → n ≡ length places → more ≡ places ++ place ∷ [] → IsEnteredAt f text place (record { texts = new; places = more }) × (length more ≡ length new)
+    pub text_new : (more : List ℕ) → n ≡ length places → more ≡ places ++ place ∷ [] → IsEnteredAt f text place (record { texts = new; places = more })
     text_new more last pushed =
         elim text_entered [
-          | inl known ↦ let low = known.0 in absurd (omega (arith, low, last, long))
-          | inr fresh ↦ (
-            subst (λ g. IsEnteredAt g text place (record { texts = new; places = more })) f_is
-            (inr (record {
-              absent = λ c.
-                  let low = c.1 in
-                  let there : slice_get new c.0 ≡ Some text = ap (λ ts. slice_get ts c.0) fresh.1 ∙ stays_there old (text ∷ []) c.0 text (slice_get-get_or old c.0 [] low ∙ ap Some c.2) in
-                  let same = once n c.0 text at there in
-                  let is = fresh.0 in
-                  omega (arith, same, is, low);
-              texts_are = fresh.1;
-              places_are = pushed;
-            })),
-            let both = length-append places (place ∷ []) in
-            let all = length-append old (text ∷ []) in
-            let e = ap length pushed in
-            let g = ap length fresh.1 in
-            omega (arith, both, all, e, g, long),
-          )
+          | inl before ↦ let low = before.0 in absurd (omega (arith, low, last, long))
+          | inr fresh ↦ subst (λ g. IsEnteredAt g text place (record { texts = new; places = more })) f_is
+              (inr (record {
+                absent = λ c.
+                    let low = c.1 in
+                    let there : slice_get new c.0 ≡ Some text = ap (λ ts. slice_get ts c.0) fresh.1 ∙ stays_there old (text ∷ []) c.0 text (slice_get-get_or old c.0 text low ∙ ap Some c.2) in
+                    let same = once n c.0 text at there in
+                    let is = fresh.0 in
+                    omega (arith, same, is, low);
+                texts_are = fresh.1;
+                places_are = pushed;
+              }))
         ]
 
     -- a text that is there
-    pub text_known : (n ≡ length places → ⊥) → IsEnteredAt f text place (record { texts = new; places = places }) × (length places ≡ length new)
+    pub text_known : (n ≡ length places → ⊥) → IsEnteredAt f text place (record { texts = new; places = places })
     text_known other =
         elim text_entered [
-          | inl known ↦ (
-            subst (λ g. IsEnteredAt g text place (record { texts = new; places = places })) f_is
-            (inl ((n, known.0, get_or_from_slice_get old n text _ (ap (λ ts. slice_get ts n) (sym known.1) ∙ at)), λ i. record { texts = known.1 i; places = places })),
-            long ∙ ap length (sym known.1),
-          )
+          | inl before ↦ subst (λ g. IsEnteredAt g text place (record { texts = new; places = places })) f_is
+              (inl ((n, before.0, get_or_from_slice_get old n text _ (ap (λ ts. slice_get ts n) (sym before.1) ∙ at)), λ i. record { texts = before.1 i; places = places }))
           | inr fresh ↦ absurd (other (fresh.0 ∙ sym long))
         ]

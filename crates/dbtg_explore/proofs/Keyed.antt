@@ -1,6 +1,6 @@
 -- What counts of programs is known by their numbers; orders lead to legal states; states with the same essence have the same text.
 -- m is a meeting, u a unit, o and p are orders.
-use Rattle.std.proofs.Common.{◌≡◌, ℕ, zero, suc, ◌+◌, ◌≤◌, ◌<◌, Bool, true, false, ◌&&◌, ◌||◌, List, [], ◌∷◌, ◌++◌, append_assoc, get_or, length, Option, Some, None, refl, ap, subst, sym, ◌∙◌, map, slice_get, arith, inl, inr}
+use Rattle.std.proofs.Common.{◌≡◌, ℕ, zero, suc, ◌+◌, ◌≤◌, ◌<◌, Bool, true, false, ◌&&◌, ◌||◌, List, [], ◌∷◌, ◌++◌, get_or, length, Option, Some, None, refl, ap, subst, sym, ◌∙◌, map, slice_get, arith, inl, inr}
 use Rattle.std.specs.Prelude.{⊤, if◌then◌else◌, nat_lt, option_and_then, option_map, unwrap_or}
 use Rattle.std.specs.List.{list_all, range_with_len}
 use Rattle.std.proofs.lemmas.Bool.{cases_lt, le-leb, lt-leb}
@@ -60,19 +60,20 @@ said_next : (schema : Lists) (program : Program) (state : ProgramState) → IsSa
 said_next schema program state = said_within schema program 100000 0 state
 
 -- which fields count is known by the items that are read
-counts_is : (goes : Bool) (p : Program) (f : ℕ) → counts_by goes (items_read p) f ≡ (is_counter p f || (goes && reads p f))
-counts_is goes p f = elim (cases_lt f (count_items p)) [
+counts_is : (way : Bool) (p : Program) (f : ℕ) → counts_by way (items_read p) f ≡ (is_counter p f || (way && reads p f))
+counts_is way p f = elim (cases_lt f (count_items p)) [
   | inl low ↦
       let long = length-range_with_len 0 (count_items p) in
-      let is : get_or (range_with_len 0 (count_items p)) f 0 ≡ f = get_or-range_with_len 0 (count_items p) f 0 low in
+      let at = get_or-range_with_len 0 (count_items p) f 0 low in
+      let is : get_or (range_with_len 0 (count_items p)) f 0 ≡ f = omega (arith, at) in
       let got : slice_get (items_read p) f ≡ Some (reads p f) =
       slice_get-map (reads p) (range_with_len 0 (count_items p)) f ∙ ap (option_map (reads p)) (slice_get-get_or (range_with_len 0 (count_items p)) f 0 (omega (arith, long, low)) ∙ ap Some is) in
-      ap (λ o. unwrap_or (option_map (λ b. goes && b) o) true) got ∙ ap (λ b. b || (goes && reads p f)) (sym (lt-leb (count_items p) f low))
+      ap (λ o. unwrap_or (option_map (λ b. way && b) o) true) got ∙ ap (λ b. b || (way && reads p f)) (sym (lt-leb (count_items p) f low))
   | inr high ↦
       let long = length-range_with_len 0 (count_items p) in
       let got : slice_get (items_read p) f ≡ None =
       slice_get-map (reads p) (range_with_len 0 (count_items p)) f ∙ ap (option_map (reads p)) (slice_get_past (range_with_len 0 (count_items p)) f (omega (arith, long, high))) in
-      ap (λ o. unwrap_or (option_map (λ b. goes && b) o) true) got ∙ ap (λ b. b || (goes && reads p f)) (sym (le-leb (count_items p) f high))
+      ap (λ o. unwrap_or (option_map (λ b. way && b) o) true) got ∙ ap (λ b. b || (way && reads p f)) (sym (le-leb (count_items p) f high))
 ]
 
 counter_is : (p : Program) (f : ℕ) → counts_by false (items_read p) f ≡ is_counter p f

@@ -22,7 +22,7 @@ pub mod Said
 pub mod Transitions
 pub mod Next
 pub mod Visiting
-pub mod Wishes
+pub mod Judging
 pub mod Rounding
 pub mod ForEver
 pub mod GoingRound

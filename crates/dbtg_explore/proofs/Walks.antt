@@ -1,8 +1,6 @@
 -- A walk: where it stands after turns are taken, and taken back.
 -- m is a meeting, u a unit, t a turn that was taken, ts are turns, w is a walk, o an order.
-use Rattle.std.proofs.Common.{◌≡◌, refl, sym, ◌∙◌, ap, subst, ℕ, ◌+◌, ◌-◌, ◌<◌, ◌≤◌, Bool, true, false, List, [], ◌∷◌, ◌++◌, length, length-append, get_or, take, drop, take-append-drop, append-nil, append_assoc, Option, Some, None, arith, true≢false}
-use Rattle.std.specs.List.{take-map}
-use Rattle.std.specs.Vec.{Vec}
+use Rattle.std.proofs.Common.{◌≡◌, refl, sym, ◌∙◌, ap, subst, ℕ, ◌+◌, ◌-◌, ◌<◌, ◌≤◌, true, false, List, [], ◌∷◌, ◌++◌, length, length-append, get_or, take, drop, take-append-drop, append-nil, append_assoc, Option, Some, None, arith, true≢false}
 use Rattle.std.proofs.lemmas.List.{length-take-le, map_push, take-append-le, take-take, take_all, take_more}
 use Rattle.dbtg_unit.specs.declared.unit.Entry.{Entry}
 use Rattle.dbtg_unit.specs.Database.Laws.Replay.{entries_of}
@@ -118,7 +116,7 @@ module _ (m : Meeting) where
 
   -- one turn more
   pub stands_on : (place u : ℕ) (old new : Walk) (before : Going) → Stands m old → can_turn m old.database.making.history u ≡ true → HasTurned m u old.database.making new.database.making new.goings.items → new.database.stays ≡ old.database.stays
-      → unit_at old.goings.items u ≡ Some before → new.turns.items ≡ old.turns.items ++ record { place = place; unit = u; before = before } ∷ [] → new.reads ≡ old.reads → StandsAt m (order_of old.turns.items ++ u ∷ []) new
+      → unit_at old.goings.items u ≡ Some before → new.turns.items ≡ old.turns.items ++ record { place = place; unit = u; before = before } ∷ [] → new.reads.items ≡ old.reads.items → StandsAt m (order_of old.turns.items ++ u ∷ []) new
   stands_on place u old new before h can turned stays found pushed reads =
       let order = order_of old.turns.items in
       let t : Taken = record { place = place; unit = u; before = before } in
@@ -141,7 +139,7 @@ module _ (m : Meeting) where
         order_is = ap order_of pushed ∙ map_push (λ (x : Taken). x.unit) old.turns.items t;
         are_taken = subst (AreTaken m (beginning m)) (sym pushed) (taken_both (beginning m) old.turns.items (t ∷ []) h.are_taken (one_taken (history_of m order) t (subst (λ (es : List Entry). IsTaken m es t) h.history_is taken)));
         stays_are = stays ∙ h.stays_are;
-        knows = ap (λ (r : Vec (List Bool)). r.items) reads ∙ h.knows;
+        knows = reads ∙ h.knows;
       }
 
   -- turns one after another
@@ -207,7 +205,7 @@ module _ (m : Meeting) where
           above = omega (arith, long, most, h.stays_are);
         }
 
-    pub stands_back : (new : Walk) → new.turns.items ≡ ts → new.database ≡ record w.database { making = made_first (length w.database.making.history - 1) w.database.making } → new.goings.items ≡ with_unit_at w.goings.items t.unit t.before → new.reads ≡ w.reads → Stands m new
+    pub stands_back : (new : Walk) → new.turns.items ≡ ts → new.database ≡ record w.database { making = made_first (length w.database.making.history - 1) w.database.making } → new.goings.items ≡ with_unit_at w.goings.items t.unit t.before → new.reads.items ≡ w.reads.items → Stands m new
     stands_back new turns database goings reads =
         let history = history_of m (order_of ts) in
         let making : new.database.making ≡ made_first (length w.database.making.history - 1) w.database.making = ap (λ (r : Reversible). r.making) database in
@@ -231,7 +229,7 @@ module _ (m : Meeting) where
           order_is = refl;
           are_taken = subst (AreTaken m (beginning m)) (sym turns) front;
           stays_are = ap (λ (r : Reversible). r.stays) database ∙ h.stays_are;
-          knows = ap (λ (r : Vec (List Bool)). r.items) reads ∙ h.knows;
+          knows = reads ∙ h.knows;
         }
 
   -- FROM ONE ORDER TO ANOTHER

@@ -1,6 +1,6 @@
 -- Turns one after another, each behind the order at its place, and the way from the turns of a walk to an order.
 -- os are orders, o is an order, ls are turns, ts are turns that were taken.
-use Rattle.std.proofs.Common.{◌≡◌, refl, sym, ◌∙◌, ap, subst, ℕ, zero, suc, ◌+◌, ◌-◌, ◌<◌, ◌≤◌, List, [], ◌∷◌, ◌++◌, length, get_or, map, take, drop, reverse, take-append-drop, append-nil, append_assoc, Some, arith, inl, inr, slice_get}
+use Rattle.std.proofs.Common.{◌≡◌, refl, sym, ◌∙◌, ap, subst, ℕ, zero, suc, ◌+◌, ◌-◌, ◌<◌, ◌≤◌, List, [], ◌∷◌, ◌++◌, length, get_or, take, drop, reverse, take-append-drop, append-nil, append_assoc, Some, arith, inl, inr, slice_get}
 use Rattle.std.proofs.lemmas.List.{get_or_append_left, length-append, map-append, reverse-append, take_more}
 use Rattle.std.proofs.lemmas.Option.{get_or_from_slice_get, slice_get-get_or, slice_get_within}
 use Rattle.std.specs.List.{take-map}
@@ -9,7 +9,7 @@ use Rattle.dbtg_explore.specs.declared.walk.Taken.{Taken}
 use Rattle.dbtg_explore.specs.declared.walk.Walk.{Walk}
 use Rattle.dbtg_explore.specs.declared.way.Way.{Way}
 use Rattle.dbtg_explore.specs.Inside.Found.{FoundOrders, IsEntered}
-use Rattle.dbtg_explore.specs.Inside.Links.{GoOn, IsLast, IsWay, order_by, units_of}
+use Rattle.dbtg_explore.specs.Inside.Links.{GoOn, IsLast, IsWay, units_of}
 use Rattle.dbtg_explore.specs.Inside.Walks.{EndsWith, Stands, StandsAmong, links_of, order_of}
 use Rattle.dbtg_explore.specs.Orders.{Meeting}
 
@@ -34,6 +34,10 @@ gone_there os o (j ∷ ls) zero l h there =
     let same : j ≡ l = cc (there) in
     subst (λ (x : Link). slice_get os x.before ≡ Some (o ++ [])) same (h.0 ∙ ap Some (sym (append-nil o)))
 gone_there os o (j ∷ ls) (suc k) l h there = gone_there os (o ++ j.unit ∷ []) ls k l h.1 there ∙ ap Some (append_assoc o (j.unit ∷ []) (units_of (take k ls)))
+
+-- one more of them
+pub further : (old mid new ls : List Link) (i : ℕ) (d : Link) → i < length ls → mid ≡ old ++ take i ls → new ≡ mid ++ get_or ls i d ∷ [] → new ≡ old ++ take (i + 1) ls
+further old mid new ls i d low at more = more ∙ ap (λ ks. ks ++ get_or ls i d ∷ []) at ∙ append_assoc old (take i ls) (get_or ls i d ∷ []) ∙ ap (λ ks. old ++ ks) (sym (take_more ls i d low))
 
 -- an order stays at its place when others are appended
 pub stays_there : (os more : List (List ℕ)) (i : ℕ) (o : List ℕ) → slice_get os i ≡ Some o → slice_get (os ++ more) i ≡ Some o

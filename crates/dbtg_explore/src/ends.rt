@@ -11,7 +11,7 @@ ghost use Rattle.dbtg_explore.specs.Results.{state_text};
 ghost use Rattle.dbtg_explore.specs.States.{state_after, without_versions};
 ghost use Rattle.dbtg_interned.specs.Arrays.{IsArray};
 ghost use Rattle.dbtg_unit.specs.declared.unit.Entry.{Entry};
-ghost use Rattle.std.specs.Prelude.{◌≡◌, ◌<◌, ℕ, List, [], OnOk};
+ghost use Rattle.std.specs.Prelude.{◌≡◌, ◌<◌, ℕ, List, [], length, OnOk};
 
 use crate::explored::Failure;
 use crate::failures::enter_failure;
@@ -99,6 +99,7 @@ impl Ends {
     ) -> Result<(), AllocError>
         requires meeting { IsMeeting meeting.now }
         requires here { IsPlace meeting.now here.now }
+        requires paired { length self.old.results.places ≡ length self.old.results.texts }
         ensures result { OnOk result (IsEnteredAt self.old.results (state_text meeting.now (without_versions (state_after meeting.now here.now.database.making.history))) place self.new.results) }
         ensures failures { OnOk result (self.new.failures.items ≡ self.old.failures.items) }
     {

@@ -25,14 +25,11 @@ impl Drop for Found {
 }
 
 impl Model for Found {
-    ghost use Rattle.std.specs.Prelude.{◌≡◌, length};
     ghost use Rattle.dbtg_explore.specs.Inside.Found.{FoundPlaces};
 
     ghost Value = { FoundPlaces };
 
     ghost view = { λ f. record { texts = f.texts; places = f.places.items } };
-
-    ghost invariant = { λ f. length f.places.items ≡ length f.texts };
 }
 
 impl Found {
@@ -48,6 +45,7 @@ impl Found {
 
     /// Appends a place, if its text is new.
     pub fn enter(&mut self, text: Vec<u8>, place: usize) -> Result<(), AllocError>
+        requires { length self.old.places ≡ length self.old.texts }
         ensures { OnOk result (IsEnteredAt self.old text.items place self.new) }
     {
         let number = self.texts.enter(text)?;

@@ -80,10 +80,11 @@ impl Orders {
         ensures last { IfSome result (IsLast self.now place) }
         ensures none { result ≡ None → slice_index_or self.now place [] ≡ [] }
     {
+        let links = &self.links;
         if place == 0 {
             return None;
         }
-        Some(self.links[place - 1])
+        Some(links[place - 1])
     }
 
     /// The order at this place, from 0.

@@ -2,6 +2,7 @@
 
 ghost use Rattle.dbtg_explore.specs.Counted.{asks_for, is_field, is_read_by, reads, stands_for};
 ghost use Rattle.dbtg_explore.specs.Inside.Keys.{items_read};
+ghost use Rattle.std.specs.List.{list_any};
 ghost use Rattle.std.specs.Prelude.{◌≡◌, IfOk, map};
 
 use dbtg_going::count_items;
@@ -36,11 +37,18 @@ fn stands_for(word: &Word, field: usize) -> bool
     }
 }
 
+// Does a word of a statement stand for the field?
+fn is_said(words: &[Word], field: usize) -> bool
+    ensures { result ≡ list_any (stands_for field) words.now }
+{
+    words.iter().any(|word| stands_for(word, field))
+}
+
 fn is_read_by(sentence: &Sentence, field: usize) -> bool
     ensures { result ≡ is_read_by field sentence.now }
 {
     match sentence {
-        Sentence::Filled(words) => words.as_slice().iter().any(|word| stands_for(word, field)),
+        Sentence::Filled(words) => is_said(words.as_slice(), field),
         Sentence::Move(operand, _) => is_field(operand, field),
         Sentence::Add(operand, own) | Sentence::Subtract(operand, own) => {
             is_field(operand, field) || *own == field

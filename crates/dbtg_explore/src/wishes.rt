@@ -123,7 +123,8 @@ impl Wish {
             return Ok(None);
         }
         meeting.go_to(alloc, walk, &search.found, place)?;
-        meeting.take_turn(alloc, walk, Link::new(place, self.unit)?)?;
+        let turn = Link::new(place, self.unit)?;
+        meeting.take_turn(alloc, walk, turn)?;
         if !self.is_broken(walk) {
             return Ok(None);
         }
@@ -213,7 +214,8 @@ pub fn broken_turns<W: Watch>(
 ) -> Result<Option<Row<u8>>, Stop>
     requires { IsMeeting meeting.now }
     ensures judged { IfOk result (IsJudged meeting.now wish) }
-    ensures stopped { IfErr result (λ stop. stop ≡ States → HoldsSoFar meeting.now wish limit) }
+    ensures stopped { IfErr result (λ stop. stop ≡ States → HasMoreStates meeting.now limit) }
+    ensures so_far { IfErr result (λ stop. stop ≡ States → HoldsSoFar meeting.now wish limit) }
 {
     let mut walk = meeting.begin(alloc)?;
     wish.first_broken(alloc, watch, meeting, &mut walk, limit)

@@ -114,6 +114,9 @@ other_way : (after_get (no NoCurrentOfRunUnit)).programs ≡ end_by (Num 2)
 unfolding within verdict onto into digits
 other_way = refl
 
+ends_apart : end_by (Num 1) ≡ end_by (Num 2) → ⊥
+ends_apart e = cc
+
 -- so there are two states
 two_states : after_get done ≡ after_get (no NoCurrentOfRunUnit) → ⊥
-two_states e = let both : end_by (Num 1) ≡ end_by (Num 2) = sym one_way ∙ ap (λ (s : Essence). s.programs) e ∙ other_way in cc
+two_states e = ends_apart (sym one_way ∙ ap (λ (s : Essence). s.programs) e ∙ other_way)

@@ -1,4 +1,4 @@
-use Rattle.std.proofs.Common.{◌≡◌, ◌++◌, ◌∙◌, List, ℕ, [], ap, sym, get_or, reverse, append-nil, arith}
+use Rattle.std.proofs.Common.{◌++◌, ◌∙◌, List, ℕ, [], ap, sym, get_or, reverse, append-nil, arith}
 use Rattle.dbtg_explore.proofs.Links.{gone_back}
 use Rattle.dbtg_explore.proofs.orders.Orders.order.Goals as goal
 
@@ -12,11 +12,12 @@ loop-link-init c =
 
 pub loop-link-preserved : goal.loop-link-preserved
 loop-link-preserved c =
-    let last = c.loop-link-test.last in
+    let last = c.in-Some.ensures.last in
     record {
       within = omega (arith, last.earlier, c.loop-link.invariant.within);
-      gone = gone_back c.args.self.now c.loop-link.at c.loop-link.link c.loop-link.turns.items c.push.new.self.items _ last c.in_ok-push.ensures.items c.loop-link.invariant.gone;
+      gone = gone_back c.args.self.now c.loop-link.at c.in-Some.link c.loop-link.turns.items c.push.new.self.items _ last c.in_ok-push.ensures.items c.loop-link.invariant.gone;
     }
 
 pub returns : goal.returns
-returns c = ?
+returns c =
+    c.reverse.ensures.items ∙ ap (λ (o : List ℕ). o ++ reverse c.loop-link.turns.items) (sym (c.last.ensures.none c.in_default.is)) ∙ c.loop-link.invariant.gone

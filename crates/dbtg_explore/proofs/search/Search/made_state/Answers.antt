@@ -1,11 +1,13 @@
-use Rattle.std.proofs.Common.{◌∙◌, ◌++◌, ◌∷◌, [], ℕ, List, ap, subst, sym, get_or}
+use Rattle.std.proofs.Common.{◌≡◌, ◌∙◌, ◌++◌, ◌∷◌, [], ℕ, List, ap, refl, subst, sym, get_or}
 use Rattle.std.specs.Prelude.{IfSome}
 use Rattle.std.proofs.lemmas.List.Elements.{Contains-get_or}
 use Rattle.dbtg_cells.specs.declared.name.CellName.{CellName}
 use Rattle.dbtg_unit.specs.declared.unit.Entry.{Entry}
+use Rattle.dbtg_explore.specs.declared.orders.Link.{Link}
 use Rattle.dbtg_explore.specs.declared.search.Search.{Search}
+use Rattle.dbtg_explore.specs.Inside.Found.{FoundOrders}
 use Rattle.dbtg_explore.specs.Inside.Parts.{IsNumberOf}
-use Rattle.dbtg_explore.specs.Inside.Transitions.{AreSeen, DueLooksAt, SlotsStay}
+use Rattle.dbtg_explore.specs.Inside.Transitions.{DueLooksAt, SlotsStay}
 use Rattle.dbtg_explore.specs.Inside.Walks.{StandsAmong, order_of}
 use Rattle.dbtg_explore.specs.Orders.{history_of}
 use Rattle.dbtg_explore.specs.States.{sequential_after}
@@ -15,7 +17,7 @@ use Rattle.dbtg_explore.proofs.Transitions.{seen_later}
 use Rattle.dbtg_explore.proofs.Walks.{history_before, stands, turn_above}
 use Rattle.dbtg_explore.proofs.Ways.{among_one}
 use Rattle.dbtg_explore.proofs.search.Search.made_state.Goals as goal
-use Rattle.dbtg_explore.proofs.search.Search.made_state.Goals.{in-Some+in_ok-remember, in_default}
+use Rattle.dbtg_explore.proofs.search.Search.made_state.Goals.{In_ok-after}
 
 pub go_to-requires-clause-order : goal.go_to-requires-clause-order
 go_to-requires-clause-order c =
@@ -33,12 +35,31 @@ number_after-requires-clause-before c =
     subst (λ (es : List Entry). IsNumberOf m s.numbers es c.number-before.result) (sym here.history_is)
     (state_at m s.numbers s.found.keys s.found.orders c.args.place c.number-before.result c.requires.at.known c.requires.within c.number-before.ensures)
 
+-- the history after the turn
+led_to : (c : In_ok-after) → c.number_after.new.walk.database.making.history ≡ history_of c.args.meeting.now (get_or c.args.self.now.found.orders c.args.place [] ++ c.args.unit ∷ [])
+led_to c =
+    let m = c.args.meeting.now in
+    let o = get_or c.args.self.now.found.orders c.args.place [] in
+    c.in_ok-after.ensures.stands.history_is ∙ ap (λ (p : List ℕ). history_of m (p ++ c.in_ok-turn.turn.unit ∷ [])) c.in_ok-go_to.ensures.stands.order_is ∙ ap (λ (l : Link). history_of m (o ++ l.unit ∷ [])) c.in_ok-turn.ensures
+
+-- and the number of its state
+number_there : (c : In_ok-after) → IsNumberOf c.args.meeting.now c.number_after.new.numbers (history_of c.args.meeting.now (get_or c.args.self.now.found.orders c.args.place [] ++ c.args.unit ∷ [])) c.in_ok-after.after
+number_there c = subst (λ (es : List Entry). IsNumberOf c.args.meeting.now c.number_after.new.numbers es c.in_ok-after.after) (led_to c) c.in_ok-after.ensures.number
+
+among_there : (c : In_ok-after) → StandsAmong c.args.meeting.now c.args.self.now.found.orders c.number_after.new.walk
+among_there c =
+    let there = c.in_ok-go_to.ensures in
+    let after = c.in_ok-after.ensures in
+    among_one c.args.meeting.now c.args.self.now.found.orders c.args.place c.args.unit c.in_ok-turn.turn c.go_to.new.walk c.number_after.new.walk there.among c.requires.within (sym there.stands.order_is) c.in_ok-turn.ensures after.links
+    (stands c.args.meeting.now _ c.number_after.new.walk after.stands)
+
 pub has_changed_record-changing-requires : goal.has_changed_record-changing-requires
 has_changed_record-changing-requires c =
     let m = c.args.meeting.now in
+    let u = c.in_ok-turn.turn.unit in
     let w = c.go_to.new.walk in
     let after = c.in_ok-after.ensures in
-    turn_above m (order_of w.turns.items ++ c.args.unit ∷ []) c.args.unit w c.number_after.new.walk c.in_ok-go_to.ensures.among.stands after.stands after.turned
+    turn_above m (order_of w.turns.items ++ u ∷ []) u w c.number_after.new.walk c.in_ok-go_to.ensures.among.stands after.stands after.turned
 
 pub remember-requires-clause-passed : goal.remember-requires-clause-passed
 remember-requires-clause-passed c =
@@ -51,54 +72,45 @@ remember-requires-clause-passed c =
     let kept = c.number_after.new.numbers in
     let after = c.in_ok-after.ensures in
     let here = c.in_ok-go_to.ensures.stands in
-    let there = after.stands.history_is ∙ ap (λ (p : List ℕ). history_of m (p ++ u ∷ [])) here.order_is in
     let at = state_at m s.numbers s.found.keys s.found.orders c.args.place c.number-before.result c.requires.at.known c.requires.within c.number-before.ensures in
     let cells = subst (λ r. IfSome r (λ names. DueLooksAt m w.database.making.history u names.items)) c.in-Some.is c.in_ok-names.ensures in (
       o,
       record {
         before = number_later m s.numbers kept after.number.number.kept_once after.keeps (history_of m o) c.number-before.result at;
-        after = subst (λ (es : List Entry). IsNumberOf m kept es c.in_ok-after.after) there after.number;
+        after = number_there (goal.at.remember-requires-clause-passed c).In_ok-after;
         looks_at =
-            subst (λ (ns : List CellName). DueLooksAt m (history_of m o) u ns) (sym c.as_slice-in-Some.ensures.value)
+            subst (λ (ns : List CellName). DueLooksAt m (history_of m o) u ns) (sym c.as_slice.ensures.value)
             (subst (λ (es : List Entry). DueLooksAt m es u c.in-Some.names.items) here.history_is cells);
         stay = λ none.
-            subst (λ (es : List Entry). SlotsStay m (sequential_after m (history_of m o)).database (sequential_after m es).database) there
-            (slots_stay m v.database.making v.goings.items after.stands.is_place (history_of m o) (c.has_changed_record-changing.ensures none) (history_before m u w.database.making v.database.making v.goings.items after.turned ∙ here.history_is));
+            subst (λ (es : List Entry). SlotsStay m (sequential_after m (history_of m o)).database (sequential_after m es).database) (led_to (goal.at.remember-requires-clause-passed c).In_ok-after)
+            (slots_stay m v.database.making v.goings.items after.stands.is_place (history_of m o) (c.has_changed_record-changing.ensures none) (history_before m c.in_ok-turn.turn.unit w.database.making v.database.making v.goings.items after.turned ∙ here.history_is));
       },
     )
 
 pub remember-requires-clause-seen : goal.remember-requires-clause-seen
 remember-requires-clause-seen c = seen_later c.args.meeting.now c.args.self.now.numbers.contents c.number_after.new.numbers.contents c.in_ok-after.ensures.keeps.contents c.args.self.now.seen c.requires.at.seen
 
-pub returns-clause-reaches : goal.returns-clause-reaches
-returns-clause-reaches c =
+pub returns-in_ok-remember-clause-stands : goal.returns-in_ok-remember-clause-stands
+returns-in_ok-remember-clause-stands c =
+    subst (λ (f : FoundOrders ℕ). StandsAmong c.args.meeting.now f.orders c.number_after.new.walk) (sym (ap (λ (z : Search). z.found) c.in_ok-remember.ensures.rest)) (among_there (goal.at.returns-in_ok-remember-clause-stands c).In_ok-after)
+
+pub returns-in_default-clause-stands : goal.returns-in_default-clause-stands
+returns-in_default-clause-stands c = among_there (goal.at.returns-in_default-clause-stands c).In_ok-after
+
+pub returns-in_ok-remember-clause-reaches : goal.returns-in_ok-remember-clause-reaches
+returns-in_ok-remember-clause-reaches c =
     let m = c.args.meeting.now in
     let s = c.args.self.now in
-    let u = c.args.unit in
     let o = get_or s.found.orders c.args.place [] in
-    let w = c.go_to.new.walk in
-    let kept = c.number_after.new.numbers in
-    let after = c.in_ok-after.ensures in
-    let here = c.in_ok-go_to.ensures.stands in
-    let there = after.stands.history_is ∙ ap (λ (p : List ℕ). history_of m (p ++ u ∷ [])) here.order_is in
-    let number = subst (λ (es : List Entry). IsNumberOf m kept es c.in_ok-after.after) there after.number in
-    let new = c.match-names-2.self in
-    elim c.match-names-2.branch [
-      | in-Some+in_ok-remember x ↦
-          let e = x.self-is ∙ x.in_ok-remember.ensures.rest in
-          reaches m (o ++ u ∷ []) s new kept c.in_ok-after.after (ap (λ (z : Search). z.found) e) (ap (λ (z : Search). z.edges.items) e) (ap (λ (z : Search). z.numbers) e) number after.keeps
-          (subst (λ (z : Search). AreSeen m kept.contents z.seen) (sym x.self-is) x.in_ok-remember.ensures.seen)
-      | in_default x ↦
-          let e = x.self-is in
-          reaches m (o ++ u ∷ []) s new kept c.in_ok-after.after (ap (λ (z : Search). z.found) e) (ap (λ (z : Search). z.edges.items) e) (ap (λ (z : Search). z.numbers) e) number after.keeps
-          (subst (λ (z : Search). AreSeen m kept.contents z.seen) (sym e) (seen_later m s.numbers.contents kept.contents after.keeps.contents s.seen c.requires.at.seen))
-    ]
+    let e = c.in_ok-remember.ensures.rest in
+    reaches m (o ++ c.args.unit ∷ []) s c.remember.new.self c.number_after.new.numbers c.in_ok-after.after (ap (λ (z : Search). z.found) e) (ap (λ (z : Search). z.edges.items) e) (ap (λ (z : Search). z.numbers) e)
+    (number_there (goal.at.returns-in_ok-remember-clause-reaches c).In_ok-after) c.in_ok-after.ensures.keeps c.in_ok-remember.ensures.seen
 
-pub returns-clause-stands : goal.returns-clause-stands
-returns-clause-stands c =
+pub returns-in_default-clause-reaches : goal.returns-in_default-clause-reaches
+returns-in_default-clause-reaches c =
     let m = c.args.meeting.now in
-    let os = c.args.self.now.found.orders in
-    let w = c.go_to.new.walk in
-    let after = c.in_ok-after.ensures in
-    let there = c.in_ok-go_to.ensures in
-    among_one m os c.args.place c.args.unit c.in_ok-turn.turn w c.number_after.new.walk there.among c.requires.within (sym there.stands.order_is) c.in_ok-turn.ensures after.links (stands m _ c.number_after.new.walk after.stands)
+    let s = c.args.self.now in
+    let o = get_or s.found.orders c.args.place [] in
+    let kept = c.number_after.new.numbers in
+    reaches m (o ++ c.args.unit ∷ []) s (record s { numbers = kept }) kept c.in_ok-after.after refl refl refl
+    (number_there (goal.at.returns-in_default-clause-reaches c).In_ok-after) c.in_ok-after.ensures.keeps (seen_later m s.numbers.contents kept.contents c.in_ok-after.ensures.keeps.contents s.seen c.requires.at.seen)

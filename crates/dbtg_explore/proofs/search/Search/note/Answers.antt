@@ -1,12 +1,13 @@
-use Rattle.std.proofs.Common.{◌<◌, ◌∙◌, [], ℕ, List, length, refl, subst, sym, get_or}
+use Rattle.std.proofs.Common.{◌≡◌, ◌<◌, ◌∙◌, [], ℕ, List, ap, length, refl, subst, sym, get_or}
 use Rattle.std.specs.Prelude.{All}
+use Rattle.std.proofs.lemmas.List.{length-map}
 use Rattle.std.proofs.lemmas.List.Elements.{Contains-get_or}
 use Rattle.std.proofs.lemmas.Result.{on_ok_weaker}
 use Rattle.dbtg_unit.specs.declared.unit.Entry.{Entry}
 use Rattle.dbtg_going.proofs.Turning.{if_both}
 use Rattle.dbtg_explore.specs.Inside.Ends.{FailsIn, NotesResult}
 use Rattle.dbtg_explore.specs.Inside.Failures.{Take}
-use Rattle.dbtg_explore.specs.Inside.Found.{FoundPlaces, IsEnteredAt, orders_by_text}
+use Rattle.dbtg_explore.specs.Inside.Found.{FoundPlaces, IsEnteredAt, orders_at, orders_by_text}
 use Rattle.dbtg_explore.specs.Orders.{IsEnd, history_of}
 use Rattle.dbtg_explore.specs.Results.{result_text, state_text}
 use Rattle.dbtg_explore.specs.States.{state_after, without_versions}
@@ -47,6 +48,15 @@ go_to-requires-clause-order c =
 
 pub note_result-requires-clause-here : goal.note_result-requires-clause-here
 note_result-requires-clause-here c = c.in_ok-go_to.ensures.stands.is_place
+
+pub note_result-requires-clause-paired : goal.note_result-requires-clause-paired
+note_result-requires-clause-paired c =
+    let m = c.args.meeting.now in
+    let os = c.args.self.now.found.orders in
+    let before = c.args.ends.now.results in
+    let texts : length before.texts ≡ length before.places =
+    ap (λ (ts : List (List ℕ)). length ts) c.requires.visited.ends.results.keys_are ∙ length-map (orders_at os before.places) (result_text m) ∙ length-map before.places (λ (p : ℕ). get_or os p []) in
+    subst (λ (r : FoundPlaces). length r.places ≡ length r.texts) (sym c.in_ok-note_failures.ensures.results) (sym texts)
 
 pub returns-clause-notes : goal.returns-clause-notes
 returns-clause-notes c =

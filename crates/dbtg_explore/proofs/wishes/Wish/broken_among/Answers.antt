@@ -1,6 +1,6 @@
-use Rattle.std.proofs.Common.{◌+◌, ◌<◌, ◌≤◌, ◌++◌, ◌∷◌, [], ℕ, List, length, get_or, sym, subst, arith}
+use Rattle.std.proofs.Common.{◌<◌, ◌≤◌, [], ℕ, List, Option, length, get_or, subst, arith}
 use Rattle.dbtg_explore.specs.Inside.Wishes.{IsJudgedAt}
-use Rattle.dbtg_explore.proofs.Wishes.{first_breaks, holds_more, holds_so_far}
+use Rattle.dbtg_explore.proofs.Judging.{first_breaks, holds_more, holds_so_far}
 use Rattle.dbtg_explore.proofs.wishes.Wish.broken_among.Goals as goal
 
 pub loop-place-init : goal.loop-place-init
@@ -10,10 +10,24 @@ pub broken_at-requires-clause-at : goal.broken_at-requires-clause-at
 broken_at-requires-clause-at c = (c.args.first, c.requires.at)
 
 pub loop-place-preserved : goal.loop-place-preserved
-loop-place-preserved c = ?
+loop-place-preserved c =
+    let m = c.args.meeting.now in
+    let w = c.args.self in
+    let os = c.args.search.now.found.orders in
+    let judged = c.in_ok-turns.ensures in
+    record {
+      stands = judged.stands;
+      holds = holds_more m w os c.loop-place.place c.loop-place.invariant.holds (subst (IsJudgedAt m w (get_or os c.loop-place.place [])) c.in_default.is judged.judged);
+    }
 
-pub returns-in_Some-clause-judged : goal.returns-in_Some-clause-judged
-returns-in_Some-clause-judged c = ?
+pub returns-in-Some-clause-judged : goal.returns-in-Some-clause-judged
+returns-in-Some-clause-judged c =
+    let m = c.args.meeting.now in
+    let w = c.args.self in
+    let s = c.args.search.now in
+    let judged = subst (IsJudgedAt m w (get_or s.found.orders c.loop-place.place [])) c.in-Some.is c.in_ok-turns.ensures.judged in
+    let low : c.loop-place.place < length s.found.orders = omega (arith, c.loop-place-test.true, c.len-place-end.ensures) in
+    first_breaks m w s c.args.first c.requires.at c.loop-place.place c.in-Some.turns low c.loop-place.invariant.holds judged.0 judged.1
 
 pub returns-clause-stopped : goal.returns-clause-stopped
 returns-clause-stopped c =

@@ -1,12 +1,13 @@
-use Rattle.std.proofs.Common.{◌≡◌, ◌∙◌, ◌++◌, ◌∷◌, [], ℕ, List, true, refl, ap, sym, subst, get_or}
+use Rattle.std.proofs.Common.{◌≡◌, ◌∙◌, ◌++◌, ◌∷◌, [], ℕ, List, true, ap, refl, sym, subst, get_or}
 use Rattle.std.proofs.lemmas.Bool.{true≢false}
 use Rattle.std.proofs.lemmas.List.Elements.{Contains-get_or}
 use Rattle.dbtg_unit.specs.declared.unit.Entry.{Entry}
+use Rattle.dbtg_explore.specs.declared.orders.Link.{Link}
 use Rattle.dbtg_explore.specs.Orders.{can_turn, history_of}
-use Rattle.dbtg_explore.specs.Wishes.{is_wished}
+use Rattle.dbtg_explore.specs.Wishes.{BreaksBy}
+use Rattle.dbtg_explore.proofs.Judging.{made_last, next_both, next_there, turned_there}
 use Rattle.dbtg_explore.proofs.Walks.{stands}
 use Rattle.dbtg_explore.proofs.Ways.{among_one}
-use Rattle.dbtg_explore.proofs.Wishes.{made_last, next_both, next_there}
 use Rattle.dbtg_explore.proofs.wishes.Wish.broken_at.Goals as goal
 
 pub returns-then-not-is_next-clause-judged : goal.returns-then-not-is_next-clause-judged
@@ -18,26 +19,58 @@ go_to-requires-clause-order c =
     let os = c.args.search.now.found.orders in
     c.requires.at.1.under_way.are_orders (get_or os c.args.place []) (Contains-get_or os c.args.place [] c.requires.within)
 
+pub take_turn-requires-clause-stands : goal.take_turn-requires-clause-stands
+take_turn-requires-clause-stands c = c.in_ok-go_to.ensures.among.stands
+
 pub take_turn-requires-clause-turn : goal.take_turn-requires-clause-turn
 take_turn-requires-clause-turn c =
     let m = c.args.meeting.now in
     let w = c.args.self in
-    let h = history_of m (get_or c.args.search.now.found.orders c.args.place []) in
-    let both = next_both m w h (sym c.is_next.ensures ∙ c.if-not-is_next.false) in
-    let here : can_turn m c.go_to.new.walk.database.making.history w.unit ≡ true = ap (λ (es : List Entry). can_turn m es w.unit) c.in_ok-go_to.ensures.stands.history_is ∙ both.can in
-    ?
-
-pub take_turn-requires-clause-stands : goal.take_turn-requires-clause-stands
-take_turn-requires-clause-stands c = c.in_ok-go_to.ensures.among.stands
+    let both = next_both m w (history_of m (get_or c.args.search.now.found.orders c.args.place [])) (sym c.is_next.ensures ∙ c.if-not-is_next.false) in
+    (λ i. can_turn m (c.in_ok-go_to.ensures.stands.history_is i) (c.in_ok-turn.ensures i).unit) ∙ both.can
 
 pub returns-then-not-is_broken-clause-judged : goal.returns-then-not-is_broken-clause-judged
-returns-then-not-is_broken-clause-judged c = ?
+returns-then-not-is_broken-clause-judged c = λ b.
+    let m = c.args.meeting.now in
+    let w = c.args.self in
+    let o = get_or c.args.search.now.found.orders c.args.place [] in
+    let there = turned_there m o c.args.place w.unit c.in_ok-turn.turn c.go_to.new.walk c.take_turn.new.walk c.in_ok-go_to.ensures.stands c.in_ok-turn.ensures c.in_ok-take_turn.ensures.stands in
+    true≢false (sym b.breaks_is ∙ sym (c.is_broken.ensures (history_of m o) b.entry (there.history_is ∙ made_last m w o b)) ∙ c.if-not-is_broken.true)
 
 pub returns-then-not-is_broken-clause-stands : goal.returns-then-not-is_broken-clause-stands
-returns-then-not-is_broken-clause-stands c = ?
+returns-then-not-is_broken-clause-stands c =
+    let m = c.args.meeting.now in
+    let there = c.in_ok-go_to.ensures in
+    let after = c.in_ok-take_turn.ensures in
+    among_one m c.args.search.now.found.orders c.args.place c.args.self.unit c.in_ok-turn.turn c.go_to.new.walk c.take_turn.new.walk there.among c.requires.within (sym there.stands.order_is) c.in_ok-turn.ensures after.links (stands m _ c.take_turn.new.walk after.stands)
 
 pub returns-clause-judged : goal.returns-clause-judged
-returns-clause-judged c = ?
+returns-clause-judged c =
+    let m = c.args.meeting.now in
+    let w = c.args.self in
+    let o = get_or c.args.search.now.found.orders c.args.place [] in
+    let here = c.in_ok-go_to.ensures.stands in
+    let after = c.in_ok-take_turn.ensures in
+    let there = turned_there m o c.args.place w.unit c.in_ok-turn.turn c.go_to.new.walk c.take_turn.new.walk here c.in_ok-turn.ensures after.stands in
+    let both = next_both m w (history_of m o) (sym c.is_next.ensures ∙ c.if-not-is_next.false) in
+    let made = after.turned.one_more ∙ ap (λ (es : List Entry). es ++ after.turned.entry ∷ []) here.history_is in
+    let turns = c.of.ensures ∙ c.in_ok-push.ensures.items ∙ ap (λ (l : List ℕ). l ++ w.unit ∷ []) c.in_ok-turns.ensures in (
+      turns,
+      subst (BreaksBy m w) (sym turns)
+      (record {
+        before = o;
+        order_is = refl;
+        is_order = there.is_order;
+        wished = both.wished;
+        entry = after.turned.entry;
+        history_is = sym there.history_is ∙ made;
+        breaks_is = sym (c.is_broken.ensures (history_of m o) after.turned.entry made) ∙ c.if-not-is_broken.false;
+      }),
+    )
 
 pub returns-clause-stands : goal.returns-clause-stands
-returns-clause-stands c = ?
+returns-clause-stands c =
+    let m = c.args.meeting.now in
+    let there = c.in_ok-go_to.ensures in
+    let after = c.in_ok-take_turn.ensures in
+    among_one m c.args.search.now.found.orders c.args.place c.args.self.unit c.in_ok-turn.turn c.go_to.new.walk c.take_turn.new.walk there.among c.requires.within (sym there.stands.order_is) c.in_ok-turn.ensures after.links (stands m _ c.take_turn.new.walk after.stands)

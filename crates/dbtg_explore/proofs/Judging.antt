@@ -17,13 +17,16 @@ use Rattle.dbtg_program.specs.Going.{Due, due, ended}
 use Rattle.dbtg_step.specs.Machine.SequentialDatabase.{unit_at}
 use Rattle.dbtg_going.specs.Turns.{comes, made, with_effect_of}
 use Rattle.dbtg_states.specs.Numbers.{Numbers}
+use Rattle.dbtg_explore.specs.declared.orders.Link.{Link}
 use Rattle.dbtg_explore.specs.declared.search.Search as given
+use Rattle.dbtg_explore.specs.declared.walk.Walk.{Walk}
 use Rattle.dbtg_explore.specs.declared.wishes.Wish.{Wish}
 use Rattle.dbtg_explore.specs.Counted.{counted}
 use Rattle.dbtg_explore.specs.Inside.Parts.{IsNumberOf}
 use Rattle.dbtg_explore.specs.Inside.Search.{HasFirst}
 use Rattle.dbtg_explore.specs.Inside.Standing.{said, turns_in}
 use Rattle.dbtg_explore.specs.Inside.Steps.{IsAt, can_follow}
+use Rattle.dbtg_explore.specs.Inside.Walks.{StandsAt, order_of}
 use Rattle.dbtg_explore.specs.Inside.Wishes.{HoldsBefore, is_next, line_of, stands_there}
 use Rattle.dbtg_explore.specs.Laws.{answer_of}
 use Rattle.dbtg_explore.specs.Orders.{IsNoLater, IsOrder, Meeting, after_turn, beginning, can_turn, due_of, history_of, waits}
@@ -118,6 +121,16 @@ module _ (m : Meeting) where
           answer = cc (answer);
         }
 
+  -- where a walk stands that went to an order and took one turn more
+  pub record HasTurnedBehind (o : List ℕ) (u : ℕ) (w : Walk) : Type 0 where
+    pub is_order : IsOrder m (o ++ u ∷ [])
+    pub history_is : w.database.making.history ≡ history_of m (o ++ u ∷ [])
+
+  pub turned_there : (o : List ℕ) (place u : ℕ) (turn : Link) (old new : Walk) → StandsAt m o old → turn ≡ record { before = place; unit = u } → StandsAt m (order_of old.turns.items ++ turn.unit ∷ []) new → HasTurnedBehind o u new
+  turned_there o place u turn old new here is there =
+      let order : order_of old.turns.items ++ turn.unit ∷ [] ≡ o ++ u ∷ [] = λ i. here.order_is i ++ (is i).unit ∷ [] in
+      record { is_order = subst (IsOrder m) order there.is_order; history_is = there.history_is ∙ ap (history_of m) order }
+
   -- BEHIND AN ORDER
 
   module _ (w : Wish) where
@@ -149,7 +162,7 @@ module _ (m : Meeting) where
     next_both h is = by (can_turn m h w.unit) refl is where
       by : (b : Bool) → can_turn m h w.unit ≡ b → (b && is_wished m w h) ≡ true → IsNext h
       by true can wished = record { can = can; wished = wished }
-      by false cannot no = absurd (true≢false (sym no))
+      by false cannot is_not = absurd (true≢false (sym is_not))
 
     -- what is before the last turn
     before_is : (o : List ℕ) (b : BreaksBy m w (o ++ w.unit ∷ [])) → b.before ≡ o
