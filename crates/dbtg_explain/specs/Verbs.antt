@@ -11,7 +11,7 @@ use Rattle.dbtg_explain.specs.Explaining.{field, row_of}
 abbrev pub is_of : List ℕ → List ℕ → Bool
 is_of verb row = bytes_eq (field 1 row) verb
 
-abbrev pub can_have : List ℕ → ℕ → Bool
+unfoldable pub can_have : List ℕ → ℕ → Bool
 can_have verb code = code == 0 || some_and (is_of verb) (row_of code STATUSES.now)
 
 -- a space and the code of the row, if the row is of this verb
@@ -19,5 +19,5 @@ abbrev pub code_of : List ℕ → List ℕ → List ℕ
 code_of verb row = if is_of verb row then 32 ∷ field 0 row else []
 
 -- the codes of all that the verb can have
-abbrev pub codes_of_verb : List ℕ → List ℕ
+unfoldable pub codes_of_verb : List ℕ → List ℕ
 codes_of_verb verb = codes "0000" ++ flat_map (code_of verb) (lines STATUSES.now)

@@ -15,6 +15,7 @@ fn is_of(verb: &[u8], row: &[u8]) -> bool
 }
 
 /// Can a statement with this verb have the status of this code?
+#[tactic(auto, unfolding(crate::specs::Verbs::can_have))]
 pub fn can_have(verb: &[u8], code: u16) -> bool
     ensures { result ≡ can_have verb.now code }
 {
@@ -49,6 +50,7 @@ fn push_codes(out: &mut Vec<u8>, verb: &[u8]) -> Result<(), AllocError>
 }
 
 /// The codes of all statuses that a statement with this verb can have, with spaces between them.
+#[tactic(auto, unfolding(crate::specs::Verbs::codes_of_verb))]
 pub fn codes_of_verb(alloc: Global, verb: &[u8]) -> Result<Vec<u8>, AllocError>
     ensures { IfOk result (λ out. out.items ≡ codes_of_verb verb.now) }
 {

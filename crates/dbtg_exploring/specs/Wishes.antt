@@ -28,7 +28,7 @@ first_plain (literal word ∷ words) = []
 first_plain [] = []
 
 -- the verb of the statement of the wish; none if no program that meets has a statement in this line
-abbrev pub verb_of : Meeting → List (List ℕ) → Around → Wish → Option (List ℕ)
+unfoldable pub verb_of : Meeting → List (List ℕ) → Around → Wish → Option (List ℕ)
 verb_of m texts around w =
     if is_there m w && is_met around (length m.programs) w.unit then option_map (λ text. first_plain (tokens false (line_at w.line text))) (unit_at texts w.unit) else None
 

@@ -35,6 +35,7 @@ fn first_plain(line: &[u8]) -> &[u8]
 }
 
 /// The verb of the statement that a wish is for, if there is such a statement in a program that meets others.
+#[tactic(auto, unfolding(crate::specs::Wishes::verb_of))]
 pub fn verb_of<'a>(
     meeting: &Meeting,
     texts: &'a [Row<u8>],
