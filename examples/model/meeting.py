@@ -145,6 +145,22 @@ class Explored:
     def head(self):
         return f"states {len(self.orders)}, results {len(self.results)}\n"
 
+    def first_broken(self, option, statement, status):
+        """The first turns that break a wish for the status of the statement in a line, if any do."""
+        unit, line = map(int, statement.split("."))
+        for order in (it for state, it in self.orders.items() if unit in self.units[state]):
+            runs = self.meeting.after(order)
+            program = runs.programs[unit - 1]
+            is_made = program.due(runs.schema) is not None and program.sentences[program.at][0] == line and runs.turn(unit)
+            if is_made and (program.status == status) == (option == "--never"):
+                return [*order, unit]
+        return None
+
+    def wish_text(self, option, statement, status):
+        broken = self.first_broken(option, statement, status)
+        text = f"{option[2:]} {statement} {status} "
+        return f"{text}holds\n" if broken is None else f"{text}fails\nturns {machine.steps_text([*self.meeting.turns, *broken])}"
+
     def results_text(self):
         texts = []
         for number, (order, printed) in enumerate(self.results.values(), 1):
@@ -163,12 +179,14 @@ ENDLESS = re.compile(r"(?m)^endless turns(.*) then (.*)\n")
 
 
 def explore(folder, words, wanted):
-    """What `explore` with these words prints. There is no promise which turns go round in a line `endless`: the line is that of the text
+    """What `explore` with these words prints; with a wish, only where it is known. There is no promise which turns go round in a line `endless`: the line is that of the text
     that is wanted, if its turns lead to the first way round, and go round for ever."""
     options, _, (schema, *texts) = asked(folder, words)
     turns = machine.turns_in(machine.read(f"{folder}/{options['--turns']}")) if "--turns" in options else []
     meeting = Meeting(schema, int(options.get("--capacity", "100")), texts, "--first" in options, "--then" in options, turns)
     states = Explored(meeting, int(options.get("--limit", "100000")))
+    for option in {"--never", "--always"} & set(options):
+        return states.wish_text(option, *options[option])
     if states.is_over:
         return ""
     line, told, first = "", ENDLESS.search(wanted), states.first_round()

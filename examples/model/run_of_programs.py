@@ -218,6 +218,8 @@ def asked(folder, words):
     for word in words:
         if word in ("--capacity", "--limit", "--turns", "--first", "--then"):
             options[word] = next(words)
+        elif word in ("--never", "--always"):
+            options[word] = (next(words), next(words))
         elif word.startswith("--"):
             flags.append(word)
         else:

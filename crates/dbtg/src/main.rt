@@ -23,7 +23,8 @@ use dbtg_command::{
     status_of,
 };
 use dbtg_explain::{Topic, explained, status_topic};
-use dbtg_exploring::{Exploring, explore_programs};
+use dbtg_explore::Wish as WishForLine;
+use dbtg_exploring::{Exploring, Said, explore_programs};
 use dbtg_going::Around;
 use dbtg_listing::{Judged, ListingOptions, judge_outcomes, print_outcomes};
 use dbtg_outcomes::Wish;
@@ -337,11 +338,51 @@ fn tell_explored(rt: &HostRuntime, files: &Files<HostRuntime>, call: &Call) -> E
         around: around_of(call),
         brief: call.brief,
         limit: call.limit,
+        wish: call.wish.map(wish_for_line),
     };
     let progress = Progress::begin(rt);
     let said = explore_programs(rt.alloc(), &progress, files, asked);
     progress.end();
-    print_said(rt, said, files.paths, call)
+    match said {
+        Ok(Said::Listed(printed)) => print_programs_text(rt, &printed),
+        Ok(Said::NoStatement) => tell_unwished(rt, call, &[]),
+        Ok(Said::NoStatus(codes)) => tell_unwished(rt, call, codes.as_slice()),
+        Err(fault) => told_of(rt, &fault, files.paths, call),
+    }
+}
+
+fn wish_for_line(wished: Wished) -> WishForLine {
+    WishForLine {
+        unit: wished.unit.min(LAST_UNIT as u64) as u8,
+        line: wished.place,
+        status: wished.status,
+        never: wished.never,
+    }
+}
+
+// A wish that names no statement, or a status that its statement never has: then these are the ones that it can have.
+fn tell_unwished(rt: &HostRuntime, call: &Call, codes: &[u8]) -> ExitCode {
+    let Some(wished) = call.wish else {
+        return ExitCode::from(WRONG_WORDS);
+    };
+    if codes.is_empty() {
+        return no_statement(rt, wished);
+    }
+    match String::from_utf8_lossy(rt.alloc(), codes) {
+        Ok(codes) => no_status(rt, wished, &codes),
+        Err(_) => told(rt, &Fault::Memory),
+    }
+}
+
+fn no_status(rt: &HostRuntime, wished: Wished, codes: &str) -> ExitCode {
+    let Wished {
+        unit,
+        place,
+        status,
+        ..
+    } = wished;
+    let _ = eprintln!(rt; "no status {status:04} of {unit}.{place}: {codes}");
+    ExitCode::from(WRONG_WORDS)
 }
 
 // What a command prints of programs, or its fault.

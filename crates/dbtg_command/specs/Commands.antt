@@ -153,7 +153,7 @@ rules_for named.Threads = capacity ∷ first ∷ save_turns ∷ trace_alone ∷ 
 rules_for named.Audit = capacity ∷ first ∷ units ∷ status ∷ all ∷ explain ∷ no_explain ∷ schema ∷ trace ∷ []
 rules_for named.Draw = explain ∷ no_explain ∷ schema ∷ []
 rules_for named.Run = capacity ∷ first ∷ turns_alone ∷ on_threads ∷ save_turns ∷ last ∷ echo ∷ trace_option ∷ explain ∷ no_explain ∷ schema ∷ scripts ∷ []
-rules_for named.Explore = capacity ∷ first ∷ turns_alone ∷ last ∷ limit ∷ brief ∷ explain ∷ no_explain ∷ schema ∷ scripts ∷ []
+rules_for named.Explore = capacity ∷ first ∷ turns_alone ∷ last ∷ limit ∷ brief ∷ never ∷ always ∷ explain ∷ no_explain ∷ schema ∷ scripts ∷ []
 rules_for named.Explain = topic ∷ []
 rules_for named.Shell = capacity ∷ units ∷ schema ∷ []
 

@@ -37,7 +37,14 @@ pub const ALL_LINES: Word = Word::Flag(
 pub const ALWAYS: Word = Word::WishOptionWithout(
     "always",
     "never",
-    "Says whether statement I of unit U always has this status; not with --never",
+    "Says whether statement N of unit U always has this status; not with --never",
+);
+
+/// The same of a program's statement.
+pub const ALWAYS_IN_LINE: Word = Word::WishOptionWithout(
+    "always",
+    "never",
+    "Says whether the statement in line N of unit U always has this status; not with --never",
 );
 
 pub const ANSWERS: Word = Word::Flag(
@@ -113,7 +120,13 @@ pub const MOVES: Word = Word::FileOption(
 
 pub const NEVER: Word = Word::WishOption(
     "never",
-    "Says whether statement I of unit U never has this status; status 4 if it has, in some order",
+    "Says whether statement N of unit U never has this status; status 4 if it has, in some order",
+);
+
+/// The same of a program's statement.
+pub const NEVER_IN_LINE: Word = Word::WishOption(
+    "never",
+    "Says whether the statement in line N of unit U never has this status, in any order",
 );
 
 pub const NO_EXPLAIN: Word = Word::Flag(
@@ -227,7 +240,7 @@ pub const TRACE_UNITS: Word = Word::NumberOption(
 pub const UNITS: Word = Word::NumberOption("units", "2", "How many units there are, 1 to 8");
 
 // The placeholders for the two words of a wish.
-const WISH_WORDS: [&str; 2] = ["U.I", "STATUS"];
+const WISH_WORDS: [&str; 2] = ["U.N", "STATUS"];
 
 // An option without a value.
 fn flag<'a>(alloc: Global, name: &'a str, help: &'a str) -> Arg<'a>

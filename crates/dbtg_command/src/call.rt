@@ -169,7 +169,7 @@ fn wish_said(
         alloc,
         named,
         ErrorKind::ValueValidation,
-        "no statement and status are named so: a unit, a period and a place are wanted, and a status of four digits, as 2.5 0803",
+        "no statement and status are named so: a unit, a period and a number are wanted, and a status of four digits, as 2.5 0803",
     )?)
 }
 

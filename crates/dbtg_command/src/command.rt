@@ -6,11 +6,12 @@ ghost use Rattle.dbtg_command.specs.Commands.{name_of, program, rules_for};
 ghost use Rattle.dbtg_command.specs.Inside.Commands.{IsApp, alone, rule_for, with_command};
 
 use crate::arguments::{
-    ALL_FAULTS, ALL_LINES, ALWAYS, ANSWERS, BRIEF, CAPACITY, CHECKED_SCRIPTS, ECHO, EXPLAIN,
-    EXPLAIN_ECHO, EXPLAIN_PICTURE, FIRST, FIRST_PROGRAM, LAST, LIMIT, MOVES, NEVER, NO_EXPLAIN,
-    ON_THREADS, PROGRAM_FILES, PROGRAMS, SAVE_TURNS, SCHEMA, SCHEMA_ALONE, SCRIPTS,
-    SCRIPTS_ON_THREADS, STATUS, SVG, TOPIC, TRACE, TRACE_FILE, TRACE_OR_ECHO, TRACE_UNITS, TURNS,
-    TURNS_BEFORE, TURNS_FILE, TURNS_OR_MOVES, UNITS, Word, arg_of,
+    ALL_FAULTS, ALL_LINES, ALWAYS, ALWAYS_IN_LINE, ANSWERS, BRIEF, CAPACITY, CHECKED_SCRIPTS, ECHO,
+    EXPLAIN, EXPLAIN_ECHO, EXPLAIN_PICTURE, FIRST, FIRST_PROGRAM, LAST, LIMIT, MOVES, NEVER,
+    NEVER_IN_LINE, NO_EXPLAIN, ON_THREADS, PROGRAM_FILES, PROGRAMS, SAVE_TURNS, SCHEMA,
+    SCHEMA_ALONE, SCRIPTS, SCRIPTS_ON_THREADS, STATUS, SVG, TOPIC, TRACE, TRACE_FILE,
+    TRACE_OR_ECHO, TRACE_UNITS, TURNS, TURNS_BEFORE, TURNS_FILE, TURNS_OR_MOVES, UNITS, Word,
+    arg_of,
 };
 use clap::error::ErrorKind;
 use clap::{Command, Error};
@@ -260,7 +261,7 @@ fn explore_command<'a>(alloc: Global, name: &'a str) -> Result<Command<'a>, Allo
         alloc,
         name,
         "Runs programs in every interleaving: lists results, failed checks and endless loops",
-        "Example: dbtg explore --first load.program shop.schema clerk1.program clerk2.program\n'dbtg run --turns', with the same --first and --then, repeats the turns of a result. The exit status is 4 if a program can fail or they can run for ever",
+        "Example: dbtg explore --first load.program shop.schema clerk1.program clerk2.program\n'dbtg run --turns', with the same --first and --then, repeats the turns of a result. The exit status is 4 if a program can fail, they can run for ever or a wish is broken",
         &[
             CAPACITY,
             FIRST_PROGRAM,
@@ -268,6 +269,8 @@ fn explore_command<'a>(alloc: Global, name: &'a str) -> Result<Command<'a>, Allo
             LAST,
             LIMIT,
             BRIEF,
+            NEVER_IN_LINE,
+            ALWAYS_IN_LINE,
             EXPLAIN,
             NO_EXPLAIN,
             SCHEMA,

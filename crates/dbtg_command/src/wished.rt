@@ -5,14 +5,13 @@ ghost use Rattle.dbtg_command.specs.Wishing.{status_in, wish_in};
 use crate::capacity::count_in_digits;
 use crate::limits::MOST_UNITS;
 use dbtg_explain::number_in;
-use dbtg_script::{behind, in_front};
-use dbtg_unit::MOST_STATEMENTS;
+use dbtg_script::{SCRIPT_BYTES, behind, in_front};
 
 // The greatest status.
 const GREATEST_STATUS: u16 = 9_999;
 
-/// A wish for a statement, named by its unit and its place in the unit's script, both from 1: that it never has this status, or
-/// always.
+/// A wish for a statement, named by its unit and its place in the unit's script or its line in the unit's program, both from 1: that it
+/// never has this status, or always. A text has no more lines than bytes.
 #[derive(Clone, Copy)]
 pub struct Wished {
     pub never: bool,
@@ -37,11 +36,11 @@ fn status_in(word: &str) -> Option<u16>
 pub fn wish_of(never: bool, place: &str, status: &str) -> Option<Wished>
     ensures wish { result ≡ wish_in never place.now status.now }
     ensures within { IfSome result (λ wish. wish.unit ≤ MOST_UNITS) }
-    ensures few { IfSome result (λ wish. wish.place ≤ MOST_STATEMENTS) }
+    ensures few { IfSome result (λ wish. wish.place ≤ SCRIPT_BYTES) }
 {
     let word = place.as_bytes();
     let unit = count_in_digits(in_front(word, b'.'), MOST_UNITS as u64)?;
-    let place = count_in_digits(behind(word, b'.'), MOST_STATEMENTS as u64)?;
+    let place = count_in_digits(behind(word, b'.'), SCRIPT_BYTES as u64)?;
     let status = status_in(status)?;
     Some(Wished {
         never,

@@ -1,5 +1,6 @@
 pub mod FaultyWord
 pub mod Explaining
+pub mod Verbs
 pub mod Hints
 pub mod Offered
 pub mod Saying

@@ -12,6 +12,7 @@ mod row;
 mod schema_word;
 mod statuses;
 mod topic;
+mod verb;
 mod word;
 
 pub use causes::CAUSES;
@@ -21,3 +22,4 @@ pub use row::{field, row_with};
 pub use topic::{
     Kind, Topic, advice_for, explained, fault_topic, meaning_of, number_in, status_topic, topic_of,
 };
+pub use verb::{can_have, codes_of_verb};

@@ -11,11 +11,11 @@ use Rattle.dbtg_command.specs.declared.order.OrderKind.{OrderKind}
 use Rattle.dbtg_command.specs.declared.place.TextPlace.{TextPlace}
 use Rattle.dbtg_command.specs.Refusals.{is_count}
 use Rattle.dbtg_command.specs.Sources.{ReadSchema}
-use Rattle.dbtg_running.specs.declared.command.Printed.{Printed}
 use Rattle.dbtg_running.specs.Reading.{ReadPrograms}
 use Rattle.dbtg_running.specs.Running.{ReadsTurns}
+use Rattle.dbtg_exploring.specs.declared.command.Said.{Said}
 use Rattle.dbtg_exploring.specs.declared.setting.Exploring.{Exploring}
-use Rattle.dbtg_exploring.specs.Exploring.{ExploresHeld, GivesUp, IsListed, IsTooLarge, ReadMeeting, ToldOfExploring, programs_in, told_in}
+use Rattle.dbtg_exploring.specs.Exploring.{ExploresHeld, GivesUp, IsSaid, IsTooLarge, ReadMeeting, ToldOfExploring, programs_in, told_in}
 
 -- want of memory can always be reported
 pub without_memory : (schema : Lists) (programs : List Program) (told : List ℕ) (asked : Exploring) → IsTooLarge schema programs told asked Memory
@@ -30,8 +30,8 @@ module _ (holds : TextPlace → List ℕ → Type 0) (count : ℕ) (which : Orde
   of_all_read : (Of : Lists → List Program → List ℕ → Type 0) → Of lists programs told → Of lists (programs_in all_read) (told_in all_read)
   of_all_read Of of = subst (λ ps. Of lists ps (unwrap_or turns [])) are (subst (λ ts. Of lists programs ts) told_are of)
 
-  pub explores : (asked : Exploring) (texts : List (List ℕ)) (printed : Printed) → texts ≡ read.texts → IsListed lists programs texts told asked printed → ExploresHeld holds count which asked printed
-  explores asked texts printed same is = (all_read, of_all_read (λ schema programs told. IsListed schema programs read.texts told asked printed) (subst (λ ts. IsListed lists programs ts told asked printed) same is))
+  pub explores : (asked : Exploring) (texts : List (List ℕ)) (said : Said) → texts ≡ read.texts → IsSaid asked.wish lists programs texts told asked said → ExploresHeld holds count which asked said
+  explores asked texts said same is = (all_read, of_all_read (λ schema programs told. IsSaid asked.wish schema programs read.texts told asked said) (subst (λ ts. IsSaid asked.wish lists programs ts told asked said) same is))
 
   pub gives_up : (fails : TextPlace → Fault → Type 0) (asked : Exploring) (fault : Fault) → GivesUp lists programs told asked fault → ToldOfExploring holds fails fault count which asked
   gives_up fails asked fault over = inr (all_read, of_all_read (λ schema programs told. GivesUp schema programs told asked fault) over)

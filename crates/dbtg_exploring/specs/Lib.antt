@@ -1,4 +1,5 @@
 pub mod Texts
+pub mod Wishes
 pub mod Exploring
 pub mod Laws
 pub mod Inside

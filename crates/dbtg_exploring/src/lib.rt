@@ -1,4 +1,5 @@
-//! The command `explore`: everything that the programs of a source can come to when they meet.
+//! The command `explore`: everything that the programs of a source can come to when they meet, or whether a wish for the
+//! status of a statement holds.
 #![tactic(auto)]
 
 mod begun;
@@ -6,7 +7,8 @@ mod command;
 mod laws;
 mod setting;
 mod text;
+mod wishes;
 
-pub use command::explore_programs;
+pub use command::{Said, explore_programs};
 pub use laws::every_run_on_threads_comes_out;
 pub use setting::Exploring;

@@ -1,5 +1,6 @@
 //! What is explored.
 
+use dbtg_explore::Wish;
 use dbtg_going::Around;
 use dbtg_program::Program;
 use dbtg_schema::Schema;
@@ -14,6 +15,8 @@ pub struct Exploring {
     pub brief: bool,
     /// How many states are allowed.
     pub limit: u64,
+    /// The wish that is judged, in place of a list of results.
+    pub wish: Option<Wish>,
 }
 
 /// Programs, the turns that are given, and what is asked for.

@@ -30,8 +30,8 @@ fn push_spaced(out: &mut Vec<u8>, line: &[u8]) -> Result<(), AllocError>
     out.extend_from_slice(&line[..line.len() - 1])
 }
 
-// Turns, followed by others.
-fn joined(alloc: Global, turns: &[u8], others: &[u8]) -> Result<Vec<u8>, AllocError>
+/// Turns, followed by others.
+pub fn joined(alloc: Global, turns: &[u8], others: &[u8]) -> Result<Vec<u8>, AllocError>
     ensures { IfOk result (λ all. all.items ≡ turns.now ++ others.now) }
 {
     let mut all = Vec::from_slice(alloc, turns)?;
@@ -39,9 +39,9 @@ fn joined(alloc: Global, turns: &[u8], others: &[u8]) -> Result<Vec<u8>, AllocEr
     Ok(all)
 }
 
-// A word, followed by turns.
+/// A word, followed by turns.
 #[tactic(auto, unfolding(crate::specs::Texts::with_turns))]
-fn push_with_turns(
+pub fn push_with_turns(
     alloc: Global,
     out: &mut Vec<u8>,
     word: &[u8],
