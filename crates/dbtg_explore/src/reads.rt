@@ -49,11 +49,13 @@ fn is_read_by(sentence: &Sentence, field: usize) -> bool
 {
     match sentence {
         Sentence::Filled(words) => is_said(words.as_slice(), field),
-        Sentence::Move(operand, _) => is_field(operand, field),
+        Sentence::Move(operand, _) => is_field(operand.get(), field),
         Sentence::Add(operand, own) | Sentence::Subtract(operand, own) => {
-            is_field(operand, field) || *own == field
+            is_field(operand.get(), field) || *own == field
         }
-        Sentence::If(condition, _) | Sentence::Assert(condition) => asks_for(condition, field),
+        Sentence::If(condition, _) | Sentence::Assert(condition) => {
+            asks_for(condition.get(), field)
+        }
         Sentence::Heading | Sentence::Statement(_) | Sentence::GoTo(_) | Sentence::Stop => false,
     }
 }
