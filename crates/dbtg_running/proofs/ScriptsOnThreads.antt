@@ -78,7 +78,7 @@ module _ (schema : Lists) (script : List Statement) (fit : list_all (fits schema
 
 -- ALL SCRIPTS
 
-abbrev around_of : Bool → Around
+abbrev pub around_of : Bool → Around
 around_of first = record { first = first; last = false }
 
 module _ (schema : Lists) (capacity : ℕ) (scripts : List (List Statement)) (first : Bool) (turns : List ℕ) (given : ProgramRun) (fit : scripts_fit schema scripts ≡ true) (short : AreShort scripts)

@@ -8,6 +8,7 @@ use dbtg_states::{Stop, Unwatched};
 use std::test::*;
 
 /// Whether there is the statement, and the first turns that break the wish, or why the search stops; nothing where memory is refused.
+#[derive(Drop)]
 struct Judged {
     there: bool,
     broken: Result<Option<Row<u8>>, Stop>,

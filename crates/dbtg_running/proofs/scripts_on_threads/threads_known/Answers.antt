@@ -17,7 +17,7 @@ run_scripts-requires-clause-short g c κs within =
 
 pub print_audited-requires : goal.print_audited-requires
 print_audited-requires g c =
-    let scripts = c.in_ok-statements.statements in
+    let scripts = c.in_ok-statements.field-0.statements in
     let given = c.in_ok-on.on.given.run in
     let n = length scripts in
     let right = ap is_count c.in_ok-statements.ensures.many ∙ c.requires.counted in
