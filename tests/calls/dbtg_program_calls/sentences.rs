@@ -62,21 +62,21 @@ fn headings_and_statements(program: &Program) -> bool {
 
 fn is_sum(sentence: &Sentence) -> bool {
     match sentence {
-        Sentence::Add(operand, field) => is_field(operand, 5) && *field == 6,
+        Sentence::Add(operand, field) => is_field(operand.get(), 5) && *field == 6,
         _ => false,
     }
 }
 
 fn is_rest(sentence: &Sentence) -> bool {
     match sentence {
-        Sentence::Subtract(operand, field) => is_number(operand, 1) && *field == 2,
+        Sentence::Subtract(operand, field) => is_number(operand.get(), 1) && *field == 2,
         _ => false,
     }
 }
 
 fn is_move(sentence: &Sentence) -> bool {
     match sentence {
-        Sentence::Move(operand, field) => is_text(operand, b"A") && *field == 7,
+        Sentence::Move(operand, field) => is_text(operand.get(), b"A") && *field == 7,
         _ => false,
     }
 }
@@ -87,30 +87,46 @@ fn moves_and_sums(program: &Program) -> bool {
         && sentence_is(program, 8, 10, is_move)
 }
 
+fn asks_for_status(condition: &Condition) -> bool {
+    match condition {
+        Condition::Status { negated, code } => *negated && *code == 307,
+        _ => false,
+    }
+}
+
 fn is_of_status(sentence: &Sentence) -> bool {
     match sentence {
-        Sentence::If(Condition::Status { negated, code }, at) =>
-            *negated && *code == 307 && *at == 13,
+        Sentence::If(condition, at) => asks_for_status(condition.get()) && *at == 13,
+        _ => false,
+    }
+}
+
+fn asks_for_less(condition: &Condition) -> bool {
+    match condition {
+        Condition::Compare { left, negated, relation, right } =>
+            is_field(left, 3) && !*negated && *relation == Relation::Less && is_text(right, b"B"),
         _ => false,
     }
 }
 
 fn is_less(sentence: &Sentence) -> bool {
     match sentence {
-        Sentence::If(Condition::Compare { left, negated, relation, right }, at) =>
-            is_field(left, 3)
-                && !*negated
-                && *relation == Relation::Less
-                && is_text(right, b"B")
-                && *at == 3,
+        Sentence::If(condition, at) => asks_for_less(condition.get()) && *at == 3,
+        _ => false,
+    }
+}
+
+fn asks_for_another(condition: &Condition) -> bool {
+    match condition {
+        Condition::Compare { left, negated, relation, right } =>
+            is_number(left, 1) && *negated && *relation == Relation::Equal && is_field(right, 6),
         _ => false,
     }
 }
 
 fn is_assertion(sentence: &Sentence) -> bool {
     match sentence {
-        Sentence::Assert(Condition::Compare { left, negated, relation, right }) =>
-            is_number(left, 1) && *negated && *relation == Relation::Equal && is_field(right, 6),
+        Sentence::Assert(condition) => asks_for_another(condition.get()),
         _ => false,
     }
 }

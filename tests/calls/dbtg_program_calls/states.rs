@@ -81,7 +81,7 @@ fn asserting(rt: &HostRuntime, left: &[u8], right: &[u8]) -> Option<Program> {
     lines
         .push(Line {
             number: 1,
-            sentence: Sentence::Assert(condition),
+            sentence: Sentence::Assert(Shared::new(rt.alloc(), condition).ok()?),
         })
         .ok()?;
     Some(Program {
