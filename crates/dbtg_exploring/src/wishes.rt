@@ -4,6 +4,7 @@ ghost use Rattle.dbtg_explore.specs.Wishes.{is_there};
 ghost use Rattle.dbtg_explain.specs.FaultyWord.{line_at};
 ghost use Rattle.dbtg_exploring.specs.Wishes.{first_plain, is_met, verb_of, verdict_text, wish_text};
 ghost use Rattle.dbtg_script.specs.Tokens.{tokens};
+ghost use Rattle.dbtg_step.specs.Machine.SequentialDatabase.{unit_at};
 ghost use Rattle.std.specs.Prelude.{◌≡◌, ◌≤◌, ◌++◌, IfOk, OnOk, false, length, option_map};
 
 use crate::text::{joined, push_with_turns};
@@ -34,6 +35,19 @@ fn first_plain(line: &[u8]) -> &[u8]
     }
 }
 
+// The text of the unit's program, if there is one.
+fn text_of<'a>(texts: &'a [Row<u8>], unit: u8) -> Option<&'a [u8]>
+    ensures { option_map (λ text. text.now) result ≡ unit_at texts.now unit }
+{
+    if unit == 0 {
+        return None;
+    }
+    match texts.get(unit as usize - 1) {
+        Some(text) => Some(text.as_slice()),
+        None => None,
+    }
+}
+
 /// The verb of the statement that a wish is for, if there is such a statement in a program that meets others.
 #[tactic(auto, unfolding(crate::specs::Wishes::verb_of))]
 pub fn verb_of<'a>(
@@ -46,11 +60,13 @@ pub fn verb_of<'a>(
     ensures { option_map (λ verb. verb.now) result ≡ verb_of meeting.now texts.now around wish }
 {
     let units = meeting.programs.len() as u8;
-    if wish.unit == 0 || !is_there(meeting, wish) || !is_met(around, units, wish.unit) {
+    if !(is_there(meeting, wish) && is_met(around, units, wish.unit)) {
         return None;
     }
-    let text = texts.get(wish.unit as usize - 1)?;
-    Some(first_plain(line_at(text.as_slice(), wish.line)))
+    match text_of(texts, wish.unit) {
+        Some(text) => Some(first_plain(line_at(text, wish.line))),
+        None => None,
+    }
 }
 
 // The wish, as the command's words say it.
