@@ -16,7 +16,7 @@ use Rattle.dbtg_exploring.specs.Texts.{with_turns}
 
 -- THE STATEMENT
 
--- the unit is not that of the program that runs first, among so many
+-- the unit is not that of the program that runs first; units is how many there are
 abbrev pub is_met : Around → ℕ → ℕ → Bool
 is_met around units u = not (around.first && u == others around units + 1)
 

@@ -39,7 +39,7 @@ module _ (schema : Lists) (script : List Statement) where
 
   -- IN ORDER
 
-  -- after these entries from a state on, what stands so many places further comes next
+  -- after these entries from a state on, what stands as many places further comes next
   abbrev InOrder : List Entry → ProgramState → Type 0
   InOrder es state = IsDueOrStop (slice_get script (state.at + length es)) (next schema (of_script script) (state_after schema (of_script script) state es))
 
