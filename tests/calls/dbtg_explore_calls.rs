@@ -1,7 +1,7 @@
 //! Explores programs that meet, as a caller does, with memory to spare.
 
 use dbtg_explore::{Explored, Meeting, explore};
-use dbtg_program::{End, read_program};
+use dbtg_program::{End, Program, read_program};
 use dbtg_schema::Schema;
 use dbtg_states::Unwatched;
 use std::test::*;
@@ -31,21 +31,25 @@ const CHANGES: &[u8] =
 const ASSERTS: &[u8] =
     b"OPEN AREA MAIN USAGE-MODE IS EXCLUSIVE UPDATE\nASSERT STATUS = 0129\n";
 
+/// The programs of these texts.
+fn programs_of(rt: &HostRuntime, schema: &Schema, texts: &[&[u8]]) -> Option<Vec<Program>> {
+    let mut programs = Vec::new(rt.alloc());
+    for text in texts {
+        programs.push(read_program(rt.alloc(), schema, text).ok()?).ok()?;
+    }
+    Some(programs)
+}
+
+/// They meet, and have made nothing before.
+fn meeting<'a>(schema: &'a Schema, programs: &'a [Program]) -> Meeting<'a> {
+    Meeting { schema, capacity: 10, programs, begun: &[], last_waits: false }
+}
+
 /// What comes of these programs; none where memory is refused or there are more states than the limit.
 fn explored(rt: &HostRuntime, texts: &[&[u8]], limit: usize) -> Option<Explored> {
     let schema = Schema::read(rt.alloc(), HOUSE).ok()?;
-    let mut programs = Vec::new(rt.alloc());
-    for text in texts {
-        programs.push(read_program(rt.alloc(), &schema, text).ok()?).ok()?;
-    }
-    let meeting = Meeting {
-        schema: &schema,
-        capacity: 10,
-        programs: programs.as_slice(),
-        begun: &[],
-        last_waits: false,
-    };
-    explore(rt.alloc(), &Unwatched, &meeting, limit).ok()
+    let programs = programs_of(rt, &schema, texts)?;
+    explore(rt.alloc(), &Unwatched, &meeting(&schema, programs.as_slice()), limit).ok()
 }
 
 // Unit 2 tries for ever where unit 1 was first; unit 1 is refused where unit 2 was, and has ended.

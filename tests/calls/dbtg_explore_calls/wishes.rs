@@ -1,8 +1,7 @@
 //! Judges wishes for the status of a statement, by the area that two units want alone.
 
-use super::{COUNTS, HOUSE, OPENS, TRIES};
-use dbtg_explore::{Meeting, Wish, broken_turns, is_there};
-use dbtg_program::read_program;
+use super::{COUNTS, HOUSE, OPENS, TRIES, meeting, programs_of};
+use dbtg_explore::{Wish, broken_turns, is_there};
 use dbtg_schema::{Row, Schema};
 use dbtg_states::{Stop, Unwatched};
 use std::test::*;
@@ -16,17 +15,8 @@ struct Judged {
 
 fn judged(rt: &HostRuntime, texts: &[&[u8]], wish: Wish, limit: usize) -> Option<Judged> {
     let schema = Schema::read(rt.alloc(), HOUSE).ok()?;
-    let mut programs = Vec::new(rt.alloc());
-    for text in texts {
-        programs.push(read_program(rt.alloc(), &schema, text).ok()?).ok()?;
-    }
-    let meeting = Meeting {
-        schema: &schema,
-        capacity: 10,
-        programs: programs.as_slice(),
-        begun: &[],
-        last_waits: false,
-    };
+    let programs = programs_of(rt, &schema, texts)?;
+    let meeting = meeting(&schema, programs.as_slice());
     let there = is_there(&meeting, wish);
     let broken = broken_turns(rt.alloc(), &Unwatched, &meeting, wish, limit);
     Some(Judged { there, broken })
