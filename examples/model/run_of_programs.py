@@ -157,11 +157,11 @@ class Program:
 
 
 class Runs:
-    """Programs on a machine, a unit for each, and the lines of the statements that they made, as written and as a trace has them."""
+    """Programs on a machine, a unit for each, and the lines of the statements that they made, with the values of their fields."""
 
     def __init__(self, schema, capacity, texts):
         self.schema, self.machine = schema, Machine(schema, capacity, [""] * len(texts))
-        self.programs, self.lines, self.traced = [Program(schema, text) for text in texts], [], []
+        self.programs, self.lines = [Program(schema, text) for text in texts], []
 
     def has_ended(self, number):
         program = self.programs[number - 1]
@@ -176,8 +176,7 @@ class Runs:
         unit.script.append(statement)
         list(self.machine.run_turns([number]))
         _, line, words = program.sentences[program.at]
-        self.lines.append(line)
-        self.traced.append(line if statement == words else " ".join(statement))
+        self.lines.append(line if statement == words else " ".join(statement))
         program.made, program.at, program.status = program.made + 1, program.at + 1, self.machine.lines[-1].split()[2]
         if statement[0] == "GET" and program.status == "0000":
             it = self.schema.types[unit.run[0]]
@@ -208,7 +207,7 @@ class Runs:
     def trace(self):
         """Each answer as a line of a trace."""
         answers = [it.split(" ", 2)[1:] for it in self.machine.lines]
-        self.machine.lines = [f"{unit}: {line} => {said}" for line, (unit, said) in zip(self.traced, answers)]
+        self.machine.lines = [f"{unit}: {line} => {said}" for line, (unit, said) in zip(self.lines, answers)]
 
 
 def asked(folder, words):

@@ -245,7 +245,7 @@ fn run_command<'a>(alloc: Global, name: &'a str) -> Result<Command<'a>, AllocErr
             LAST,
             ECHO,
             TRACE_OR_ECHO,
-            EXPLAIN,
+            EXPLAIN_ECHO,
             NO_EXPLAIN,
             SCHEMA,
             PROGRAM_FILES,

@@ -1,6 +1,6 @@
 -- The statement that is due in a program, as it is spelled.
--- ls are the lines of the program's text; values says whether each field stands as the literal of its value.
-use Rattle.std.specs.Prelude.{ℕ, ◌-◌, Bool, List, [], map, Option, Some, None, if◌then◌else◌, option_map, slice_get, unwrap_or}
+-- ls are the lines of the program's text.
+use Rattle.std.specs.Prelude.{ℕ, ◌-◌, List, [], map, Option, Some, None, option_map, slice_get, unwrap_or}
 use Rattle.dbtg_program.specs.declared.program.Line.{Line}
 use Rattle.dbtg_program.specs.declared.program.Program.{Program}
 use Rattle.dbtg_program.specs.declared.program.Sentence.{Sentence}
@@ -24,7 +24,7 @@ abbrev pub words_with_fields : Option Line → Option (List Word)
 words_with_fields None = None
 words_with_fields (Some l) = filled_words l.sentence
 
--- a statement that is due, as it is spelled: as its line was written, or with values of a statement with fields its words
-abbrev pub spelled : Bool → Program → List (List ℕ) → ProgramState → List ℕ
-spelled values program ls at =
-    unwrap_or (option_map (λ words. words_text (map (said_word at) words)) (if values then words_with_fields (line_at program at) else None)) (line_of ls (line_number program at))
+-- a statement that is due, as it is spelled: as its line was written, or its words with the literals of its fields' values
+abbrev pub spelled : Program → List (List ℕ) → ProgramState → List ℕ
+spelled program ls at =
+    unwrap_or (option_map (λ words. words_text (map (said_word at) words)) (words_with_fields (line_at program at))) (line_of ls (line_number program at))

@@ -1,4 +1,4 @@
-//! How the statement that is due in a program is spelled: as its line has it, or with the values of its fields.
+//! How the statement that is due in a program is spelled: as its line has it, with the values of its fields.
 
 ghost use Rattle.dbtg_going.specs.Spelled.{filled_words, line_of, spelled, words_with_fields};
 ghost use Rattle.dbtg_program.specs.Going.{line_at, line_number};
@@ -61,29 +61,17 @@ fn words_with_fields<'a>(program: &'a Program, state: &State) -> Option<&'a [Wor
     }
 }
 
-// The same, if each of its fields is to stand as the literal of its value.
-fn words_with_values<'a>(program: &'a Program, values: bool, state: &State) -> Option<&'a [Word]>
-    ensures { option_map (λ words. words.now) result ≡ (if values then words_with_fields (line_at program.now state.now) else None) }
-{
-    if values {
-        words_with_fields(program, state)
-    } else {
-        None
-    }
-}
-
-/// Appends the statement that is due in a program with these lines, as it is spelled: as its line has it, or, with values, each of its
-/// fields as the literal of its value.
+/// Appends the statement that is due in a program with these lines, as it is spelled: as its line has it, or with its fields as the literals
+/// of their values.
 pub fn push_spelled(
     out: &mut Vec<u8>,
-    values: bool,
     program: &Program,
     lines: &[&[u8]],
     state: &State,
 ) -> Result<(), AllocError>
-    ensures { OnOk result (out.new.items ≡ out.old.items ++ spelled values program.now (map (λ l. l.now) lines.now) state.now) }
+    ensures { OnOk result (out.new.items ≡ out.old.items ++ spelled program.now (map (λ l. l.now) lines.now) state.now) }
 {
-    match words_with_values(program, values, state) {
+    match words_with_fields(program, state) {
         Some(words) => push_said_words(out, state, words),
         None => out.extend_from_slice(line_of(lines, line_number(program, state))),
     }

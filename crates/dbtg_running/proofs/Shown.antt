@@ -1,17 +1,33 @@
--- What is printed of a run of programs can be shown.
-use Rattle.std.proofs.Common.{◌≡◌, subst, sym}
+-- A run of programs can be shown in each form.
+use Rattle.std.proofs.Common.{◌≡◌, ◌≤◌, ℕ, List, length, ap, subst, sym, ◌∙◌}
 use Rattle.dbtg_schema.specs.Lists.{Lists}
-use Rattle.dbtg_step.specs.declared.results.Run.{Run}
+use Rattle.dbtg_schema.specs.Sound.{IsSound}
+use Rattle.dbtg_unit.specs.Database.Laws.Replay.{IsHistoryOf, opening_state}
+use Rattle.dbtg_unit.proofs.Public.{opening_length, replay_keeps_count}
+use Rattle.dbtg_step.specs.Core.Audit.{MayBeHistory}
+use Rattle.dbtg_step.proofs.Public.{shows_so}
+use Rattle.dbtg_program.specs.declared.program.Program.{Program}
+use Rattle.dbtg_going.specs.declared.going.ProgramRun.{ProgramRun}
+use Rattle.dbtg_going.specs.Turns.{IsRunOf}
 use Rattle.dbtg_replay.specs.declared.replay.AnswerForm.{AnswerForm}
 use Rattle.dbtg_replay.specs.declared.replay.AnswerForm.TheVariants.{Plain, Echo, Explained, Trace}
 use Rattle.dbtg_replay.specs.Replaying.{CanShow}
-use Rattle.dbtg_running.specs.Running.{unexplained}
 
-by : (lists : Lists) (form : AnswerForm) (given : Run) → CanShow lists (unexplained form) given
-by lists Plain given = tt
-by lists Echo given = tt
-by lists (Explained capacity) given = tt
-by lists Trace given = tt
+module _ (lists : Lists) (capacity : ℕ) (programs : List Program) (turns : List ℕ) (given : ProgramRun) (is_run : IsRunOf lists capacity programs turns given) where
+  as_many_units : length given.run.units ≡ length programs
+  as_many_units =
+      ap length is_run.run.units_are
+      ∙ replay_keeps_count lists capacity (opening_state lists (length programs)) _
+      ∙ opening_length lists (length programs)
 
-pub can_be_shown : (lists : Lists) (form shown : AnswerForm) (given : Run) → shown ≡ unexplained form → CanShow lists shown given
-can_be_shown lists form shown given is = subst (λ (f : AnswerForm). CanShow lists f given) (sym is) (by lists form given)
+  may_be : MayBeHistory lists (length programs) given.run.history
+  may_be =
+      shows_so lists capacity (length programs) given.run.history
+      (subst (IsHistoryOf lists capacity (length programs)) (sym is_run.run.history_is) is_run.run.history_of)
+
+  pub can_be_shown : (form : AnswerForm) → IsSound lists → length programs ≤ 255 → CanShow lists form given.run
+  can_be_shown Plain sound few = tt
+  can_be_shown Echo sound few = tt
+  can_be_shown Trace sound few = tt
+  can_be_shown (Explained c) sound few =
+      (sound, subst (λ n. n ≤ 255) (sym as_many_units) few, subst (λ n. MayBeHistory lists n given.run.history) (sym as_many_units) may_be)

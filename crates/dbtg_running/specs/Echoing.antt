@@ -1,6 +1,6 @@
--- The statements that units made, as the lines of their programs have them: a script for each unit.
--- text and texts are bytes, u is the number of a unit; values says whether each field stands as the literal of its value.
-use Rattle.std.specs.Prelude.{ℕ, ◌+◌, Bool, List, [], ◌∷◌, ◌++◌}
+-- The statements that units made, as the lines of their programs have them, with the values of their fields: a script for each unit.
+-- text and texts are bytes, u is the number of a unit.
+use Rattle.std.specs.Prelude.{ℕ, ◌+◌, List, [], ◌∷◌, ◌++◌}
 use Rattle.dbtg_schema.specs.Lists.{Lists}
 use Rattle.dbtg_unit.specs.Database.Laws.Replay.{entries_of}
 use Rattle.dbtg_unit.specs.declared.statement.Statement.{Statement}
@@ -18,13 +18,13 @@ where_due (due at s) said = said at s
 where_due (ended at how) said = []
 
 -- the lines of the statements of these entries, one for each, as the program of these lines makes them from this state on
-abbrev pub lines_made : Lists → Bool → Program → List (List ℕ) → ProgramState → List Entry → List ℕ
-lines_made schema values program ls state [] = []
-lines_made schema values program ls state (e ∷ es) =
-    where_due (next schema program state) (λ at s. spelled values program ls at ++ 10 ∷ lines_made schema values program ls (told program at s e.answer) es)
+abbrev pub lines_made : Lists → Program → List (List ℕ) → ProgramState → List Entry → List ℕ
+lines_made schema program ls state [] = []
+lines_made schema program ls state (e ∷ es) =
+    where_due (next schema program state) (λ at s. spelled program ls at ++ 10 ∷ lines_made schema program ls (told program at s e.answer) es)
 
 -- for each program, that of unit u first, the statements that its unit made
-abbrev pub scripts_made : Lists → Bool → ℕ → List (List ℕ) → List Entry → List (List ℕ)
-scripts_made schema values u [] history = []
-scripts_made schema values u (text ∷ texts) history =
-    lines_made schema values (program schema text) (lines text) (beginning (program schema text)) (entries_of u history) ∷ scripts_made schema values (u + 1) texts history
+abbrev pub scripts_made : Lists → ℕ → List (List ℕ) → List Entry → List (List ℕ)
+scripts_made schema u [] history = []
+scripts_made schema u (text ∷ texts) history =
+    lines_made schema (program schema text) (lines text) (beginning (program schema text)) (entries_of u history) ∷ scripts_made schema (u + 1) texts history

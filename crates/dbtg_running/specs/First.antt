@@ -30,5 +30,5 @@ told_of_unit false refusals = refusals
 abbrev pub told_of_first : Lists → ℕ → Around → List (List ℕ) → ProgramRun → List ℕ
 told_of_first lists capacity around texts given =
     let history = given.run.history in
-    let refusals = refusals_text (codes "first program") capacity (others around (length texts) + 1) (scripts_made lists true 1 texts history) history in
+    let refusals = refusals_text (codes "first program") capacity (others around (length texts) + 1) (scripts_made lists 1 texts history) history in
     if around.first then told_of_unit (never_ends around (length texts) given.programs) refusals else []

@@ -17,7 +17,7 @@ use Rattle.dbtg_running.specs.Reading.{AllAccepted}
 
 -- the scripts that these programs made, each field as the literal of its value
 abbrev pub scripts_of : Lists → List (List ℕ) → List Entry → List (List ℕ)
-scripts_of schema texts history = scripts_made schema true 1 texts history
+scripts_of schema texts history = scripts_made schema 1 texts history
 
 -- no statement is longer than a trace allows
 abbrev pub AreShort : List (List ℕ) → Type 0

@@ -19,7 +19,6 @@ use Rattle.dbtg_command.specs.declared.place.TextPlace.{TextPlace}
 use Rattle.dbtg_command.specs.Refusals.{is_count}
 use Rattle.dbtg_command.specs.Sources.{ReadSchema, ReadTurns, ToldOfOrder, ToldOfSchema}
 use Rattle.dbtg_replay.specs.declared.replay.AnswerForm.{AnswerForm}
-use Rattle.dbtg_replay.specs.declared.replay.AnswerForm.TheVariants.{Echo, Explained, Trace}
 use Rattle.dbtg_replay.specs.Replaying.{shown_text}
 use Rattle.dbtg_running.specs.declared.command.Printed.{Printed}
 use Rattle.dbtg_running.specs.declared.command.RunOptions.{RunOptions}
@@ -45,21 +44,11 @@ failed (Ended (Astray line)) = true
 failed Spent = false
 failed GoesOn = false
 
--- in a trace each field of a program stands as the literal of its value
-abbrev pub has_values : AnswerForm → Bool
-has_values Trace = true
-has_values _ = false
-
--- no refusal of a program is explained, since programs ask for their statuses themselves
-abbrev pub unexplained : AnswerForm → AnswerForm
-unexplained (Explained capacity) = Echo
-unexplained form = form
-
--- the text of a run of the programs of these texts: the answers alone, or with the statement of each beside it, as the program's text
--- has it, or as a trace
+-- the text of a run of the programs of these texts: the answers alone, or with the statement of each beside it, in which each field stands
+-- as the literal of its value, and with what is in the way of each refusal if that is explained; or as a trace
 abbrev pub run_text : Lists → AnswerForm → List (List ℕ) → ProgramRun → List ℕ
 run_text lists form texts given =
-    shown_text lists (unexplained form) (scripts_made lists (has_values form) 1 texts given.run.history) given.run ++ programs_text 1 (map (program lists) texts) given.programs
+    shown_text lists form (scripts_made lists 1 texts given.run.history) given.run ++ programs_text 1 (map (program lists) texts) given.programs
 
 -- this text is printed of a run, unless the first program does not end; the flag says whether it does not, or a program failed; and
 -- beside the text it is told of the first program

@@ -4,8 +4,9 @@ ghost use Rattle.dbtg_command.specs.Refusals.{is_count};
 ghost use Rattle.dbtg_command.specs.Sources.{ReadSchema, ToldOfOrder};
 ghost use Rattle.dbtg_going.specs.Turns.{IsRunOf, turns_of};
 ghost use Rattle.dbtg_program.specs.Reading.{program};
+ghost use Rattle.dbtg_replay.specs.Replaying.{CanShow};
 ghost use Rattle.dbtg_running.specs.Reading.{ReadPrograms};
-ghost use Rattle.dbtg_running.specs.Running.{PrintsRun, ReadsTurns, RunsHeld, ToldOfRun, failed, has_values, run_text as said_text, unexplained};
+ghost use Rattle.dbtg_running.specs.Running.{PrintsRun, ReadsTurns, RunsHeld, ToldOfRun, failed, run_text as said_text};
 ghost use Rattle.dbtg_schema.specs.Sound.{IsSound};
 ghost use Rattle.std.specs.List.{list_any};
 ghost use Rattle.std.specs.Prelude.{◌≡◌, ◌≤◌, [], IfErr, IfOk, length, map, true};
@@ -69,25 +70,7 @@ fn any_failed(programs: &[Reached]) -> bool
     programs.iter().any(|reached| failed(reached.standing))
 }
 
-// Does each field of a program stand as the literal of its value? It does in a trace, because another engine reads that.
-fn has_values(form: AnswerForm) -> bool
-    ensures { result ≡ has_values form }
-{
-    matches!(form, AnswerForm::Trace)
-}
-
-// Programs ask for their statuses themselves, so their echo explains none.
-fn unexplained(form: AnswerForm) -> AnswerForm
-    ensures { result ≡ unexplained form }
-{
-    match form {
-        AnswerForm::Explained(_) => AnswerForm::Echo,
-        _ => form,
-    }
-}
-
 // The text of a run of these programs, with each answer's statement beside it.
-#[tactic(auto, using(crate::proofs::Shown::can_be_shown))]
 fn text_with_statements(
     alloc: Global,
     schema: &Schema,
@@ -97,15 +80,16 @@ fn text_with_statements(
 ) -> Result<Vec<u8>, AllocError>
     requires few { length programs.now.texts.items ≤ LAST_UNIT }
     requires are { programs.now.list.items ≡ map (program schema.now) programs.now.texts.items }
+    requires can { CanShow schema.now form given.now.run }
     ensures { IfOk result (λ out. out.items ≡ said_text schema.now form programs.now.texts.items given.now) }
 {
     let list = programs.list.as_slice();
     let texts = programs.texts.as_slice();
     let history = given.run.history.as_slice();
-    let made = scripts_made(alloc, schema, has_values(form), list, texts, history)?;
+    let made = scripts_made(alloc, schema, list, texts, history)?;
     let mut out = Vec::new(alloc);
     let shown = Shown {
-        form: unexplained(form),
+        form,
         texts: made.as_slice(),
     };
     push_given(alloc, &mut out, schema, shown, &given.run)?;
@@ -122,6 +106,7 @@ fn text_of_run(
 ) -> Result<Vec<u8>, AllocError>
     requires few { length programs.now.texts.items ≤ LAST_UNIT }
     requires are { programs.now.list.items ≡ map (program schema.now) programs.now.texts.items }
+    requires can { CanShow schema.now form given.now.run }
     ensures { IfOk result (λ out. out.items ≡ said_text schema.now form programs.now.texts.items given.now) }
 {
     match form {
@@ -140,6 +125,7 @@ pub fn print_run(
 ) -> Result<Printed, AllocError>
     requires few { length programs.now.texts.items ≤ LAST_UNIT }
     requires are { programs.now.list.items ≡ map (program schema.now) programs.now.texts.items }
+    requires can { CanShow schema.now options.form given.now.run }
     ensures { IfOk result (PrintsRun schema.now options programs.now.texts.items given.now (said_text schema.now options.form programs.now.texts.items given.now)) }
 {
     let beside = told_of_first(alloc, schema, programs, options, given)?;

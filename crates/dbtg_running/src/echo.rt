@@ -1,4 +1,4 @@
-//! The statements that units made, as the lines of their programs have them, or with the values of their fields.
+//! The statements that units made, as the lines of their programs have them, with the values of their fields.
 
 ghost use Rattle.dbtg_program.specs.Reading.{program};
 ghost use Rattle.dbtg_program.specs.States.{beginning};
@@ -14,12 +14,11 @@ use dbtg_schema::{Row, Schema};
 use dbtg_unit::{Entry, LAST_UNIT};
 use std::alloc::{AllocError, Global};
 
-/// A program with the lines of its text, and whether each field of a statement stands as the literal of its value.
+/// A program with the lines of its text.
 #[derive(Drop)]
 struct Followed<'a> {
     alloc: Global,
     schema: &'a Schema,
-    values: bool,
     program: &'a Program,
     lines: &'a [&'a [u8]],
 }
@@ -32,12 +31,12 @@ impl<'a> Followed<'a> {
         state: &mut State,
         entry: &Entry,
     ) -> Result<bool, AllocError>
-        ensures { (es : List SaidEntry) → IfOk result (λ on. made.old.items ++ lines_made self.now.schema.now self.now.values self.now.program.now (map (λ l. l.now) self.now.lines.now) state.old (entry.now ∷ es) ≡ made.new.items ++ (if on then lines_made self.now.schema.now self.now.values self.now.program.now (map (λ l. l.now) self.now.lines.now) state.new es else [])) }
+        ensures { (es : List SaidEntry) → IfOk result (λ on. made.old.items ++ lines_made self.now.schema.now self.now.program.now (map (λ l. l.now) self.now.lines.now) state.old (entry.now ∷ es) ≡ made.new.items ++ (if on then lines_made self.now.schema.now self.now.program.now (map (λ l. l.now) self.now.lines.now) state.new es else [])) }
     {
         match next(self.alloc, self.schema, self.program, state)? {
             Due::End(_) => Ok(false),
             Due::Statement(statement) => {
-                push_spelled(made, self.values, self.program, self.lines, state)?;
+                push_spelled(made, self.program, self.lines, state)?;
                 made.push(b'\n')?;
                 state.told(self.alloc, self.program, &statement, &entry.answer)?;
                 Ok(true)
@@ -53,7 +52,7 @@ impl<'a> Followed<'a> {
         unit: u8,
         entry: &Entry,
     ) -> Result<bool, AllocError>
-        ensures { (es : List SaidEntry) → IfOk result (λ on. made.old.items ++ lines_made self.now.schema.now self.now.values self.now.program.now (map (λ l. l.now) self.now.lines.now) state.old (entries_of unit (entry.now ∷ es)) ≡ made.new.items ++ (if on then lines_made self.now.schema.now self.now.values self.now.program.now (map (λ l. l.now) self.now.lines.now) state.new (entries_of unit es) else [])) }
+        ensures { (es : List SaidEntry) → IfOk result (λ on. made.old.items ++ lines_made self.now.schema.now self.now.program.now (map (λ l. l.now) self.now.lines.now) state.old (entries_of unit (entry.now ∷ es)) ≡ made.new.items ++ (if on then lines_made self.now.schema.now self.now.program.now (map (λ l. l.now) self.now.lines.now) state.new (entries_of unit es) else [])) }
     {
         if entry.unit != unit {
             return Ok(true);
@@ -63,7 +62,7 @@ impl<'a> Followed<'a> {
 
     // The lines of the statements that a unit made.
     fn lines_made(&self, unit: u8, history: &[Entry]) -> Result<Vec<u8>, AllocError>
-        ensures { IfOk result (λ made. made.items ≡ lines_made self.now.schema.now self.now.values self.now.program.now (map (λ l. l.now) self.now.lines.now) (beginning self.now.program.now) (entries_of unit history.now)) }
+        ensures { IfOk result (λ made. made.items ≡ lines_made self.now.schema.now self.now.program.now (map (λ l. l.now) self.now.lines.now) (beginning self.now.program.now) (entries_of unit history.now)) }
     {
         let mut made = Vec::new(self.alloc);
         let mut state = State::beginning(self.alloc, self.program)?;
@@ -80,44 +79,41 @@ impl<'a> Followed<'a> {
 fn script_made(
     alloc: Global,
     schema: &Schema,
-    values: bool,
     program: &Program,
     text: &[u8],
     unit: u8,
     history: &[Entry],
 ) -> Result<Vec<u8>, AllocError>
-    ensures { IfOk result (λ made. made.items ≡ lines_made schema.now values program.now (lines text.now) (beginning program.now) (entries_of unit history.now)) }
+    ensures { IfOk result (λ made. made.items ≡ lines_made schema.now program.now (lines text.now) (beginning program.now) (entries_of unit history.now)) }
 {
     let lines = lines_of(alloc, text)?;
     let followed = Followed {
         alloc,
         schema,
-        values,
         program,
         lines: lines.as_slice(),
     };
     followed.lines_made(unit, history)
 }
 
-/// The script of each unit: the statements that its program made, as the lines of the program's text; with values, each field stands there
-/// as the literal of its value.
+/// The script of each unit: the statements that its program made, as the lines of the program's text, with each field as the literal of its
+/// value.
 pub fn scripts_made(
     alloc: Global,
     schema: &Schema,
-    values: bool,
     programs: &[Program],
     texts: &[Row<u8>],
     history: &[Entry],
 ) -> Result<Vec<Row<u8>>, AllocError>
     requires few { length texts.now ≤ LAST_UNIT }
     requires are { programs.now ≡ map (program schema.now) texts.now }
-    ensures { IfOk result (λ made. made.items ≡ scripts_made schema.now values 1 texts.now history.now) }
+    ensures { IfOk result (λ made. made.items ≡ scripts_made schema.now 1 texts.now history.now) }
 {
     let mut made = Vec::new(alloc);
     for (i, text) in texts.iter().enumerate() {
         let unit = i as u8 + 1;
         let text = text.as_slice();
-        let script = script_made(alloc, schema, values, &programs[i], text, unit, history)?;
+        let script = script_made(alloc, schema, &programs[i], text, unit, history)?;
         made.push(Row::of(script))?;
     }
     Ok(made)

@@ -44,11 +44,11 @@ fn refusals(
 ) -> Result<Vec<u8>, AllocError>
     requires few { length programs.now.texts.items ≤ LAST_UNIT }
     requires are { programs.now.list.items ≡ map (program schema.now) programs.now.texts.items }
-    ensures { IfOk result (λ out. out.items ≡ refusals_text first.entry.name.now first.entry.capacity first.entry.unit (scripts_made schema.now true 1 programs.now.texts.items given.now.run.history) given.now.run.history) }
+    ensures { IfOk result (λ out. out.items ≡ refusals_text first.entry.name.now first.entry.capacity first.entry.unit (scripts_made schema.now 1 programs.now.texts.items given.now.run.history) given.now.run.history) }
 {
     let history = given.run.history.as_slice();
     let (list, texts) = (programs.list.as_slice(), programs.texts.as_slice());
-    let made = scripts_made(alloc, schema, true, list, texts, history)?;
+    let made = scripts_made(alloc, schema, list, texts, history)?;
     refusals_text(alloc, first, made.as_slice(), history)
 }
 

@@ -4,6 +4,7 @@ ghost use Rattle.dbtg_command.specs.Refusals.{is_count};
 ghost use Rattle.dbtg_command.specs.Sources.{ReadSchema};
 ghost use Rattle.dbtg_command.specs.declared.order.OrderKind.TheVariants.{Serial};
 ghost use Rattle.dbtg_program.specs.Reading.{program};
+ghost use Rattle.dbtg_replay.specs.Replaying.{CanShow};
 ghost use Rattle.dbtg_running.specs.Running.{ToldOfRun};
 ghost use Rattle.dbtg_running.specs.Threading.{IsPrintedOf, RunsOnThreads};
 ghost use Rattle.dbtg_schema.specs.Sound.{IsSound};
@@ -39,6 +40,7 @@ fn print_audited(
 ) -> Result<PrintedOnThreads, AllocError>
     requires few { length programs.now.texts.items ≤ LAST_UNIT }
     requires are { programs.now.list.items ≡ map (program schema.now) programs.now.texts.items }
+    requires can { CanShow schema.now options.form on.now.given.run }
     ensures { IfOk result (IsPrintedOf schema.now options programs.now.texts.items on.now.turns.items on.now.given) }
 {
     let given = &on.given;

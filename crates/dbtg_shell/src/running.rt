@@ -52,7 +52,7 @@ impl<'a> Followed<'a> {
             Due::End(_) => Ok(None),
             Due::Statement(_) => {
                 let mut line = Vec::new(self.alloc);
-                push_spelled(&mut line, true, self.program, self.lines, &self.going.state)?;
+                push_spelled(&mut line, self.program, self.lines, &self.going.state)?;
                 Ok(Some(line))
             }
         }

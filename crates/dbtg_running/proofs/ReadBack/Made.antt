@@ -96,13 +96,13 @@ module _ (schema : Lists) (sound : IsSound schema) (named : IsNamed schema) (byt
       let shown = (and_parts (is_printable (trimmed f.l)) (nat_le (length (trimmed f.l)) 1000) f.is_good.allowed).0 in
       subst (λ (y : Line). sentence_says y.sentence ≡ true) (sym f.is) (sentence_can text (tokens false (trimmed f.l)) (cut f.number f.l).paragraph (words_of false (trimmed f.l) shown))
 
-  due_line : (at : ProgramState) (s : Statement) → Says at.values → at_line schema (program schema bytes) at (line_at (program schema bytes) at) ≡ makes s → IsSaid schema s (spelled true (program schema bytes) (lines bytes) at)
+  due_line : (at : ProgramState) (s : Statement) → Says at.values → at_line schema (program schema bytes) at (line_at (program schema bytes) at) ≡ makes s → IsSaid schema s (spelled (program schema bytes) (lines bytes) at)
   due_line at s h m = by (line_at own at) refl m
     where
       in_words : Option (List Word) → List ℕ → List ℕ
       in_words words raw = unwrap_or (option_map (λ ws. words_text (map (said_word at) ws)) words) raw
 
-      by : (o : Option Line) → line_at (program schema bytes) at ≡ o → at_line schema (program schema bytes) at o ≡ makes s → IsSaid schema s (spelled true (program schema bytes) (lines bytes) at)
+      by : (o : Option Line) → line_at (program schema bytes) at ≡ o → at_line schema (program schema bytes) at o ≡ makes s → IsSaid schema s (spelled (program schema bytes) (lines bytes) at)
       by None e m = absurd cc
       by (Some x) e m =
           let f = from at.at x e in
@@ -111,26 +111,26 @@ module _ (schema : Lists) (sound : IsSound schema) (named : IsNamed schema) (byt
           let raw : line_of (lines bytes) f.number ≡ f.l = ap (λ (k : ℕ). unwrap_or (slice_get (lines bytes) k) []) place ∙ ap (λ (o : Option (List ℕ)). unwrap_or o []) f.there in
           let is = sentence_line text named own at h f.number f.l f.is_good (one_of unbroken (lines bytes) f.k f.l (all_unbroken bytes) f.there) s
           (subst (λ (y : Line). done schema (program schema bytes) at y.number y.sentence ≡ makes s) f.is m) in
-          let path : spelled true (program schema bytes) (lines bytes) at ≡ spelled_as at f.l (sentence_of text (cut f.number f.l)) =
+          let path : spelled (program schema bytes) (lines bytes) at ≡ spelled_as at f.l (sentence_of text (cut f.number f.l)) =
           (λ i. in_words (words_with_fields (e i)) (line_of (lines bytes) (unwrap_or (option_map (λ (y : Line). y.number) (e i)) 0)))
           ∙ ap (λ (y : Line). in_words (filled_words y.sentence) (line_of (lines bytes) y.number)) f.is
           ∙ ap (in_words (filled_words (sentence_of text (cut f.number f.l)))) raw in
           subst (IsSaid schema s) (sym path) is
 
   made_says : (state : ProgramState) (es : List Entry) → Says state.values → GoOn schema (program schema bytes) state es → AllByRecursion (λ e. IsSayable schema e.answer.key e.answer.items) es
-      → IsScriptOf schema es (lines_made schema true (program schema bytes) (lines bytes) state es)
+      → IsScriptOf schema es (lines_made schema (program schema bytes) (lines bytes) state es)
   unfolding lines
   made_says state [] h go answers = record { says = refl; clean = tt }
   made_says state (e ∷ es) h go answers = by (λ after says more. made_says after es says more answers.1) (next schema own state) (within_stands schema own each 100000 0 state h) go.0 go.1
     where
-      by : ((after : ProgramState) → Says after.values → GoOn schema (program schema bytes) after es → IsScriptOf schema es (lines_made schema true (program schema bytes) (lines bytes) after es)) → (d : Due) → Stands schema (program schema bytes) each d → IsDue d e.statement → GoOn schema (program schema bytes) (after_due (program schema bytes) state d e) es
-          → IsScriptOf schema (e ∷ es) (where_due d (λ at s. spelled true (program schema bytes) (lines bytes) at ++ 10 ∷ lines_made schema true (program schema bytes) (lines bytes) (told (program schema bytes) at s e.answer) es))
+      by : ((after : ProgramState) → Says after.values → GoOn schema (program schema bytes) after es → IsScriptOf schema es (lines_made schema (program schema bytes) (lines bytes) after es)) → (d : Due) → Stands schema (program schema bytes) each d → IsDue d e.statement → GoOn schema (program schema bytes) (after_due (program schema bytes) state d e) es
+          → IsScriptOf schema (e ∷ es) (where_due d (λ at s. spelled (program schema bytes) (lines bytes) at ++ 10 ∷ lines_made schema (program schema bytes) (lines bytes) (told (program schema bytes) at s e.answer) es))
       by rest (ended at how) stands is more = absurd is
       by rest (due at s) stands is more =
-          let line = subst (λ (x : Statement). IsSaid schema x (spelled true (program schema bytes) (lines bytes) at)) is (due_line at s stands.0 stands.1) in
+          let line = subst (λ (x : Statement). IsSaid schema x (spelled (program schema bytes) (lines bytes) at)) is (due_line at s stands.0 stands.1) in
           let others = rest (told own at s e.answer) (told_says schema sound own at s e.answer answers.0 stands.0) more in
-          one_line schema e es (spelled true own (lines bytes) at) (lines_made schema true own (lines bytes) (told own at s e.answer) es) line others
+          one_line schema e es (spelled own (lines bytes) at) (lines_made schema own (lines bytes) (told own at s e.answer) es) line others
 
   pub script_said : (es : List Entry) → AreOf schema (program schema bytes) es → AllByRecursion (λ e. IsSayable schema e.answer.key e.answer.items) es
-      → IsScriptOf schema es (lines_made schema true (program schema bytes) (lines bytes) (beginning (program schema bytes)) es)
+      → IsScriptOf schema es (lines_made schema (program schema bytes) (lines bytes) (beginning (program schema bytes)) es)
   script_said es are answers = made_says (beginning own) es (beginning_says own.fields) are answers

@@ -55,13 +55,13 @@ of_unit P u (e ∷ es) all = by (of_unit P u es all.1) (e.unit == u)
 
 module _ (schema : Lists) (history : List Entry) where
   abbrev made_of : ℕ → List ℕ → List ℕ
-  made_of u text = lines_made schema true (program schema text) (lines text) (beginning (program schema text)) (entries_of u history)
+  made_of u text = lines_made schema (program schema text) (lines text) (beginning (program schema text)) (entries_of u history)
 
-  many : (u : ℕ) (texts : List (List ℕ)) → length (scripts_made schema true u texts history) ≡ length texts
+  many : (u : ℕ) (texts : List (List ℕ)) → length (scripts_made schema u texts history) ≡ length texts
   many u [] = refl
   many u (text ∷ texts) = ap suc (many (u + 1) texts)
 
-  script_at : (u : ℕ) (texts : List (List ℕ)) (k : ℕ) (t : List ℕ) → slice_get (scripts_made schema true u texts history) k ≡ Some t → (text : List ℕ) × (slice_get texts k ≡ Some text) × (t ≡ made_of (u + k) text)
+  script_at : (u : ℕ) (texts : List (List ℕ)) (k : ℕ) (t : List ℕ) → slice_get (scripts_made schema u texts history) k ≡ Some t → (text : List ℕ) × (slice_get texts k ≡ Some text) × (t ≡ made_of (u + k) text)
   script_at u [] k t at = absurd cc
   script_at u (text ∷ texts) zero t at =
       let same : made_of u text ≡ t = cc in
@@ -89,10 +89,10 @@ module _ (schema : Lists) (sound : IsSound schema) (named : IsNamed schema) (cap
   history = given.run.history
 
   abbrev made : List (List ℕ)
-  made = scripts_made schema true 1 texts given.run.history
+  made = scripts_made schema 1 texts given.run.history
 
   -- as many units as scripts
-  count : length (map (program schema) texts) ≡ length (scripts_made schema true 1 texts given.run.history)
+  count : length (map (program schema) texts) ≡ length (scripts_made schema 1 texts given.run.history)
   count = length-map texts (program schema) ∙ sym (many schema history 1 texts)
 
   history_of : IsHistoryOf schema capacity (length (map (program schema) texts)) given.run.history
@@ -101,7 +101,7 @@ module _ (schema : Lists) (sound : IsSound schema) (named : IsNamed schema) (cap
   answers : AllByRecursion (λ e. IsSayable schema e.answer.key e.answer.items) given.run.history
   answers = sayable schema sound named capacity small (length (map (program schema) texts)) history history_of.fitting history_of.answers_hold
 
-  each : (k : ℕ) (t : List ℕ) → slice_get (scripts_made schema true 1 texts given.run.history) k ≡ Some t → IsScriptOf schema (entries_of (k + 1) given.run.history) t
+  each : (k : ℕ) (t : List ℕ) → slice_get (scripts_made schema 1 texts given.run.history) k ≡ Some t → IsScriptOf schema (entries_of (k + 1) given.run.history) t
   each k t at =
       let r = script_at schema history 1 texts k t at in
       let e : 1 + k ≡ k + 1 = omega arith in
@@ -109,10 +109,10 @@ module _ (schema : Lists) (sound : IsSound schema) (named : IsNamed schema) (cap
       (of_unit (λ x. IsSayable schema x.answer.key x.answer.items) (k + 1) history answers) in
       subst (IsScriptOf schema (entries_of (k + 1) history)) (sym (r.2 ∙ ap (λ (n : ℕ). made_of schema history n r.0) e)) says
 
-  begin : BeginScripts schema (scripts_made schema true 1 texts given.run.history) given.run.history
+  begin : BeginScripts schema (scripts_made schema 1 texts given.run.history) given.run.history
   begin k t at = ([], append-nil (map (λ (x : Entry). x.statement) (entries_of (k + 1) history)) ∙ sym (each k t at).says)
 
-  clean : AreShort (scripts_made schema true 1 texts given.run.history) → AllByRecursion (AllByRecursion (Clean schema)) (map statement_lines (scripts_made schema true 1 texts given.run.history))
+  clean : AreShort (scripts_made schema 1 texts given.run.history) → AllByRecursion (AllByRecursion (Clean schema)) (map statement_lines (scripts_made schema 1 texts given.run.history))
   clean short =
       all_mapped (AllByRecursion (Clean schema)) statement_lines made
       (all_from (λ t. AllByRecursion (Clean schema) (statement_lines t)) made
@@ -121,7 +121,7 @@ module _ (schema : Lists) (sound : IsSound schema) (named : IsNamed schema) (cap
 pub run_read_back : PrintedRunIsReadBack
 run_read_back schema sound named capacity small texts few accepted turns given is short room most =
     let history = given.run.history in
-    let made = scripts_made schema true 1 texts history in
+    let made = scripts_made schema 1 texts history in
     let low : length made ≤ 255 = subst (λ (n : ℕ). n ≤ 255) (sym (many schema history 1 texts)) few in
     let hold : AnswersHold schema capacity (opening_state schema (length made)) history =
     subst (λ (n : ℕ). AnswersHold schema capacity (opening_state schema n) history) (count schema sound named capacity small texts accepted turns given is) (history_of schema sound named capacity small texts accepted turns given is).answers_hold in

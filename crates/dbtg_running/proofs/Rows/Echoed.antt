@@ -1,6 +1,6 @@
 -- The statements that a program made, as its lines have them.
 use Prim.Native.String.{String}
-use Rattle.std.specs.Prelude.{◌≡◌, refl, false, List, [], ◌∷◌, ◌++◌, None, codes, map, true}
+use Rattle.std.specs.Prelude.{◌≡◌, refl, List, [], ◌∷◌, ◌++◌, None, codes, map, true}
 use Rattle.std.specs.Fmt.{digits}
 use Rattle.dbtg_unit.specs.declared.statement.Statement.TheVariants.{Free, Get, Modify}
 use Rattle.dbtg_unit.specs.declared.unit.Cause.TheVariants.{NoCurrentOfRunUnit}
@@ -17,23 +17,19 @@ use Rattle.dbtg_running.specs.Checking.{program_lines}
 use Rattle.dbtg_running.specs.Echoing.{lines_made}
 
 -- GET is refused, so the program goes on at NOTHING, and frees everything
-jumped : lines_made card false looker (map (λ l. codes l) ("01 SEEN PIC 9(2)" ∷ "GET." ∷ "IF STATUS = 0413 GO TO NOTHING" ∷ "ADD 1 TO SEEN" ∷ "STOP" ∷ "NOTHING." ∷ "FREE ALL" ∷ [])) (beginning looker)
+jumped : lines_made card looker (map (λ l. codes l) ("01 SEEN PIC 9(2)" ∷ "GET." ∷ "IF STATUS = 0413 GO TO NOTHING" ∷ "ADD 1 TO SEEN" ∷ "STOP" ∷ "NOTHING." ∷ "FREE ALL" ∷ [])) (beginning looker)
     (entry 1 1 (Get None) (no NoCurrentOfRunUnit) ∷ entry 2 1 (Free true) done ∷ []) ≡ codes "GET." ++ 10 ∷ codes "FREE ALL" ++ 10 ∷ []
 unfolding within verdict onto into digits
 jumped = refl
 
--- a program that writes the value of a counter, as its line was written and with the value
+-- a program that writes the value of a counter
 abbrev written : List String
 written = "01 T PIC X(4)" ∷ "MOVE \"A B\" TO T" ∷ "MODIFY CUSTOMER CNAME=T." ∷ []
 
 abbrev writing : List Entry
 writing = entry 0 1 (Modify 0 (record { item = 1; value = text "A B     " } ∷ [])) (no NoCurrentOfRunUnit) ∷ []
 
-as_written : lines_made card false (of_lines card written) (map (λ l. codes l) written) (beginning (of_lines card written)) writing ≡ codes "MODIFY CUSTOMER CNAME=T." ++ 10 ∷ []
-unfolding within verdict onto into digits
-as_written = refl
-
-with_values : lines_made card true (of_lines card written) (map (λ l. codes l) written) (beginning (of_lines card written)) writing ≡ codes "MODIFY CUSTOMER CNAME = \"A B\"" ++ 10 ∷ []
+with_values : lines_made card (of_lines card written) (map (λ l. codes l) written) (beginning (of_lines card written)) writing ≡ codes "MODIFY CUSTOMER CNAME = \"A B\"" ++ 10 ∷ []
 unfolding within verdict onto into digits
 with_values = refl
 

@@ -1,5 +1,6 @@
 use Rattle.std.proofs.Common.{◌∙◌, arith}
 use Rattle.dbtg_running.proofs.ProgramsRead.{few_programs, runs_on_threads}
+use Rattle.dbtg_running.proofs.Shown.{can_be_shown}
 use Rattle.dbtg_running.proofs.threads.run_known.Goals as goal
 
 pub run_on_threads-requires-clause-count : goal.run_on_threads-requires-clause-count
@@ -13,6 +14,12 @@ print_audited-requires-clause-few g c =
     let read = c.in_ok-programs.ensures.read in
     let few = few_programs _ c.args.known.now _ c.as_slice.result.now c.in_ok-programs.programs.texts.items c.requires.counted (read.0, c.as_slice.ensures.value ∙ read.1, read.2) in
     omega (arith, few.2)
+
+pub print_audited-requires-clause-can : goal.print_audited-requires-clause-can
+print_audited-requires-clause-can g c =
+    let read = c.in_ok-programs.ensures.read in
+    let few = few_programs _ c.args.known.now _ c.as_slice.result.now c.in_ok-programs.programs.texts.items c.requires.counted (read.0, c.as_slice.ensures.value ∙ read.1, read.2) in
+    can_be_shown _ _ _ _ c.in_ok-on.on.given c.in_ok-on.ensures.is_run c.args.options.form c.requires.sound (omega (arith, few.1))
 
 pub returns-clause-done : goal.returns-clause-done
 returns-clause-done g c =
