@@ -1,5 +1,5 @@
 //! The core: a database and its run-units, stepped event by event.
-ghost use Rattle.std.specs.Prelude.{◌≡◌, ◌≤◌, ◌∷◌, [], true, Some, length, map, option_map, IfOk, OnOk};
+ghost use Rattle.std.specs.Prelude.{◌≡◌, ◌≤◌, true, Some, length, map, option_map, IfOk, OnOk};
 ghost use Rattle.dbtg_unit.specs.Database.State.Image.{image_of};
 ghost use Rattle.dbtg_unit.specs.Database.Laws.Replay.{AnswersHold, TicketsInOrder, opening_state, replay};
 ghost use Rattle.dbtg_step.specs.Machine.SequentialDatabase.{unit_at};

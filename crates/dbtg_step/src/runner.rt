@@ -1,5 +1,5 @@
 //! What the events change in a run-unit.
-ghost use Rattle.std.specs.Prelude.{◌≡◌, ℕ, ◌<◌, ◌+◌, ◌∷◌, [], ◌++◌, OnOk, OnErr, Some, None, true, false, length, is_some, map, nat_lt, slice_get, IfOk};
+ghost use Rattle.std.specs.Prelude.{◌≡◌, ◌<◌, ◌+◌, Some, None, true, false, length, is_some, map, nat_lt, slice_get, IfOk};
 ghost use Rattle.dbtg_step.specs.Machine.Network.{is_delete};
 ghost use Rattle.dbtg_step.specs.Inside.Parts.{progress_while_held};
 ghost use Rattle.dbtg_step.specs.Inside.Stands.{HasStatement, IsStanding};

@@ -21,7 +21,6 @@ use Rattle.dbtg_step.specs.Machine.SequentialDatabase.{SequentialDatabase, unit_
 use Rattle.dbtg_step.specs.Machine.Machine.{HistoryEntry, SequentialState, State, UnitState}
 use Rattle.dbtg_step.specs.Inside.Step.{IfMoved}
 use Rattle.dbtg_step.specs.Machine.Step.{MovedTo, run, state_after, step, transition}
-use Rattle.dbtg_step.specs.Machine.Lawful.{Lawful}
 use Rattle.dbtg_step.specs.Machine.Network.{network}
 use Rattle.dbtg_step.specs.Machine.Headline.{entry_of, machine_after, machine_of, opening_of, units_from}
 use Rattle.dbtg_step.specs.Laws.{scripts_fit}

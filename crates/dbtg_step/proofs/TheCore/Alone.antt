@@ -1,9 +1,9 @@
 -- A step of a unit changes only that unit, and draws at most the ticket of its next statement.
-use Rattle.std.proofs.Common.{ℕ, suc, ◌≡◌, Bool, true, false, List, [], ◌∷◌, ◌++◌, Option, Some, None, ◌⊎◌, inl, inr, length, take, refl, sym, ap, subst, arith}
+use Rattle.std.proofs.Common.{ℕ, suc, ◌≡◌, Bool, true, false, List, [], ◌∷◌, ◌++◌, Option, Some, None, ◌⊎◌, inl, inr, length, refl, sym, ap, subst, arith}
 use Rattle.std.proofs.lemmas.Option.{same_Some}
 use Rattle.dbtg_step.specs.Machine.SequentialDatabase.{HeldCell, NextNeed, NeedsArea, NeedsCell, StaleGuesses, NeedsNothing, SequentialDatabase, unit_at, with_unit_at}
 use Rattle.dbtg_step.specs.Machine.Machine.{CellLocation, Home, HeldBy, StatementProgress, UnitState, HistoryEntry, State, SequentialState, begun, unless_over}
-use Rattle.dbtg_step.specs.Machine.Step.{updated, with_progress, with_ticket, after_ticket, takes_area, takes_cell, follows_need, next_need, before_ticket, in_statement, is_nonempty, step_of_unit, step_if_unit, step, Transition, MovedTo, IsBlocked, IsIdle, any_other, conflicts}
+use Rattle.dbtg_step.specs.Machine.Step.{updated, with_progress, with_ticket, after_ticket, takes_area, takes_cell, follows_need, next_need, before_ticket, in_statement, step_of_unit, step_if_unit, step, Transition, MovedTo, IsBlocked, IsIdle, any_other, conflicts}
 use Rattle.dbtg_step.specs.Inside.Step.{IfMoved}
 
 -- in mid-statement without a ticket

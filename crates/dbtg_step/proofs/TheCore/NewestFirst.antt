@@ -1,12 +1,11 @@
 -- The machine has what a unit holds with the newest first, and the hands have it last.
-use Rattle.std.proofs.Common.{◌≡◌, ℕ, zero, suc, ◌-◌, false, cond, List, [], ◌∷◌, length, map, slice_get, take, refl, sym, ap, ◌∙◌, arith}
-use Rattle.std.specs.Prelude.{Option, None, Some, get_or, is_some, option_map, reverse}
+use Rattle.std.proofs.Common.{◌≡◌, ℕ, zero, suc, ◌-◌, List, [], ◌∷◌, length, map, slice_get, refl, sym, ap, ◌∙◌, arith}
+use Rattle.std.specs.Prelude.{Option, None, Some, get_or, option_map, reverse}
 use Rattle.std.proofs.lemmas.List.{get_or-reverse, length-reverse, length-map}
-use Rattle.std.proofs.lemmas.Option.{same_Some, slice_get-get_or, slice_get-map}
+use Rattle.std.proofs.lemmas.Option.{slice_get-get_or}
 use Rattle.dbtg_schema.specs.Lists.{Lists}
 use Rattle.dbtg_cells.specs.declared.cell.Cell.{Cell}
 use Rattle.dbtg_cells.specs.declared.name.CellName.{CellName}
-use Rattle.dbtg_cells.specs.Cells.{shown}
 use Rattle.dbtg_cells.specs.Shown.{CellValue}
 use Rattle.dbtg_step.specs.declared.parts.UnitState.{UnitState}
 use Rattle.dbtg_step.specs.declared.parts.StatementProgress.{StatementProgress}
@@ -14,9 +13,7 @@ use Rattle.dbtg_step.specs.declared.watching.Newest.{Newest}
 use Rattle.dbtg_step.specs.Machine.Machine.{held_areas, held_cells}
 use Rattle.dbtg_step.specs.Machine.SequentialDatabase.{HeldCell}
 use Rattle.dbtg_step.specs.Core.Newest.{newest_of}
-use Rattle.dbtg_step.specs.Machine.Network.{network}
-use Rattle.dbtg_step.specs.Core.Parts.{held_cells_of, held_of, progress_of, unit_state_of}
-use Rattle.dbtg_step.specs.Inside.Turns.{newest_untouched}
+use Rattle.dbtg_step.specs.Core.Parts.{held_cells_of, held_of, unit_state_of}
 
 pub first_of_reverse : {X : Type 0} (xs : List X) → slice_get (reverse xs) 0 ≡ slice_get xs (length xs - 1)
 first_of_reverse [] = refl
