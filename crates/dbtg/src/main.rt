@@ -207,11 +207,7 @@ fn print_run(
 fn begins_with_file(call: &Call) -> bool {
     let runs = matches!(
         call.named,
-        Named::Audit
-            | Named::Page
-            | Named::Replay
-            | Named::Threads
-            | Named::Timeline
+        Named::Audit | Named::Page | Named::Replay | Named::Threads | Named::Timeline
     );
     runs && call.first && call.schema != "-" && call.scripts.last().is_some_and(|path| *path != "-")
 }
@@ -355,7 +351,10 @@ fn tell_unwished(rt: &HostRuntime, call: &Call, codes: &[u8]) -> ExitCode {
 
 fn no_status(rt: &HostRuntime, wished: Wished, codes: &str) -> ExitCode {
     let Wished {
-        unit, line, status, ..
+        unit,
+        line,
+        status,
+        ..
     } = wished;
     let _ = eprintln!(rt; "no status {status:04} of {unit}.{line}: {codes}");
     ExitCode::from(WRONG_WORDS)
