@@ -9,7 +9,7 @@ from schema import Schema
 def left_behind(text):
     """What a run leaves behind, where the units that have an area open stand in the order of their numbers."""
     behind = text.partition("--\n")[2]
-    return re.sub(r"(?m)^(AREA [^ \n]+)(.+)$", lambda it: " ".join([it[1], *sorted(it[2].split())]), behind)
+    return re.sub(r"(?m)^(AREA [^ \n]+)(.*)$", lambda it: " ".join([it[1], *sorted(it[2].split())]), behind)
 
 
 def kept_by(unit, db):

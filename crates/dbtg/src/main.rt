@@ -1,13 +1,11 @@
 //! The program: reads the command's words and the files that they name, and prints the result.
 #![tactic(auto)]
 
-ghost use Rattle.std.specs.Prelude.{◌≡◌, ◌+◌, ◌<◌, IfErr, length, true};
+ghost use Rattle.std.specs.Prelude.{◌≡◌, ◌+◌, IfErr, length, true};
 ghost use Rattle.std.specs.Process.{exit_status};
 ghost use Rattle.dbtg_schema.specs.Sound.{IsSound};
 ghost use Rattle.dbtg_audit.specs.Reported.{loading_units};
 ghost use Rattle.dbtg_command.specs.Refusals.{is_count, status_of};
-ghost use Rattle.dbtg_command.specs.Sources.{kind_of};
-ghost use Rattle.dbtg_command.specs.declared.order.OrderKind.TheVariants.{Serial};
 
 mod progress;
 mod replay;
@@ -23,11 +21,9 @@ use dbtg_command::{
     status_of,
 };
 use dbtg_explain::{Topic, explained, status_topic};
-use dbtg_explore::Wish as WishForLine;
+use dbtg_explore::Wish;
 use dbtg_exploring::{Exploring, Said, explore_programs};
 use dbtg_going::Around;
-use dbtg_listing::{Judged, ListingOptions, judge_outcomes, print_outcomes};
-use dbtg_outcomes::Wish;
 use dbtg_replay::replay::{AnswerForm, check_count, replay};
 use dbtg_replay::{moves_for_turns, refusals_of_first};
 use dbtg_running::{
@@ -47,19 +43,14 @@ use std::sync::Wait;
 use std::thread::Threads;
 use timeline::{Form, timeline};
 
-/// The exit status if a program ended by ASSERT, SIZE or ASTRAY, or can end by one, or if programs can go on for ever.
+/// The exit status if a program ended by ASSERT, SIZE or ASTRAY, or can end by one, if programs can go on for ever, or if some order breaks a wish.
 const PROGRAM_FAILED: u8 = 4;
 
 /// The exit status of a program whose reader has gone away: the one with which a shell reports that SIGPIPE ended it.
 const READER_GONE: u8 = 141;
 
-/// The exit status if some order breaks a wish.
-const WISH_BROKEN: u8 = 4;
-
 /// The exit status of a fault of the command's words.
 const WRONG_WORDS: u8 = 2;
-
-const GREATEST_STATUS: u16 = 9_999;
 
 fn told(rt: &HostRuntime, fault: &Fault) -> ExitCode
     ensures { exit_status result ≡ status_of fault.now }
@@ -196,7 +187,7 @@ fn print_files(rt: &HostRuntime, files: &Files<HostRuntime>, call: &Call) -> Exi
     print_run(rt, given, files, call)
 }
 
-// The text of a run, or its fault.
+// The text of a run, or its fault; beside it, which statements of the script that is made first were refused.
 fn print_run(
     rt: &HostRuntime,
     given: Result<Vec<u8>, Fault>,
@@ -204,22 +195,11 @@ fn print_run(
     call: &Call,
 ) -> ExitCode {
     match given {
-        Ok(text) => print_ran(rt, text.as_slice(), ExitCode::SUCCESS, files, call),
+        Ok(text) => match tell_refusals(rt, files, call) {
+            Ok(()) => print_text(rt, text.as_slice(), ExitCode::SUCCESS),
+            Err(fault) => told(rt, &fault),
+        },
         Err(fault) => told_of(rt, &fault, files.paths, call),
-    }
-}
-
-// The text of a run, with this status; beside it, which statements of the script that is made first were refused.
-fn print_ran(
-    rt: &HostRuntime,
-    text: &[u8],
-    status: ExitCode,
-    files: &Files<HostRuntime>,
-    call: &Call,
-) -> ExitCode {
-    match tell_refusals(rt, files, call) {
-        Ok(()) => print_text(rt, text, status),
-        Err(fault) => told(rt, &fault),
     }
 }
 
@@ -227,12 +207,7 @@ fn print_ran(
 fn begins_with_file(call: &Call) -> bool {
     let runs = matches!(
         call.named,
-        Named::Audit
-            | Named::Outcomes
-            | Named::Page
-            | Named::Replay
-            | Named::Threads
-            | Named::Timeline
+        Named::Audit | Named::Page | Named::Replay | Named::Threads | Named::Timeline
     );
     runs && call.first && call.schema != "-" && call.scripts.last().is_some_and(|path| *path != "-")
 }
@@ -338,7 +313,7 @@ fn tell_explored(rt: &HostRuntime, files: &Files<HostRuntime>, call: &Call) -> E
         around: around_of(call),
         brief: call.brief,
         limit: call.limit,
-        wish: call.wish.map(wish_for_line),
+        wish: call.wish.map(wish_of),
     };
     let progress = Progress::begin(rt);
     let said = explore_programs(rt.alloc(), &progress, files, asked);
@@ -351,10 +326,10 @@ fn tell_explored(rt: &HostRuntime, files: &Files<HostRuntime>, call: &Call) -> E
     }
 }
 
-fn wish_for_line(wished: Wished) -> WishForLine {
-    WishForLine {
+fn wish_of(wished: Wished) -> Wish {
+    Wish {
         unit: wished.unit.min(LAST_UNIT as u64) as u8,
-        line: wished.place,
+        line: wished.line,
         status: wished.status,
         never: wished.never,
     }
@@ -377,11 +352,11 @@ fn tell_unwished(rt: &HostRuntime, call: &Call, codes: &[u8]) -> ExitCode {
 fn no_status(rt: &HostRuntime, wished: Wished, codes: &str) -> ExitCode {
     let Wished {
         unit,
-        place,
+        line,
         status,
         ..
     } = wished;
-    let _ = eprintln!(rt; "no status {status:04} of {unit}.{place}: {codes}");
+    let _ = eprintln!(rt; "no status {status:04} of {unit}.{line}: {codes}");
     ExitCode::from(WRONG_WORDS)
 }
 
@@ -496,71 +471,9 @@ fn tell_status(rt: &HostRuntime, status: u16) {
     }
 }
 
-fn tell_outcomes(rt: &HostRuntime, call: &Call) -> ExitCode {
-    let paths = paths_of(call, Order::Serial);
-    let files = Files {
-        reader: rt,
-        paths: &paths,
-    };
-    let options = ListingOptions {
-        capacity: call.capacity,
-        first: call.first,
-        answers: call.answers,
-        brief: call.brief,
-        limit: call.limit,
-    };
-    if let Some(wished) = call.wish {
-        return tell_judged(rt, &files, call, options, wished);
-    }
-    let progress = Progress::begin(rt);
-    let given = print_outcomes(rt.alloc(), &progress, &files, options);
-    progress.end();
-    print_run(rt, given, &files, call)
-}
-
-fn wish_of(wished: Wished) -> Wish
-    ensures { result.status < 10000 }
-{
-    Wish {
-        unit: wished.unit.min(LAST_UNIT as u64) as u8,
-        place: wished.place as usize,
-        status: wished.status.min(GREATEST_STATUS),
-        never: wished.never,
-    }
-}
-
-// The result of a wish, with a status of its own if some order breaks it.
-fn tell_judged(
-    rt: &HostRuntime,
-    files: &Files<HostRuntime>,
-    call: &Call,
-    options: ListingOptions,
-    wished: Wished,
-) -> ExitCode
-    requires { kind_of files.now.paths.now.order ≡ Serial }
-{
-    let progress = Progress::begin(rt);
-    let judged = judge_outcomes(rt.alloc(), &progress, files, options, wish_of(wished));
-    progress.end();
-    match judged {
-        Ok(Judged::Kept(text)) => print_ran(rt, text.as_slice(), ExitCode::SUCCESS, files, call),
-        Ok(Judged::Broken(text)) => {
-            print_ran(
-                rt,
-                text.as_slice(),
-                ExitCode::from(WISH_BROKEN),
-                files,
-                call,
-            )
-        }
-        Ok(Judged::NoStatement) => no_statement(rt, wished),
-        Err(fault) => told_of(rt, &fault, files.paths, call),
-    }
-}
-
 fn no_statement(rt: &HostRuntime, wished: Wished) -> ExitCode {
-    let (unit, place) = (wished.unit, wished.place);
-    let _ = eprintln!(rt; "no statement {unit}.{place}");
+    let (unit, line) = (wished.unit, wished.line);
+    let _ = eprintln!(rt; "no statement {unit}.{line}");
     ExitCode::from(WRONG_WORDS)
 }
 
@@ -575,7 +488,7 @@ fn paths_of<'a>(call: &'a Call<'a>, order: Order<&'a str>) -> Paths<'a>
     }
 }
 
-// Turns and outcomes have an order of their own; all else takes the files in the order that is given.
+// Turns have an order of their own; all else takes the files in the order that is given.
 fn carry_out<R: Threads + Wait + Sync>(rt: &HostRuntime, threads: &R, call: &Call) -> ExitCode {
     let paths = paths_of(call, call.order);
     let files = Files {
@@ -584,7 +497,6 @@ fn carry_out<R: Threads + Wait + Sync>(rt: &HostRuntime, threads: &R, call: &Cal
     };
     match call.named {
         Named::Turns => print_turns(rt, call),
-        Named::Outcomes => tell_outcomes(rt, call),
         Named::Threads => print_threads(rt, threads, &files, call),
         Named::Run => print_programs(rt, threads, &files, call),
         Named::Explore => tell_explored(rt, &files, call),

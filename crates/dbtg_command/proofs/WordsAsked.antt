@@ -89,16 +89,16 @@ unfolding clap_on_literals
 turns_are_first = refl
 
 -- the two words after a wish belong to it, and the schema comes after them
-never_has_two : given (codes "outcomes" ∷ codes "--never" ∷ codes "2.5" ∷ codes "0803" ∷ codes "a.schema" ∷ []) (codes "never") ≡ Some (codes "2.5" ∷ codes "0803" ∷ [])
+never_has_two : given (codes "explore" ∷ codes "--never" ∷ codes "2.5" ∷ codes "0803" ∷ codes "a.schema" ∷ []) (codes "never") ≡ Some (codes "2.5" ∷ codes "0803" ∷ [])
 unfolding clap_on_literals
 never_has_two = refl
 
-schema_behind_wish : given (codes "outcomes" ∷ codes "--always" ∷ codes "2.5" ∷ codes "0803" ∷ codes "a.schema" ∷ []) (codes "schema") ≡ Some (codes "a.schema" ∷ [])
+schema_behind_wish : given (codes "explore" ∷ codes "--always" ∷ codes "2.5" ∷ codes "0803" ∷ codes "a.schema" ∷ []) (codes "schema") ≡ Some (codes "a.schema" ∷ [])
 unfolding clap_on_literals
 schema_behind_wish = refl
 
--- 2.5 0803 is the status 803 of unit 2's fifth statement
-wish_is_read : wish_in true (codes "2.5") (codes "0803") ≡ Some (record { never = true; unit = 2; place = 5; status = 803 })
+-- 2.5 0803 is the status 803 of the statement in line 5 of unit 2
+wish_is_read : wish_in true (codes "2.5") (codes "0803") ≡ Some (record { never = true; unit = 2; line = 5; status = 803 })
 wish_is_read = refl
 
 no_status_of_three : wish_in true (codes "2.5") (codes "803") ≡ None

@@ -59,7 +59,6 @@ pub record IsCall (asked : Named) (found : Found) (call : Call) : Type 0 where
   pub echo : IsFlag found (codes "echo") call.echo
   pub trace : IsFlag found (codes "trace") call.trace
   pub svg : IsFlag found (codes "svg") call.svg
-  pub answers : IsFlag found (codes "answers") call.answers
   pub brief : IsFlag found (codes "brief") call.brief
   pub statuses : IsFlag found (codes "status") call.statuses
   pub programs : IsFlag found (codes "programs") call.programs

@@ -38,9 +38,6 @@ wish_option name = record (new_rule name) { long = Some name; action = Some Set;
 abbrev pub always : Rule
 always = record (wish_option (codes "always")) { is_free = false }
 
-abbrev pub answers : Rule
-answers = flag (codes "answers")
-
 abbrev pub brief : Rule
 brief = flag (codes "brief")
 
@@ -132,7 +129,6 @@ name_of named.Replay = codes "replay"
 name_of named.Turns = codes "turns"
 name_of named.Timeline = codes "timeline"
 name_of named.Page = codes "page"
-name_of named.Outcomes = codes "outcomes"
 name_of named.Threads = codes "threads"
 name_of named.Audit = codes "audit"
 name_of named.Run = codes "run"
@@ -148,7 +144,6 @@ rules_for named.Replay = capacity ∷ first ∷ moves ∷ turns_option ∷ echo 
 rules_for named.Turns = capacity ∷ explain ∷ no_explain ∷ turns_file ∷ schema ∷ scripts ∷ []
 rules_for named.Timeline = capacity ∷ first ∷ moves ∷ turns_option ∷ svg ∷ explain ∷ no_explain ∷ schema ∷ scripts ∷ []
 rules_for named.Page = capacity ∷ first ∷ moves ∷ turns_option ∷ explain ∷ no_explain ∷ schema ∷ scripts ∷ []
-rules_for named.Outcomes = capacity ∷ first ∷ limit ∷ answers ∷ brief ∷ never ∷ always ∷ explain ∷ no_explain ∷ schema ∷ scripts ∷ []
 rules_for named.Threads = capacity ∷ first ∷ save_turns ∷ trace_alone ∷ explain ∷ no_explain ∷ schema ∷ scripts ∷ []
 rules_for named.Audit = capacity ∷ first ∷ units ∷ status ∷ all ∷ explain ∷ no_explain ∷ schema ∷ trace ∷ []
 rules_for named.Draw = explain ∷ no_explain ∷ schema ∷ []
@@ -166,5 +161,5 @@ abbrev pub program : App
 program = record {
   top = record (new_shape (codes "dbtg")) { is_leaf = false; has_version = true; propagate_version = true; subcommand_required = true; arg_required_else_help = true };
   subs = map (λ asked. shape_with (name_of asked) (rules_for asked))
-      (named.Check ∷ named.Replay ∷ named.Turns ∷ named.Timeline ∷ named.Page ∷ named.Outcomes ∷ named.Threads ∷ named.Run ∷ named.Explore ∷ named.Audit ∷ named.Draw ∷ named.Explain ∷ named.Shell ∷ []);
+      (named.Check ∷ named.Replay ∷ named.Turns ∷ named.Timeline ∷ named.Page ∷ named.Threads ∷ named.Run ∷ named.Explore ∷ named.Audit ∷ named.Draw ∷ named.Explain ∷ named.Shell ∷ []);
 }

@@ -11,10 +11,10 @@ use Rattle.dbtg_command.specs.Capacity.{count_in}
 abbrev pub status_in : List ℕ → Option ℕ
 status_in word = if length word == 4 then number_in 9999 word else None
 
--- unit and place or line, with a period between them, and a status
+-- unit and line, with a period between them, and a status
 abbrev pub wish_in : Bool → List ℕ → List ℕ → Option Wished
 wish_in never place status =
-    option_and_then (λ u. option_and_then (λ i. option_map (λ s. record { never = never; unit = u; place = i; status = s }) (status_in status)) (count_in SCRIPT_BYTES (behind 46 place))) (count_in MOST_UNITS (in_front 46 place))
+    option_and_then (λ u. option_and_then (λ i. option_map (λ s. record { never = never; unit = u; line = i; status = s }) (status_in status)) (count_in SCRIPT_BYTES (behind 46 place))) (count_in MOST_UNITS (in_front 46 place))
 
 -- the wish that the two words of an option say; none if the option has no words
 abbrev pub wish_for : Bool → List (List ℕ) → Option (Option Wished)

@@ -37,19 +37,7 @@ pub const ALL_LINES: Word = Word::Flag(
 pub const ALWAYS: Word = Word::WishOptionWithout(
     "always",
     "never",
-    "Says whether statement N of unit U always has this status; not with --never",
-);
-
-/// The same of a program's statement.
-pub const ALWAYS_IN_LINE: Word = Word::WishOptionWithout(
-    "always",
-    "never",
-    "Says whether the statement in line N of unit U always has this status; not with --never",
-);
-
-pub const ANSWERS: Word = Word::Flag(
-    "answers",
-    "Tells results apart by the units' answers too [default: by the rest alone]",
+    "Says whether the statement in line LINE of unit U always has this status; not with --never",
 );
 
 pub const BRIEF: Word = Word::Flag(
@@ -120,13 +108,7 @@ pub const MOVES: Word = Word::FileOption(
 
 pub const NEVER: Word = Word::WishOption(
     "never",
-    "Says whether statement N of unit U never has this status; status 4 if it has, in some order",
-);
-
-/// The same of a program's statement.
-pub const NEVER_IN_LINE: Word = Word::WishOption(
-    "never",
-    "Says whether the statement in line N of unit U never has this status, in any order",
+    "Says whether the statement in line LINE of unit U never has this status, in any order",
 );
 
 pub const NO_EXPLAIN: Word = Word::Flag(
@@ -240,7 +222,7 @@ pub const TRACE_UNITS: Word = Word::NumberOption(
 pub const UNITS: Word = Word::NumberOption("units", "2", "How many units there are, 1 to 8");
 
 // The placeholders for the two words of a wish.
-const WISH_WORDS: [&str; 2] = ["U.N", "STATUS"];
+const WISH_WORDS: [&str; 2] = ["U.LINE", "STATUS"];
 
 // An option without a value.
 fn flag<'a>(alloc: Global, name: &'a str, help: &'a str) -> Arg<'a>

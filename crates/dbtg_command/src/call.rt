@@ -38,8 +38,6 @@ pub struct Call<'a> {
     pub trace: bool,
     /// A picture is drawn as SVG.
     pub svg: bool,
-    /// Results are also told apart by the answers that units get.
-    pub answers: bool,
     /// Results are shown as what differs from the first.
     pub brief: bool,
     /// Only statuses are compared.
@@ -169,7 +167,7 @@ fn wish_said(
         alloc,
         named,
         ErrorKind::ValueValidation,
-        "no statement and status are named so: a unit, a period and a number are wanted, and a status of four digits, as 2.5 0803",
+        "no statement and status are named so: a unit, a period and a line are wanted, and a status of four digits, as 2.5 0803",
     )?)
 }
 
@@ -217,7 +215,6 @@ fn given_call<'a>(alloc: Global, named: Named, given: &ArgMatches<'a>) -> Result
         echo: given.get_flag("echo"),
         trace: given.get_flag("trace"),
         svg: given.get_flag("svg"),
-        answers: given.get_flag("answers"),
         brief: given.get_flag("brief"),
         statuses: given.get_flag("status"),
         programs: given.get_flag("programs"),

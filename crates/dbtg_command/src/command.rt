@@ -6,12 +6,11 @@ ghost use Rattle.dbtg_command.specs.Commands.{name_of, program, rules_for};
 ghost use Rattle.dbtg_command.specs.Inside.Commands.{IsApp, alone, rule_for, with_command};
 
 use crate::arguments::{
-    ALL_FAULTS, ALL_LINES, ALWAYS, ALWAYS_IN_LINE, ANSWERS, BRIEF, CAPACITY, CHECKED_SCRIPTS, ECHO,
-    EXPLAIN, EXPLAIN_ECHO, EXPLAIN_PICTURE, FIRST, FIRST_PROGRAM, LAST, LIMIT, MOVES, NEVER,
-    NEVER_IN_LINE, NO_EXPLAIN, ON_THREADS, PROGRAM_FILES, PROGRAMS, SAVE_TURNS, SCHEMA,
-    SCHEMA_ALONE, SCRIPTS, SCRIPTS_ON_THREADS, STATUS, SVG, TOPIC, TRACE, TRACE_FILE,
-    TRACE_OR_ECHO, TRACE_UNITS, TURNS, TURNS_BEFORE, TURNS_FILE, TURNS_OR_MOVES, UNITS, Word,
-    arg_of,
+    ALL_FAULTS, ALL_LINES, ALWAYS, BRIEF, CAPACITY, CHECKED_SCRIPTS, ECHO, EXPLAIN, EXPLAIN_ECHO,
+    EXPLAIN_PICTURE, FIRST, FIRST_PROGRAM, LAST, LIMIT, MOVES, NEVER, NO_EXPLAIN, ON_THREADS,
+    PROGRAM_FILES, PROGRAMS, SAVE_TURNS, SCHEMA, SCHEMA_ALONE, SCRIPTS, SCRIPTS_ON_THREADS, STATUS,
+    SVG, TOPIC, TRACE, TRACE_FILE, TRACE_OR_ECHO, TRACE_UNITS, TURNS, TURNS_BEFORE, TURNS_FILE,
+    TURNS_OR_MOVES, UNITS, Word, arg_of,
 };
 use clap::error::ErrorKind;
 use clap::{Command, Error};
@@ -166,22 +165,6 @@ fn page_command<'a>(alloc: Global, name: &'a str) -> Result<Command<'a>, AllocEr
     )
 }
 
-// The command `outcomes`, by the name that its usage shows.
-fn outcomes_command<'a>(alloc: Global, name: &'a str) -> Result<Command<'a>, AllocError>
-    ensures { IfOk result (IsApp (alone name.entry.now (rules_for Named.Outcomes))) }
-{
-    described(
-        alloc,
-        name,
-        "Runs scripts in every interleaving: lists each result, with an order that leads to it",
-        "Example: dbtg outcomes shop.schema unit1.script unit2.script\nWith a small --capacity it is several times as fast, and takes less memory",
-        &[
-            CAPACITY, FIRST, LIMIT, ANSWERS, BRIEF, NEVER, ALWAYS, EXPLAIN, NO_EXPLAIN, SCHEMA,
-            SCRIPTS,
-        ],
-    )
-}
-
 // The command `threads`, by the name that its usage shows.
 fn threads_command<'a>(alloc: Global, name: &'a str) -> Result<Command<'a>, AllocError>
     ensures { IfOk result (IsApp (alone name.entry.now (rules_for Named.Threads))) }
@@ -260,8 +243,8 @@ fn explore_command<'a>(alloc: Global, name: &'a str) -> Result<Command<'a>, Allo
     described(
         alloc,
         name,
-        "Runs programs in every interleaving: lists results, failed checks and endless loops",
-        "Example: dbtg explore --first load.program shop.schema clerk1.program clerk2.program\n'dbtg run --turns', with the same --first and --then, repeats the turns of a result. The exit status is 4 if a program can fail, they can run for ever or a wish is broken",
+        "Runs programs or scripts in every interleaving: lists results, failed checks and endless loops",
+        "Example: dbtg explore --first load.program shop.schema clerk1.program clerk2.program\n'dbtg run --turns', with the same --first and --then, repeats the turns of a result. The exit status is 4 if a program can fail, they can run for ever or a wish is broken\nWith a small --capacity it is faster, and takes less memory",
         &[
             CAPACITY,
             FIRST_PROGRAM,
@@ -269,8 +252,8 @@ fn explore_command<'a>(alloc: Global, name: &'a str) -> Result<Command<'a>, Allo
             LAST,
             LIMIT,
             BRIEF,
-            NEVER_IN_LINE,
-            ALWAYS_IN_LINE,
+            NEVER,
+            ALWAYS,
             EXPLAIN,
             NO_EXPLAIN,
             SCHEMA,
@@ -300,7 +283,6 @@ pub enum Named {
     Turns,
     Timeline,
     Page,
-    Outcomes,
     Threads,
     Run,
     Explore,
@@ -310,13 +292,12 @@ pub enum Named {
     Shell,
 }
 
-pub const ALL: [Named; 13] = [
+pub const ALL: [Named; 12] = [
     Named::Check,
     Named::Replay,
     Named::Turns,
     Named::Timeline,
     Named::Page,
-    Named::Outcomes,
     Named::Threads,
     Named::Run,
     Named::Explore,
@@ -336,7 +317,6 @@ pub fn name_of<'a>(named: Named) -> &'a str
         Named::Turns => "turns",
         Named::Timeline => "timeline",
         Named::Page => "page",
-        Named::Outcomes => "outcomes",
         Named::Threads => "threads",
         Named::Run => "run",
         Named::Explore => "explore",
@@ -355,7 +335,6 @@ fn shown_name<'a>(named: Named) -> &'a str {
         Named::Turns => "dbtg turns",
         Named::Timeline => "dbtg timeline",
         Named::Page => "dbtg page",
-        Named::Outcomes => "dbtg outcomes",
         Named::Threads => "dbtg threads",
         Named::Run => "dbtg run",
         Named::Explore => "dbtg explore",
@@ -375,7 +354,6 @@ fn command_of<'a>(alloc: Global, named: Named, name: &'a str) -> Result<Command<
         Named::Turns => turns_command(alloc, name),
         Named::Timeline => timeline_command(alloc, name),
         Named::Page => page_command(alloc, name),
-        Named::Outcomes => outcomes_command(alloc, name),
         Named::Threads => threads_command(alloc, name),
         Named::Run => run_command(alloc, name),
         Named::Explore => explore_command(alloc, name),

@@ -10,13 +10,13 @@ use dbtg_script::{SCRIPT_BYTES, behind, in_front};
 // The greatest status.
 const GREATEST_STATUS: u16 = 9_999;
 
-/// A wish for a statement, named by its unit and its place in the unit's script or its line in the unit's program, both from 1: that it
-/// never has this status, or always. A text has no more lines than bytes.
+/// A wish for a statement, named by its unit and its line in the unit's program, both from 1: that it never has this status, or always.
+/// A text has no more lines than bytes.
 #[derive(Clone, Copy)]
 pub struct Wished {
     pub never: bool,
     pub unit: u64,
-    pub place: u64,
+    pub line: u64,
     pub status: u16,
 }
 
@@ -32,20 +32,20 @@ fn status_in(word: &str) -> Option<u16>
     }
 }
 
-/// The wish that two words say: unit and place with a period between them, and a status.
-pub fn wish_of(never: bool, place: &str, status: &str) -> Option<Wished>
-    ensures wish { result ≡ wish_in never place.now status.now }
+/// The wish that two words say: unit and line with a period between them, and a status.
+pub fn wish_of(never: bool, statement: &str, status: &str) -> Option<Wished>
+    ensures wish { result ≡ wish_in never statement.now status.now }
     ensures within { IfSome result (λ wish. wish.unit ≤ MOST_UNITS) }
-    ensures few { IfSome result (λ wish. wish.place ≤ SCRIPT_BYTES) }
+    ensures few { IfSome result (λ wish. wish.line ≤ SCRIPT_BYTES) }
 {
-    let word = place.as_bytes();
+    let word = statement.as_bytes();
     let unit = count_in_digits(in_front(word, b'.'), MOST_UNITS as u64)?;
-    let place = count_in_digits(behind(word, b'.'), SCRIPT_BYTES as u64)?;
+    let line = count_in_digits(behind(word, b'.'), SCRIPT_BYTES as u64)?;
     let status = status_in(status)?;
     Some(Wished {
         never,
         unit,
-        place,
+        line,
         status,
     })
 }

@@ -30,7 +30,7 @@ use Rattle.dbtg_going.specs.Turns as turns
 use Rattle.dbtg_going.specs.Turns.{after_turns, comes, made, statement_due, statement_of}
 use Rattle.dbtg_states.specs.Inside.Spelling.{behind, value_apart}
 use Rattle.dbtg_states.specs.Spelling.{Apart, value_numbers}
-use Rattle.dbtg_states.specs.Users.{in_unit_order}
+use Rattle.dbtg_states.specs.Inside.UnitOrder.{in_unit_order}
 use Rattle.dbtg_states.proofs.States.SameImages.{image_alike}
 use Rattle.dbtg_explore.specs.Counted.{counted, counts, is_counter, reads, values_from}
 use Rattle.dbtg_explore.specs.Orders.{IsMeeting, Meeting, after_order, after_turn, beginning, due_of, history_of}

@@ -26,7 +26,8 @@ use Rattle.dbtg_step.specs.Machine.SequentialDatabase.{unit_at}
 use Rattle.dbtg_going.specs.Turns.{comes, statement_due}
 use Rattle.dbtg_states.specs.Numbers.{Numbers}
 use Rattle.dbtg_states.specs.Parts.{number_numbers, occurrence_numbers, record_numbers, shown_numbers, up_to_used}
-use Rattle.dbtg_states.specs.Spelling.{list_numbers, option_numbers, owner_numbers, unit_numbers, value_numbers}
+use Rattle.dbtg_states.specs.Spelling.{list_numbers, option_numbers, owner_numbers, value_numbers}
+use Rattle.dbtg_states.specs.Inside.SpelledUnits.{unit_numbers}
 use Rattle.dbtg_states.proofs.States.Numbers.{one_number_of, same_by_number}
 use Rattle.dbtg_states.proofs.States.SameImages.{uses_from}
 use Rattle.dbtg_states.proofs.States.SameParts.{cells_same, same_at_each, same_last, same_lists, same_records, same_users, unit_spelled}

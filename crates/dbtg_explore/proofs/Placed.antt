@@ -28,7 +28,7 @@ use Rattle.dbtg_going.specs.declared.member.Reached.{Reached}
 use Rattle.dbtg_going.specs.Texts.{programs_text}
 use Rattle.dbtg_script.specs.Printing.Texts.{run_text}
 use Rattle.dbtg_states.specs.Users.{by_unit}
-use Rattle.dbtg_states.specs.Spelling.{unit_numbers}
+use Rattle.dbtg_states.specs.Inside.SpelledUnits.{unit_numbers}
 use Rattle.dbtg_explore.specs.Orders.{IsMeeting, Meeting, after_turn, can_go_on, can_turn, due_of}
 use Rattle.dbtg_explore.specs.Results.{reached_of, state_text}
 use Rattle.dbtg_explore.specs.States.{comes_of_each, sequential_after, state_after, without_versions}

@@ -15,7 +15,7 @@ use Rattle.dbtg_program.specs.Going.{Due, due, ended}
 use Rattle.dbtg_step.specs.Machine.SequentialDatabase.{unit_at}
 use Rattle.dbtg_going.specs.Turns.{comes}
 use Rattle.dbtg_states.specs.Numbers.{Numbers}
-use Rattle.dbtg_states.specs.Spelling.{unit_numbers}
+use Rattle.dbtg_states.specs.Inside.SpelledUnits.{unit_numbers}
 use Rattle.dbtg_explore.specs.Orders.{Meeting, can_go_on, can_turn}
 use Rattle.dbtg_explore.specs.States.{sequential_after, state_after}
 use Rattle.dbtg_explore.specs.Versions.{unversioned, unversioned_unit}

@@ -8,7 +8,7 @@ ghost use Rattle.dbtg_explore.specs.Orders.{IsMeeting};
 ghost use Rattle.dbtg_explore.specs.States.{sequential_after};
 ghost use Rattle.dbtg_explore.specs.Versions.{unversioned, unversioned_unit};
 ghost use Rattle.dbtg_going.specs.Goings.{comes_of};
-ghost use Rattle.dbtg_states.specs.Spelling.{unit_numbers};
+ghost use Rattle.dbtg_states.specs.Inside.SpelledUnits.{unit_numbers};
 ghost use Rattle.dbtg_step.specs.Core.Whole.{state_now};
 ghost use Rattle.dbtg_step.specs.Machine.SequentialDatabase.{unit_at};
 ghost use Rattle.dbtg_unit.specs.Database.State.Legal.{Legal};

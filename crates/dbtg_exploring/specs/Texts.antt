@@ -60,7 +60,7 @@ told_of schema programs given =
     let lines = programs_text 1 programs given.programs in
     record {
       text = run_text schema [] image.records image.lists image.next (map (by_unit units) image.usage) given.run.units ++ lines;
-      named = named false units given.run ++ lines ∷ [];
+      named = named units given.run ++ lines ∷ [];
     }
 
 -- what is shown of a run of programs: all of it, or in brief what is shown after others

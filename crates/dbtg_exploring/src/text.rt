@@ -150,7 +150,7 @@ impl<'a> Setting<'a> {
         requires few { length self.now.programs.now ≤ LAST_UNIT }
         ensures { IfOk result (λ told. told ≡ told_of self.now.schema.now self.now.programs.now given.old) }
     {
-        let mut facts = named(alloc, false, self.programs.len() as u8, &given.run)?;
+        let mut facts = named(alloc, self.programs.len() as u8, &given.run)?;
         facts.push(Row::of(self.programs_fact(alloc, given.programs.as_slice())?))?;
         let (run, reached) = (&mut given.run, given.programs.as_slice());
         let text = told_text(alloc, self.schema, self.programs, run, reached)?;

@@ -1,6 +1,6 @@
 -- The names of records tell them apart; and the lists of sets, with those of one more set.
 -- s is the number of a set.
-use Rattle.std.proofs.Common.{◌≡◌, ℕ, ◌+◌, ◌<◌, Bool, List, [], ◌∷◌, ◌++◌, Option, Some, None, ◌∙◌, length, get_or, take, map, if◌then◌else◌, refl, sym, ap, arith, append-nil, append_assoc}
+use Rattle.std.proofs.Common.{◌≡◌, ℕ, ◌+◌, ◌<◌, List, [], ◌∷◌, ◌++◌, Option, Some, None, ◌∙◌, length, get_or, take, map, refl, sym, ap, arith, append-nil, append_assoc}
 use Rattle.std.specs.Prelude.{position}
 use Rattle.std.specs.List.{flat_map}
 use Rattle.std.proofs.lemmas.List.{length-take-le, take_more}
@@ -10,7 +10,7 @@ use Rattle.dbtg_cells.specs.declared.key.Owner.{Owner}
 use Rattle.dbtg_cells.specs.Keys.{key_eq}
 use Rattle.dbtg_cells.proofs.Public.{same_key}
 use Rattle.dbtg_step.specs.declared.results.Run.{Run}
-use Rattle.dbtg_states.specs.Named.{answers_fact, fact, image_facts, key_name, list_facts, name_at, named, owner_name, stored, unit_facts, usage_fact}
+use Rattle.dbtg_states.specs.Named.{fact, image_facts, key_name, list_facts, name_at, named, owner_name, stored, unit_facts, usage_fact}
 use Rattle.dbtg_states.specs.Spelling.{Apart, key_numbers, list_numbers, pair_numbers}
 use Rattle.dbtg_states.specs.Inside.Spelling.{key_apart}
 
@@ -63,17 +63,12 @@ module _ (keys : List DbKey) where
 
 -- ALL FACTS
 
--- four lists, one after another
-four_behind : {X : Type 0} (a b d : List X) (x : X) → ((a ++ b) ++ x ∷ []) ++ d ≡ a ++ (b ++ x ∷ d)
-four_behind a b d x = append_assoc (a ++ b) (x ∷ []) d ∙ append_assoc a b (x ∷ d)
-
 -- all facts of a run, kind by kind
-pub all_facts : (tells : Bool) (units : List ℕ) (run : Run) (keys : List DbKey) (answers with_units with_usage all : List (List ℕ))
-    → keys ≡ stored units run.history → answers ≡ (if tells then map (answers_fact keys run.history) units else []) → with_units ≡ answers ++ flat_map (unit_facts keys) run.units
-    → with_usage ≡ with_units ++ usage_fact units run.image.usage ∷ [] → all ≡ with_usage ++ image_facts keys run.image → all ≡ named tells units run
-all_facts tells units run keys answers with_units with_usage all k a u s e =
-    let told : List (List ℕ) = if tells then map (answers_fact keys run.history) units else [] in
+pub all_facts : (units : List ℕ) (run : Run) (keys : List DbKey) (with_units with_usage all : List (List ℕ))
+    → keys ≡ stored units run.history → with_units ≡ flat_map (unit_facts keys) run.units
+    → with_usage ≡ with_units ++ usage_fact units run.image.usage ∷ [] → all ≡ with_usage ++ image_facts keys run.image → all ≡ named units run
+all_facts units run keys with_units with_usage all k u s e =
     e
-    ∙ ap (λ l. l ++ image_facts keys run.image) (s ∙ ap (λ l. l ++ usage_fact units run.image.usage ∷ []) (u ∙ ap (λ l. l ++ flat_map (unit_facts keys) run.units) a))
-    ∙ four_behind told (flat_map (unit_facts keys) run.units) (image_facts keys run.image) (usage_fact units run.image.usage)
-    ∙ ap (λ (ks : List DbKey). (if tells then map (answers_fact ks run.history) units else []) ++ (flat_map (unit_facts ks) run.units ++ usage_fact units run.image.usage ∷ image_facts ks run.image)) k
+    ∙ ap (λ l. l ++ image_facts keys run.image) (s ∙ ap (λ l. l ++ usage_fact units run.image.usage ∷ []) u)
+    ∙ append_assoc (flat_map (unit_facts keys) run.units) (usage_fact units run.image.usage ∷ []) (image_facts keys run.image)
+    ∙ ap (λ (ks : List DbKey). flat_map (unit_facts ks) run.units ++ usage_fact units run.image.usage ∷ image_facts ks run.image) k

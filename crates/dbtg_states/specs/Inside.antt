@@ -2,5 +2,7 @@
 -- May use: the definitions beside this folder, which name nothing of it.
 pub mod InHand
 pub mod Items
+pub mod SpelledUnits
 pub mod Spelling
 pub mod Transitions
+pub mod UnitOrder

@@ -1,7 +1,7 @@
 -- What a run leaves behind, with each record named by its STORE in place of its number and generation.
 -- stored are the keys of all records that units stored; a fact is something that a run leaves behind, spelled as numbers: first its
 -- kind, then its unit or set, and then the thing; u is a unit.
-use Rattle.std.specs.Prelude.{ℕ, ◌+◌, Bool, List, [], ◌∷◌, ◌++◌, Option, Some, None, flat_map, if◌then◌else◌, map, option_to_list, position}
+use Rattle.std.specs.Prelude.{ℕ, ◌+◌, List, [], ◌∷◌, ◌++◌, Option, Some, None, flat_map, map, option_to_list, position}
 use Rattle.dbtg_cells.specs.declared.key.DbKey.{DbKey}
 use Rattle.dbtg_cells.specs.declared.key.Owner.{Owner}
 use Rattle.dbtg_cells.specs.declared.key.Owner.TheVariants.{System, Rec}
@@ -15,7 +15,6 @@ use Rattle.dbtg_unit.specs.declared.unit.Place.{Place}
 use Rattle.dbtg_unit.specs.declared.unit.Unit as unit
 use Rattle.dbtg_unit.specs.Database.Laws.Replay.{entries_of}
 use Rattle.dbtg_unit.specs.Database.State.Image.{Image}
-use Rattle.dbtg_unit.specs.Database.Statements.Codes.{status_code}
 use Rattle.dbtg_step.specs.declared.results.Run.{Run}
 use Rattle.dbtg_states.specs.Users.{by_unit}
 use Rattle.dbtg_states.specs.Spelling.{key_numbers, list_numbers, mode_numbers, one_number, option_numbers, pair_numbers, value_numbers}
@@ -53,19 +52,10 @@ currency_name stored c =
     option_numbers (key_name stored) c.run_unit ++ (list_numbers (option_numbers (key_name stored)) c.types
     ++ (list_numbers (option_numbers (key_name stored)) c.areas ++ list_numbers (option_numbers (place_name stored)) c.sets))
 
--- the status, the key and the items of an answer
-abbrev pub answer_name : List DbKey → Entry → List ℕ
-answer_name stored e =
-    status_code e.statement e.answer.status ∷ (option_numbers (key_name stored) e.answer.key ++ option_numbers (list_numbers value_numbers) e.answer.items)
-
 -- FACTS
 
 abbrev pub fact : ℕ → ℕ → List ℕ → List ℕ
 fact kind of numbers = kind ∷ of ∷ numbers
-
--- the answers of a unit, one after another
-abbrev pub answers_fact : List DbKey → List Entry → ℕ → List ℕ
-answers_fact stored history u = fact 0 u (flat_map (answer_name stored) (entries_of u history))
 
 -- the currents of a unit, and each record that it keeps, with the version
 abbrev pub unit_facts : List DbKey → unit.Unit → List (List ℕ)
@@ -86,10 +76,8 @@ usage_fact units usage = fact 4 0 (list_numbers (list_numbers (pair_numbers one_
 abbrev pub image_facts : List DbKey → Image → List (List ℕ)
 image_facts stored image = map (λ r. fact 5 0 (pair_numbers (key_name stored) (list_numbers value_numbers) r)) image.records ++ list_facts stored 0 image.lists
 
--- all that these units leave behind in a run: their answers if they tell results apart, their currents and what they keep, and what is
--- in the database
-abbrev pub named : Bool → List ℕ → Run → List (List ℕ)
-named tells units run =
+-- all that these units leave behind in a run: their currents and what they keep, and what is in the database
+abbrev pub named : List ℕ → Run → List (List ℕ)
+named units run =
     let keys = stored units run.history in
-    (if tells then map (answers_fact keys run.history) units else [])
-    ++ (flat_map (unit_facts keys) run.units ++ usage_fact units run.image.usage ∷ image_facts keys run.image)
+    flat_map (unit_facts keys) run.units ++ usage_fact units run.image.usage ∷ image_facts keys run.image

@@ -7,10 +7,6 @@ use Rattle.dbtg_cells.specs.declared.key.Value.{Value}
 use Rattle.dbtg_cells.specs.declared.key.Value.TheVariants.{Num, Text}
 use Rattle.dbtg_cells.specs.declared.usage.Mode.{Mode}
 use Rattle.dbtg_cells.specs.declared.usage.Mode.TheVariants as mode
-use Rattle.dbtg_unit.specs.declared.unit.Place.{Place}
-use Rattle.dbtg_unit.specs.declared.unit.Currency.{Currency}
-use Rattle.dbtg_unit.specs.declared.unit.Unit as unit
-use Rattle.dbtg_unit.specs.Database.State.Image.{Image}
 
 -- whatever is spelled after two things: if all is spelled alike, the things are equal, and so is what follows them
 abbrev pub Apart : {X : Type 0} → (X → List ℕ) → Type 0
@@ -55,44 +51,7 @@ mode_number mode.ExclusiveUpdate = 5
 abbrev pub mode_numbers : Mode → List ℕ
 mode_numbers m = mode_number m ∷ []
 
--- for a current of a set its owner, and where it is
-abbrev pub place_numbers : Place → List ℕ
-place_numbers p = owner_numbers p.owner ++ option_numbers key_numbers p.at
-
 -- a 0 comes before a number, a 1 before a text
 abbrev pub value_numbers : Value → List ℕ
 value_numbers (Num n) = 0 ∷ n ∷ []
 value_numbers (Text t) = 1 ∷ list_numbers one_number t
-
--- for kept records each key, with the version
-abbrev pub kept_numbers : List (DbKey × ℕ) → List ℕ
-kept_numbers = list_numbers (pair_numbers key_numbers one_number)
-
--- for the currents those of the run-unit, of the record types, of the areas and of the sets
-abbrev pub currency_numbers : Currency → List ℕ
-currency_numbers c =
-    option_numbers key_numbers c.run_unit ++ (list_numbers (option_numbers key_numbers) c.types
-    ++ (list_numbers (option_numbers key_numbers) c.areas ++ list_numbers (option_numbers place_numbers) c.sets))
-
--- for a unit its number, its currents, its usage modes and what it keeps
-abbrev pub unit_numbers : unit.Unit → List ℕ
-unit_numbers u =
-    one_number u.number ++ (currency_numbers u.currency ++ (list_numbers (option_numbers mode_numbers) u.modes ++ kept_numbers u.kept))
-
--- records, versions and lists
-abbrev pub stored_numbers : Image → List ℕ
-stored_numbers i =
-    list_numbers (pair_numbers key_numbers (list_numbers value_numbers)) i.records
-    ++ (list_numbers (pair_numbers key_numbers one_number) i.versions
-    ++ list_numbers (list_numbers (pair_numbers owner_numbers (list_numbers key_numbers))) i.lists)
-
--- free numbers, generations and usage
-abbrev pub noted_numbers : Image → List ℕ
-noted_numbers i =
-    list_numbers one_number i.next
-    ++ (list_numbers (list_numbers one_number) i.last
-    ++ list_numbers (list_numbers (pair_numbers one_number mode_numbers)) i.usage)
-
--- all of an image
-abbrev pub image_numbers : Image → List ℕ
-image_numbers i = stored_numbers i ++ noted_numbers i

@@ -1,15 +1,14 @@
 //! What a run leaves behind as facts, in which records are named by their STOREs.
-ghost use Rattle.std.specs.Prelude.{◌≡◌, ◌≤◌, ◌++◌, ◌∷◌, [], IfOk, OnOk, flat_map, if◌then◌else◌, length, map};
+ghost use Rattle.std.specs.Prelude.{◌≡◌, ◌++◌, ◌∷◌, [], IfOk, OnOk, flat_map, map};
 ghost use Rattle.std.specs.List.{range_with_len};
-ghost use Rattle.dbtg_unit.specs.Database.Laws.Replay.{entries_of};
-ghost use Rattle.dbtg_states.specs.Named.{answer_name, answers_fact, fact, image_facts, list_facts, named, unit_facts, usage_fact};
+ghost use Rattle.dbtg_states.specs.Named.{fact, image_facts, list_facts, named, unit_facts, usage_fact};
 
 use crate::names::{Named, stored};
 use crate::users::usage_by_unit;
 use dbtg_cells::{DbKey, Owner};
 use dbtg_schema::Row;
 use dbtg_step::Run;
-use dbtg_unit::{Entry, Image, Unit};
+use dbtg_unit::{Image, Unit};
 use std::alloc::{AllocError, Global};
 
 // The kind of a fact, and its unit or set.
@@ -58,62 +57,6 @@ fn push_each<T: Named>(
         push_fact(alloc, facts, stored, head, thing)?;
     }
     Ok(())
-}
-
-// The answers of a unit, one after another.
-fn name_answers(
-    numbers: &mut Vec<u64>,
-    stored: &[DbKey],
-    history: &[Entry],
-    unit: u8,
-) -> Result<(), AllocError>
-    ensures { OnOk result (numbers.new.items ≡ numbers.old.items ++ flat_map (answer_name stored.now) (entries_of unit history.now)) }
-{
-    for entry in history {
-        if entry.unit == unit {
-            entry.name(stored, numbers)?;
-        }
-    }
-    Ok(())
-}
-
-fn push_answers_of(
-    alloc: Global,
-    facts: &mut Row<Row<u64>>,
-    stored: &[DbKey],
-    history: &[Entry],
-    unit: u8,
-) -> Result<(), AllocError>
-    ensures { OnOk result (facts.new ≡ facts.old ++ answers_fact stored.now history.now unit ∷ []) }
-{
-    let head = Head {
-        kind: 0,
-        of: unit as u64,
-    };
-    let mut numbers = begin_fact(alloc, head)?;
-    name_answers(&mut numbers, stored, history, unit)?;
-    facts.push(Row::of(numbers))?;
-    Ok(())
-}
-
-// The answers of each unit, if they tell results apart.
-fn answers_facts(
-    alloc: Global,
-    tells: bool,
-    stored: &[DbKey],
-    history: &[Entry],
-    units: u8,
-) -> Result<Row<Row<u64>>, AllocError>
-    ensures { IfOk result (λ facts. facts ≡ (if tells then map (answers_fact stored.now history.now) (range_with_len 1 units) else [])) }
-{
-    let mut facts = Row::of(Vec::new(alloc));
-    if !tells {
-        return Ok(facts);
-    }
-    for before in 0..units {
-        push_answers_of(alloc, &mut facts, stored, history, before + 1)?;
-    }
-    Ok(facts)
 }
 
 // The currents of a unit, and each record that it keeps.
@@ -200,14 +143,14 @@ fn push_image(
     push_lists(alloc, facts, stored, image.lists.as_slice())
 }
 
-/// What these units leave behind in a run, with their answers if these tell results apart.
-pub fn named(alloc: Global, tells: bool, units: u8, run: &Run) -> Result<Row<Row<u64>>, AllocError>
-    ensures { IfOk result (λ facts. facts ≡ named tells (range_with_len 1 units) run.now) }
+/// What these units leave behind in a run.
+pub fn named(alloc: Global, units: u8, run: &Run) -> Result<Row<Row<u64>>, AllocError>
+    ensures { IfOk result (λ facts. facts ≡ named (range_with_len 1 units) run.now) }
 {
     let history = run.history.as_slice();
     let keys = stored(alloc, history, units)?;
     let stored = keys.as_slice();
-    let mut facts = answers_facts(alloc, tells, stored, history, units)?;
+    let mut facts = Row::of(Vec::new(alloc));
     push_each_unit(alloc, &mut facts, stored, run.units.as_slice())?;
     push_usage(alloc, &mut facts, &run.image, units)?;
     push_image(alloc, &mut facts, stored, &run.image)?;

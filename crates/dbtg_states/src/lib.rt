@@ -25,9 +25,9 @@ pub use laws::{
     names_tell_records_apart, order_of_opening_is_no_state, what_is_looked_at_determines,
 };
 pub use looks::Places;
-pub use numbers::{Numbers, USUAL_LENGTH};
+pub use numbers::Numbers;
 pub use spelled::{Spelled, as_numbers, spell_list};
 pub use stop::Stop;
 pub use transitions::{Look, Passage, Transition, Transitions};
 pub use users::usage_by_unit;
-pub use watch::{Unwatched, Watch};
+pub use watch::Watch;

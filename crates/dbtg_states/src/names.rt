@@ -5,7 +5,7 @@ ghost use Rattle.std.specs.List.{range_with_len};
 ghost use Rattle.dbtg_cells.specs.declared.key.DbKey.{DbKey as GivenKey};
 ghost use Rattle.dbtg_cells.specs.Keys.{key_eq};
 ghost use Rattle.dbtg_unit.specs.Database.Laws.Replay.{entries_of};
-ghost use Rattle.dbtg_states.specs.Named.{answer_name, currency_name, key_name, owner_name, place_name, stored, stored_by};
+ghost use Rattle.dbtg_states.specs.Named.{currency_name, key_name, owner_name, place_name, stored, stored_by};
 ghost use Rattle.dbtg_states.specs.Spelling.{list_numbers, mode_numbers, one_number, option_numbers, pair_numbers, value_numbers};
 
 use crate::spelled::Spelled;
@@ -204,15 +204,5 @@ impl Named for Currency {
         self.types.name(stored, out)?;
         self.areas.name(stored, out)?;
         self.sets.name(stored, out)
-    }
-}
-
-impl Named for Entry {
-    ghost named = { answer_name };
-
-    fn name(&self, stored: &[DbKey], out: &mut Vec<u64>) -> Result<(), AllocError> {
-        out.push(self.answer.status.code(&self.statement) as u64)?;
-        self.answer.key.name(stored, out)?;
-        self.answer.items.name(stored, out)
     }
 }

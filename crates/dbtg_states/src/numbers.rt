@@ -16,8 +16,8 @@ use dbtg_step::WholeDatabase;
 use std::alloc::{AllocError, Global};
 use std::marker::Model;
 
-/// Room for what a part usually says; a longer content takes more.
-pub const USUAL_LENGTH: usize = 64;
+// Room for what a part usually says; a longer content takes more.
+const USUAL_LENGTH: usize = 64;
 
 /// What parts of states say, each kept once, and an array of their numbers for each state.
 pub struct Numbers {

@@ -1,5 +1,6 @@
 //! The parts of a database and of its units, spelled as numbers.
-ghost use Rattle.dbtg_states.specs.Spelling.{currency_numbers, kept_numbers, key_numbers, mode_numbers, option_numbers, owner_numbers, place_numbers, unit_numbers, value_numbers};
+ghost use Rattle.dbtg_states.specs.Spelling.{key_numbers, mode_numbers, option_numbers, owner_numbers, value_numbers};
+ghost use Rattle.dbtg_states.specs.Inside.SpelledUnits.{currency_numbers, kept_numbers, place_numbers, unit_numbers};
 ghost use Rattle.dbtg_states.specs.Inside.Spelling.{currency_apart, kept_apart, key_apart, mode_apart, option_apart, owner_apart, place_apart, unit_apart, value_apart};
 
 use crate::spelled::{Spelled, spell_list};

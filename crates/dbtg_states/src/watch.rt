@@ -4,10 +4,3 @@
 pub trait Watch {
     fn seen(&self, states: usize);
 }
-
-/// Nobody is told.
-pub struct Unwatched;
-
-impl Watch for Unwatched {
-    fn seen(&self, _states: usize) {}
-}

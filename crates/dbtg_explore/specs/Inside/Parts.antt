@@ -8,7 +8,7 @@ use Rattle.dbtg_unit.specs.Database.State.Cells.{cell}
 use Rattle.dbtg_step.specs.Machine.SequentialDatabase.{unit_at}
 use Rattle.dbtg_states.specs.Numbers.{Numbers, NumbersState}
 use Rattle.dbtg_states.specs.Parts.{Parts, shown_numbers}
-use Rattle.dbtg_states.specs.Spelling.{unit_numbers}
+use Rattle.dbtg_states.specs.Inside.SpelledUnits.{unit_numbers}
 use Rattle.dbtg_explore.specs.Orders.{Meeting, can_go_on, history_of}
 use Rattle.dbtg_explore.specs.States.{sequential_after, state_after}
 use Rattle.dbtg_explore.specs.Versions.{unversioned, unversioned_database}

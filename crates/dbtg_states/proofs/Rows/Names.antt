@@ -68,7 +68,7 @@ run_with n k next = record {
 
 -- the facts of such a run
 abbrev facts : Run → List (List ℕ)
-facts run = named true (1 ∷ 2 ∷ []) run
+facts run = named (1 ∷ 2 ∷ []) run
 
 -- exchanged numbers, and which number is free, make no difference
 numbers_exchanged : same_facts (facts (run_with 1 2 3)) (facts (run_with 2 1 4)) ≡ true

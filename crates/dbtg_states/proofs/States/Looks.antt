@@ -1,41 +1,17 @@
 -- Looks that are found in an array.
 -- l is a look, n the number of an array.
-use Rattle.std.proofs.Common.{◌≡◌, refl, sym, ◌∙◌, ap, subst, ℕ, true, List, [], ◌∷◌, ◌++◌, Option, Some, None, ⊎_elim, slice_get}
-use Rattle.std.specs.Prelude.{◌==◌, ◌-◌, All, OnOk, Result, map, slice_set}
+use Rattle.std.proofs.Common.{◌≡◌, refl, sym, ◌∙◌, ap, subst, ℕ, List, [], ◌∷◌, ◌++◌, Some, slice_get}
+use Rattle.std.specs.Prelude.{◌-◌, All, OnOk, Result, map, slice_set}
 use Rattle.std.proofs.lemmas.List.{map-append}
 use Rattle.std.proofs.lemmas.List.Elements.{All-append, All-cons, All-nil}
-use Rattle.std.specs.List.{list_all}
-use Rattle.std.proofs.lemmas.Bool.{and_parts, eqb-true, false≢true}
 use Rattle.dbtg_schema.specs.Lists.{Lists}
-use Rattle.dbtg_schema.specs.Lookups.{some_and}
 use Rattle.dbtg_interned.specs.Arrays.{elements, with_each}
-use Rattle.dbtg_unit.proofs.Public.{In}
 use Rattle.dbtg_cells.specs.declared.name.CellName.{CellName}
 use Rattle.dbtg_states.specs.declared.transitions.Look.{Look}
 use Rattle.dbtg_states.specs.declared.transitions.Passage.{Passage}
 use Rattle.dbtg_states.specs.declared.transitions.Transition.{Transition}
 use Rattle.dbtg_states.specs.Numbers.{Numbers}
-use Rattle.dbtg_states.specs.Transitions.{AddsPassage, AreLooks, HasBefore, cell_place, has_at, written}
-use Rattle.dbtg_states.proofs.States.Places.{each_of}
-
--- FOUND
-
-found : (e : Option ℕ) (k : ℕ) → some_and (λ j. j == k) e ≡ true → e ≡ Some k
-found None k h = absurd (false≢true h)
-found (Some j) k h = ap Some (eqb-true j k h)
-
-each_found : (kept : Numbers) (n : ℕ) (looks : List Look) → list_all (λ l. has_at kept n l.place l.before) looks ≡ true → (l : Look) → In l looks → slice_get (elements kept.arrays n) l.place ≡ Some l.before
-each_found kept n [] h l i = absurd i
-each_found kept n (k ∷ looks) h l i =
-    let both = and_parts (has_at kept n k.place k.before) (list_all (λ l. has_at kept n l.place l.before) looks) h in
-    ⊎_elim
-    (λ is. subst (λ (x : Look). slice_get (elements kept.arrays n) x.place ≡ Some x.before) is (found (slice_get (elements kept.arrays n) k.place) k.before both.0))
-    (λ j. each_found kept n looks both.1 l j)
-    i
-
--- what was found is what there was before
-pub all_found : (kept : Numbers) (n : ℕ) (looks : List Look) → list_all (λ l. has_at kept n l.place l.before) looks ≡ true → HasBefore kept n looks
-all_found kept n looks h = each_of (λ l. slice_get (elements kept.arrays n) l.place ≡ Some l.before) looks (each_found kept n looks h)
+use Rattle.dbtg_states.specs.Transitions.{AddsPassage, AreLooks, cell_place, written}
 
 -- PUT
 

@@ -3,7 +3,7 @@
 use Rattle.std.proofs.Common.{◌≡◌, refl, sym, ◌∙◌, ap, subst, ℕ, zero, suc, ◌+◌, ◌-◌, ◌<◌, ◌≤◌, Bool, true, false, List, [], ◌∷◌, drop, length, Option, Some, None, inl, inr, ⊎_elim, arith, slice_get, slice_set, replicate}
 use Rattle.std.specs.Prelude.{◌≢◌, is_some, option_and_then}
 use Rattle.std.specs.List.{list_all}
-use Rattle.std.proofs.lemmas.Bool.{and_from, cases_Bool, cases_eq, cases_lt, false≢true, true≢false}
+use Rattle.std.proofs.lemmas.Bool.{and_from, cases_Bool, cases_lt, false≢true, true≢false}
 use Rattle.std.proofs.lemmas.Option.{same_Some, slice_get_within}
 use Rattle.dbtg_schema.specs.Lists.{Lists}
 use Rattle.dbtg_schema.proofs.Public.{some_is}
@@ -220,32 +220,6 @@ module _ (p : Parts) (old new : Numbers) where
         cells_are = λ d l at free. other_content old new array units (p.unit (suc units)) n put (p.count + l) (λ e. omega (arith, few, e)) (p.cell d) (h.cells_are d l at free);
         zeros = λ i past low. put.others i (λ e. omega (arith, past, few, e)) ∙ h.zeros i past (subst (λ l. i < l) size_is low);
       }
-
--- THE NEXT STATE
-
--- the state of q comes after that of p: only unit u and the cells that are named say anything else
-pub record Follows (p : Parts) (unit : ℕ → List ℕ) (cell : CellName → List ℕ) (u : ℕ) (names : List CellName) : Type 0 where
-  pub there : (0 < u) × (u ≤ p.count)
-  pub units : (v : ℕ) → 0 < v → v ≢ u → unit v ≡ p.unit v
-  pub cells : (c : CellName) → is_named names c ≡ false → cell c ≡ p.cell c
-
-pub next_but_cells : (p : Parts) (unit : ℕ → List ℕ) (cell : CellName → List ℕ) (old new : Numbers) (u : ℕ) (names : List CellName) (array n : ℕ) → Follows p unit cell u names → NumbersState p old array → HasPut old new array (u - 1) (unit u) n
-    → IsNumberBut (with_parts p unit cell) new p.count names n
-next_but_cells p unit cell old new u names array n follows h put =
-    let size_is = stays_size old.arrays new.arrays put.keeps.arrays in
-    let numbered = follows.there.0 in
-    let within = follows.there.1 in
-    record {
-      kept_once = put.kept_once;
-      room = subst (λ l. p.count + cell_count p.schema p.capacity ≤ l) (sym size_is) h.room;
-      is_array = put.is_array;
-      units_are = λ v low high. elim (cases_eq v u) [
-        | inl same ↦ subst (λ w. content_at new n (w - 1) ≡ Some (unit w)) (sym same) put.at
-        | inr other ↦ other_content old new array (u - 1) (unit u) n put (v - 1) (λ e. other (omega (arith, low, numbered, e))) (unit v) (h.units_are v low high ∙ ap Some (sym (follows.units v low other)))
-      ];
-      cells_are = λ d l at free. other_content old new array (u - 1) (unit u) n put (p.count + l) (λ e. omega (arith, numbered, within, e)) (cell d) (h.cells_are d l at refl ∙ ap Some (sym (follows.cells d free)));
-      zeros = λ i past low. put.others i (λ e. omega (arith, past, numbered, within, e)) ∙ h.zeros i past (subst (λ l. i < l) size_is low);
-    }
 
 -- WHAT IS KEPT
 

@@ -24,20 +24,13 @@ use Rattle.dbtg_unit.specs.Database.Laws.Replay.{State}
 use Rattle.dbtg_unit.proofs.Public.{extent_in, firsts_pairs, ring_in, slot_in}
 use Rattle.dbtg_states.specs.Alike.{unordered}
 use Rattle.dbtg_states.specs.Users.{by_unit}
-use Rattle.dbtg_states.specs.Spelling.{unit_numbers}
+use Rattle.dbtg_states.specs.Inside.SpelledUnits.{unit_numbers}
 use Rattle.dbtg_states.specs.Parts.{shown_numbers}
 use Rattle.dbtg_states.specs.Inside.Spelling.{behind, unit_apart}
 use Rattle.dbtg_states.proofs.States.SameImages.{list_same}
 use Rattle.dbtg_states.proofs.States.ShownParts.{last_shown, same_by_unit, same_shown, user_numbers}
 
 -- UNITS
-
--- lists are the same part by part
-pub cons_parts : {X : Type 0} (x y : X) (xs ys : List X) → x ∷ xs ≡ y ∷ ys → (x ≡ y) × (xs ≡ ys)
-cons_parts x y xs ys e =
-    let head : x ≡ y = cc in
-    let tail : xs ≡ ys = cc in
-    (head, tail)
 
 pub unit_spelled : (x y : Option Unit) (a b : List ℕ) → is_some x ≡ true → is_some y ≡ true → flat_map unit_numbers (option_to_list x) ++ a ≡ flat_map unit_numbers (option_to_list y) ++ b → (x ≡ y) × (a ≡ b)
 unit_spelled None y a b h g e = absurd (cc)

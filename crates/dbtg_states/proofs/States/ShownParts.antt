@@ -187,10 +187,3 @@ last_shown schema capacity db t (suc i) low high =
 pub unchanged_shown : (versions : Bool) (schema : Lists) (capacity units : ℕ) (names : List CellName) (before after : Database) → OnlyChanged schema capacity names before after → (c : CellName) → is_named names c ≡ false
     → shown_numbers versions units (cell schema capacity after c) ≡ shown_numbers versions units (cell schema capacity before c)
 unchanged_shown versions schema capacity units names before after only c free = ap (shown_numbers versions units) (only.cells c free)
-
--- a number, what is spelled behind it, and the rest
-pub spelled_behind : (old one two three x y r : List ℕ) (n : ℕ) → one ≡ old ++ n ∷ [] → two ≡ one ++ x → three ≡ two ++ r → x ≡ y → three ≡ old ++ (n ∷ y ++ r)
-spelled_behind old one two three x y r n e f g same =
-    g ∙ ap (λ l. l ++ r) (f ∙ ap (λ l. l ++ x) e)
-    ∙ append_assoc (old ++ n ∷ []) x r ∙ append_assoc old (n ∷ []) (x ++ r)
-    ∙ ap (λ l. old ++ (n ∷ l ++ r)) same

@@ -5,7 +5,8 @@ use Rattle.dbtg_cells.specs.declared.key.Owner.TheVariants.{System, Rec}
 use Rattle.dbtg_cells.specs.declared.key.Value.TheVariants.{Num, Text}
 use Rattle.dbtg_cells.specs.declared.usage.Mode.{Mode}
 use Rattle.dbtg_cells.specs.declared.usage.Mode.TheVariants as mode
-use Rattle.dbtg_states.specs.Spelling.{Apart, currency_numbers, image_numbers, kept_numbers, key_numbers, list_numbers, mode_number, mode_numbers, noted_numbers, one_number, option_numbers, owner_numbers, pair_numbers, place_numbers, stored_numbers, unit_numbers, value_numbers}
+use Rattle.dbtg_states.specs.Spelling.{Apart, key_numbers, list_numbers, mode_number, mode_numbers, one_number, option_numbers, owner_numbers, pair_numbers, value_numbers}
+use Rattle.dbtg_states.specs.Inside.SpelledUnits.{currency_numbers, kept_numbers, place_numbers, unit_numbers}
 
 pub one_apart : Apart one_number
 one_apart x y a b e = (cc, cc)
@@ -115,23 +116,3 @@ unit_apart x y a b e =
     let three = behind (list_numbers (option_numbers mode_numbers)) (list_apart (option_numbers mode_numbers) (option_apart mode_numbers mode_apart)) x.modes y.modes _ _ a b two.1 in
     let four = kept_apart x.kept y.kept a b three.1 in
     (λ i. record { number = one.0 i; currency = two.0 i; modes = three.0 i; kept = four.0 i }, four.1)
-
-record_apart : Apart (pair_numbers key_numbers (list_numbers value_numbers))
-record_apart = pair_apart key_numbers (list_numbers value_numbers) key_apart (list_apart value_numbers value_apart)
-
-occurrence_apart : Apart (pair_numbers owner_numbers (list_numbers key_numbers))
-occurrence_apart = pair_apart owner_numbers (list_numbers key_numbers) owner_apart (list_apart key_numbers key_apart)
-
-user_apart : Apart (pair_numbers one_number mode_numbers)
-user_apart = pair_apart one_number mode_numbers one_apart mode_apart
-
-pub image_apart : Apart image_numbers
-image_apart x y a b e =
-    let all : stored_numbers x ++ (noted_numbers x ++ a) ≡ stored_numbers y ++ (noted_numbers y ++ b) = sym (append_assoc (stored_numbers x) (noted_numbers x) a) ∙ e ∙ append_assoc (stored_numbers y) (noted_numbers y) b in
-    let one = behind (list_numbers (pair_numbers key_numbers (list_numbers value_numbers))) (list_apart (pair_numbers key_numbers (list_numbers value_numbers)) record_apart) x.records y.records _ _ (noted_numbers x ++ a) (noted_numbers y ++ b) all in
-    let two = behind (list_numbers (pair_numbers key_numbers one_number)) kept_apart x.versions y.versions _ _ (noted_numbers x ++ a) (noted_numbers y ++ b) one.1 in
-    let three = list_apart (list_numbers (pair_numbers owner_numbers (list_numbers key_numbers))) (list_apart (pair_numbers owner_numbers (list_numbers key_numbers)) occurrence_apart) x.lists y.lists (noted_numbers x ++ a) (noted_numbers y ++ b) two.1 in
-    let four = behind (list_numbers one_number) (list_apart one_number one_apart) x.next y.next (list_numbers (list_numbers one_number) x.last ++ list_numbers (list_numbers (pair_numbers one_number mode_numbers)) x.usage) (list_numbers (list_numbers one_number) y.last ++ list_numbers (list_numbers (pair_numbers one_number mode_numbers)) y.usage) a b three.1 in
-    let five = behind (list_numbers (list_numbers one_number)) (list_apart (list_numbers one_number) (list_apart one_number one_apart)) x.last y.last (list_numbers (list_numbers (pair_numbers one_number mode_numbers)) x.usage) (list_numbers (list_numbers (pair_numbers one_number mode_numbers)) y.usage) a b four.1 in
-    let six = list_apart (list_numbers (pair_numbers one_number mode_numbers)) (list_apart (pair_numbers one_number mode_numbers) user_apart) x.usage y.usage a b five.1 in
-    (λ i. record { records = one.0 i; versions = two.0 i; lists = three.0 i; next = four.0 i; last = five.0 i; usage = six.0 i }, six.1)

@@ -1,7 +1,7 @@
 use Rattle.std.proofs.Common.{◌∙◌, ◌++◌, ap, sym, append-nil}
 use Rattle.std.specs.Prelude.{flat_map, option_map, option_to_list}
 use Rattle.std.proofs.lemmas.Result.{on_ok_weaker}
-use Rattle.dbtg_states.specs.Spelling.{unit_numbers}
+use Rattle.dbtg_states.specs.Inside.SpelledUnits.{unit_numbers}
 use Rattle.dbtg_step.proofs.Public.{map_at}
 use Rattle.dbtg_step.specs.Core.Whole.{state_now}
 use Rattle.dbtg_explore.specs.Versions.{unversioned_unit}

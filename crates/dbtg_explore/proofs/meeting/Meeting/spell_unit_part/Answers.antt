@@ -8,7 +8,7 @@ use Rattle.dbtg_step.specs.Machine.SequentialDatabase.{unit_at}
 use Rattle.dbtg_step.specs.Core.Whole.{Making, state_now}
 use Rattle.dbtg_going.specs.declared.member.Going.{Going}
 use Rattle.dbtg_going.specs.Goings.{comes_of}
-use Rattle.dbtg_states.specs.Spelling.{unit_numbers}
+use Rattle.dbtg_states.specs.Inside.SpelledUnits.{unit_numbers}
 use Rattle.dbtg_explore.specs.Inside.Keys.{due_numbers, items_read, items_read_by}
 use Rattle.dbtg_explore.specs.Inside.Parts.{kept_count}
 use Rattle.dbtg_explore.specs.Orders.{can_go_on}

@@ -1,7 +1,0 @@
-use Rattle.std.proofs.Common.{take}
-use Rattle.dbtg_outcomes.specs.Orders.{count_statements}
-use Rattle.dbtg_outcomes.specs.Inside.Steps.{Advances}
-use Rattle.dbtg_outcomes.proofs.search.Search.pass.Given as goal
-
-abbrev pub invariant-loop-script : goal.invariant-loop-script
-invariant-loop-script g l = Advances l.meeting (count_statements (take l.script-index l.scripts)) l.initial.self l.self
