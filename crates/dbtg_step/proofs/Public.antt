@@ -140,8 +140,6 @@ pub use Rattle.dbtg_step.proofs.MadeWhole.Bares.{continues_on}
 pub use Rattle.dbtg_step.proofs.MadeWhole.SerialShown.{serial_led}
 -- where all entries fit, they do with one more that fits
 pub use Rattle.dbtg_step.proofs.MadeWhole.Audits.{fits_more}
--- a history of the sequential database shows by itself that it may be one
-pub use Rattle.dbtg_step.proofs.MadeWhole.Audits.{shows_so}
 -- what a test decides, where it passes
 pub use Rattle.dbtg_step.proofs.MadeWhole.Audits.{match_true}
 -- entries with the same tickets, statements and answers are the same

@@ -1,5 +1,5 @@
 //! What the events change in a run-unit.
-ghost use Rattle.std.specs.Prelude.{◌≡◌, ◌<◌, ◌+◌, Some, None, true, false, length, is_some, map, nat_lt, slice_get, IfOk};
+ghost use Rattle.std.specs.Prelude.{◌≡◌, ℕ, ◌<◌, ◌+◌, ◌∷◌, [], ◌++◌, OnOk, OnErr, Some, None, true, false, length, is_some, map, nat_lt, slice_get, IfOk};
 ghost use Rattle.dbtg_step.specs.Machine.Network.{is_delete};
 ghost use Rattle.dbtg_step.specs.Inside.Parts.{progress_while_held};
 ghost use Rattle.dbtg_step.specs.Inside.Stands.{HasStatement, IsStanding};
@@ -143,6 +143,17 @@ pub fn units_of(alloc: Global, runners: Vec<UnitState>) -> Result<Row<Unit>, All
     let mut units = Vec::with_capacity(alloc, runners.len())?;
     for runner in runners {
         units.push(unit_of(runner))?;
+    }
+    Ok(Row::of(units))
+}
+
+/// Copies of the units, in their order.
+pub fn copy_units(alloc: Global, runners: &[UnitState]) -> Result<Row<Unit>, AllocError>
+    ensures { IfOk result (λ units. units ≡ map (λ r. r.unit) runners.now) }
+{
+    let mut units = Vec::with_capacity(alloc, runners.len())?;
+    for runner in runners {
+        units.push(runner.unit.copy(alloc)?)?;
     }
     Ok(Row::of(units))
 }
