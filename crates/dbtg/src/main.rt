@@ -1,480 +1,255 @@
-//! The program: reads the command's words and the files that they name, and prints the result.
+//! The program: reads the command's words and the files that they name, and writes what the command comes to.
 #![tactic(auto)]
 
-ghost use Rattle.std.specs.Prelude.{◌≡◌, ◌+◌, IfErr, length, true};
-ghost use Rattle.std.specs.Process.{exit_status};
+ghost use Rattle.std.specs.Prelude.{◌≡◌, ◌+◌, length, true};
 ghost use Rattle.dbtg_schema.specs.Sound.{IsSound};
 ghost use Rattle.dbtg_audit.specs.Reported.{loading_units};
-ghost use Rattle.dbtg_command.specs.Refusals.{is_count, status_of};
+ghost use Rattle.dbtg_command.specs.Refusals.{is_count};
 
+mod ended;
+mod options;
 mod progress;
 mod replay;
 mod timeline;
+mod writing;
 
-use clap::error::ErrorKind;
-use dbtg_audit::{AuditOptions, Verdict, audit};
+use dbtg_audit::{Verdict, audit};
 use dbtg_command::check::check;
 use dbtg_command::draw::draw;
-use dbtg_command::reason::reason;
 use dbtg_command::{
     Call, Fault, Files, Named, Order, Paths, Source, Wished, call_of, each_fault, read_schema,
-    status_of,
 };
-use dbtg_explain::{Topic, explained, status_topic};
-use dbtg_explore::Wish;
-use dbtg_exploring::{Exploring, Said, explore_programs};
-use dbtg_going::Around;
-use dbtg_replay::replay::{AnswerForm, check_count, replay};
+use dbtg_explain::{explained, status_topic};
+use dbtg_exploring::{Said, explore_programs};
+use dbtg_replay::replay::{check_count, replay};
 use dbtg_replay::{moves_for_turns, refusals_of_first};
 use dbtg_running::{
-    Printed, PrintedOnThreads, PrintedScripts, RunOptions, check_programs, run,
-    run_programs_on_threads, run_scripts_on_threads,
+    PrintedOnThreads, PrintedScripts, check_programs, run, run_programs_on_threads,
+    run_scripts_on_threads,
 };
 use dbtg_schema::Schema;
 use dbtg_session::Session;
-use dbtg_shell::{Broken, converse, write_file};
-use dbtg_unit::LAST_UNIT;
+use dbtg_shell::{Broken, converse};
+use ended::{Ended, Status};
+use options::{
+    answer_form, audit_options, explains_refusals, exploring, picture_form, run_options,
+};
 use progress::Progress;
 use std::alloc::{AllocError, Global};
-use std::env;
-use std::io::{self, IsTerminal, Write};
 use std::process::ExitCode;
 use std::sync::Wait;
 use std::thread::Threads;
-use timeline::{Form, timeline};
-
-/// The exit status if a program ended by ASSERT, SIZE or ASTRAY, or can end by one, if programs can go on for ever, or if some order breaks a wish.
-const PROGRAM_FAILED: u8 = 4;
-
-/// The exit status of a program whose reader has gone away: the one with which a shell reports that SIGPIPE ended it.
-const READER_GONE: u8 = 141;
-
-/// The exit status of a fault of the command's words.
-const WRONG_WORDS: u8 = 2;
-
-fn told(rt: &HostRuntime, fault: &Fault) -> ExitCode
-    ensures { exit_status result ≡ status_of fault.now }
-{
-    let _ = eprintln!(rt; "{fault}");
-    ExitCode::from(status_of(fault))
-}
-
-// The text, and this status if it could be written.
-fn print_text(rt: &HostRuntime, text: &[u8], status: ExitCode) -> ExitCode {
-    let mut out = io::writer(rt);
-    match out.write_all(text) {
-        Ok(()) => status,
-        Err(error) => not_written(rt, &error),
-    }
-}
-
-// A reader such as `head` may have read enough and gone away. That is no fault, and nothing is printed.
-fn not_written(rt: &HostRuntime, error: &io::Error) -> ExitCode {
-    if error.kind() == io::ErrorKind::BrokenPipe {
-        return ExitCode::from(READER_GONE);
-    }
-    let _ = eprintln!(rt; "cannot write to standard output");
-    ExitCode::FAILURE
-}
-
-// Does a fault have a second line? On a terminal it has one without being asked, and in the shell always.
-fn explains_faults(rt: &HostRuntime, call: &Call) -> bool {
-    let unasked = matches!(call.named, Named::Shell) || rt.stderr().is_terminal();
-    !call.no_explain && (call.explains || unasked)
-}
-
-// The text that a command prints, or its fault; a second line says where and why, if it is wanted.
-fn print_or_tell(
-    rt: &HostRuntime,
-    given: Result<Vec<u8>, Fault>,
-    paths: &Paths,
-    call: &Call,
-) -> ExitCode
-    ensures { IfErr given (λ fault. exit_status result ≡ status_of fault) }
-{
-    match given {
-        Ok(text) => print_text(rt, text.as_slice(), ExitCode::SUCCESS),
-        Err(fault) => told_of(rt, &fault, paths, call),
-    }
-}
-
-fn told_of(rt: &HostRuntime, fault: &Fault, paths: &Paths, call: &Call) -> ExitCode
-    ensures { exit_status result ≡ status_of fault.now }
-{
-    let status = told(rt, fault);
-    if explains_faults(rt, call) {
-        let files = Files { reader: rt, paths };
-        if let Ok(Some(line)) = reason(rt.alloc(), &files, fault) {
-            let _ = eprintln!(rt; "{line}");
-        }
-    }
-    status
-}
-
-fn form_of(call: &Call) -> Form {
-    let explained = explains_refusals(call);
-    if call.svg {
-        Form::Svg { explained }
-    } else {
-        Form::Text { explained }
-    }
-}
-
-// Are refusals explained? What goes to standard output is the same on a terminal.
-fn explains_refusals(call: &Call) -> bool {
-    call.explains && !call.no_explain
-}
-
-fn answer_form(call: &Call) -> AnswerForm {
-    if call.trace {
-        AnswerForm::Trace
-    } else if call.echo && explains_refusals(call) {
-        AnswerForm::Explained(call.capacity)
-    } else if call.echo {
-        AnswerForm::Echo
-    } else {
-        AnswerForm::Plain
-    }
-}
-
-// What a command that reads files prints, whatever gives their order.
-fn printed(rt: &HostRuntime, files: &Files<HostRuntime>, call: &Call) -> Result<Vec<u8>, Fault> {
-    let alloc = rt.alloc();
-    match call.named {
-        Named::Draw => draw(alloc, files),
-        Named::Replay => replay(alloc, files, call.capacity, answer_form(call), call.first),
-        Named::Timeline => timeline(alloc, files, call.capacity, form_of(call), call.first),
-        Named::Page => timeline(alloc, files, call.capacity, Form::Page, call.first),
-        _ => check_files(alloc, files, call.programs),
-    }
-}
+use std::{env, io};
+use timeline::timeline;
+use writing::{tell_arguments, tell_fault, tell_unwritten, tell_words, write_ended};
 
 // What `check` prints of programs, or of scripts.
-fn check_files(
-    alloc: Global,
-    files: &Files<HostRuntime>,
-    programs: bool,
-) -> Result<Vec<u8>, Fault> {
-    if programs {
-        check_programs(alloc, files)
+fn checked(alloc: Global, files: &Files<HostRuntime>, call: &Call) -> Result<Ended, Fault> {
+    let text = if call.programs {
+        check_programs(alloc, files)?
     } else {
-        check(alloc, files)
-    }
+        check(alloc, files)?
+    };
+    Ok(Ended::of_text(alloc, text))
 }
 
-// The first fault of each file that has one; if none has one, what `check` prints.
-fn tell_each(rt: &HostRuntime, files: &Files<HostRuntime>, call: &Call) -> ExitCode {
-    match each_fault(rt.alloc(), files, call.programs) {
-        Ok(faults) => {
-            if faults.is_empty() {
-                let given = check_files(rt.alloc(), files, call.programs);
-                return print_or_tell(rt, given, files.paths, call);
-            }
-            for fault in faults.as_slice() {
-                told_of(rt, fault, files.paths, call);
-            }
-            ExitCode::FAILURE
-        }
-        Err(fault) => told(rt, &fault),
+// The first fault of each file that has one is told; if none has one, what `check` prints.
+fn checked_each(rt: &HostRuntime, files: &Files<HostRuntime>, call: &Call) -> Result<Ended, Fault> {
+    let alloc = rt.alloc();
+    let faults = each_fault(alloc, files, call.programs)?;
+    if faults.is_empty() {
+        return checked(alloc, files, call);
     }
-}
-
-fn print_files(rt: &HostRuntime, files: &Files<HostRuntime>, call: &Call) -> ExitCode {
-    if call.all {
-        return tell_each(rt, files, call);
+    for fault in faults.as_slice() {
+        tell_fault(rt, files, call, fault);
     }
-    let given = printed(rt, files, call);
-    print_run(rt, given, files, call)
-}
-
-// The text of a run, or its fault; beside it, which statements of the script that is made first were refused.
-fn print_run(
-    rt: &HostRuntime,
-    given: Result<Vec<u8>, Fault>,
-    files: &Files<HostRuntime>,
-    call: &Call,
-) -> ExitCode {
-    match given {
-        Ok(text) => match tell_refusals(rt, files, call) {
-            Ok(()) => print_text(rt, text.as_slice(), ExitCode::SUCCESS),
-            Err(fault) => told(rt, &fault),
-        },
-        Err(fault) => told_of(rt, &fault, files.paths, call),
-    }
+    Ok(Ended::told(alloc, Vec::new(alloc), Status::Refused))
 }
 
 // Does a run begin with a script that can be read again? Standard input cannot.
 fn begins_with_file(call: &Call) -> bool {
-    let runs = matches!(
-        call.named,
-        Named::Audit | Named::Page | Named::Replay | Named::Threads | Named::Timeline
-    );
-    runs && call.first && call.schema != "-" && call.scripts.last().is_some_and(|path| *path != "-")
+    call.first && call.schema != "-" && call.scripts.last().is_some_and(|path| *path != "-")
 }
 
-// Which statements of the script that is made first were refused. Nothing is printed if memory is wanting, which is a fault; nor if the
-// files have changed since the run, which is no fault.
-fn tell_refusals(rt: &HostRuntime, files: &Files<HostRuntime>, call: &Call) -> Result<(), Fault> {
+// Which statements of the script that is made first were refused. Nothing is told if the files have changed since the run, which is no
+// fault.
+fn told_of_first(
+    alloc: Global,
+    files: &Files<HostRuntime>,
+    call: &Call,
+) -> Result<Vec<u8>, AllocError> {
     if !begins_with_file(call) {
-        return Ok(());
+        return Ok(Vec::new(alloc));
     }
-    match refusals_of_first(rt.alloc(), files, call.capacity) {
-        Ok(told) => Ok(tell_text(rt, told.as_slice())?),
-        Err(Fault::Memory) => Err(Fault::Memory),
-        Err(_) => Ok(()),
+    match refusals_of_first(alloc, files, call.capacity) {
+        Ok(told) => Ok(told),
+        Err(Fault::Memory) => Err(AllocError),
+        Err(_) => Ok(Vec::new(alloc)),
     }
 }
 
-fn print_threads<R: Threads + Wait + Sync>(
-    rt: &HostRuntime,
-    threads: &R,
+// The text of a run of scripts; beside it, which statements of the script that is made first were refused.
+fn of_run(
+    alloc: Global,
     files: &Files<HostRuntime>,
     call: &Call,
-) -> ExitCode {
+    text: Vec<u8>,
+) -> Result<Ended, Fault> {
+    let mut ended = Ended::of_text(alloc, text);
+    ended.told = told_of_first(alloc, files, call)?;
+    Ok(ended)
+}
+
+fn replayed(alloc: Global, files: &Files<HostRuntime>, call: &Call) -> Result<Ended, Fault> {
+    let text = replay(alloc, files, call.capacity, answer_form(call), call.first)?;
+    of_run(alloc, files, call, text)
+}
+
+fn pictured(alloc: Global, files: &Files<HostRuntime>, call: &Call) -> Result<Ended, Fault> {
+    let text = timeline(alloc, files, call.capacity, picture_form(call), call.first)?;
+    of_run(alloc, files, call, text)
+}
+
+fn run_on_threads<R: Threads + Wait + Sync>(
+    threads: &R,
+    alloc: Global,
+    files: &Files<HostRuntime>,
+    call: &Call,
+) -> Result<Ended, Fault> {
     let form = answer_form(call);
-    match run_scripts_on_threads(threads, rt.alloc(), files, call.capacity, form, call.first) {
-        Ok(said) => match tell_refusals(rt, files, call) {
-            Ok(()) => print_saved(rt, &said, call.saved),
-            Err(fault) => told(rt, &fault),
-        },
-        Err(fault) => told_of(rt, &fault, files.paths, call),
-    }
+    let PrintedScripts { printed, turns } = run_scripts_on_threads(
+        threads,
+        alloc,
+        files,
+        call.capacity,
+        form,
+        call.first,
+    )?;
+    let mut ended = of_run(alloc, files, call, printed)?;
+    ended.turns = Some(turns);
+    Ok(ended)
 }
 
-// Writes turns into their file, if one is named; false if that fails, which is reported.
-fn are_saved(rt: &HostRuntime, turns: &[u8], saved: Option<&str>) -> bool {
-    if let Some(path) = saved {
-        if write_file(rt, path, turns).is_err() {
-            let _ = eprintln!(rt; "cannot write {path}");
-            return false;
-        }
-    }
-    true
-}
-
-// The turns, and then what is printed.
-fn print_saved(rt: &HostRuntime, said: &PrintedScripts, saved: Option<&str>) -> ExitCode {
-    if are_saved(rt, said.turns.as_slice(), saved) {
-        print_text(rt, said.printed.as_slice(), ExitCode::SUCCESS)
-    } else {
-        ExitCode::FAILURE
-    }
-}
-
-// Which programs run before and after all others.
-fn around_of(call: &Call) -> Around {
-    Around {
-        first: call.first,
-        last: call.last,
-    }
-}
-
-fn run_options(call: &Call) -> RunOptions {
-    RunOptions {
-        capacity: call.capacity,
-        around: around_of(call),
-        form: answer_form(call),
-    }
-}
-
-fn print_programs<R: Threads + Wait + Sync>(
-    rt: &HostRuntime,
+// Where nothing is printed of programs on threads, there are no turns to go by.
+fn run_programs<R: Threads + Wait + Sync>(
     threads: &R,
+    alloc: Global,
     files: &Files<HostRuntime>,
     call: &Call,
-) -> ExitCode {
+) -> Result<Ended, Fault> {
     let options = run_options(call);
     if !call.threads {
-        return print_said(rt, run(rt.alloc(), files, options), files.paths, call);
+        return Ok(Ended::of_programs(run(alloc, files, options)?));
     }
-    match run_programs_on_threads(threads, rt.alloc(), files, options) {
-        Ok(said) => print_programs_saved(rt, &said, call.saved),
-        Err(fault) => told_of(rt, &fault, files.paths, call),
+    let PrintedOnThreads { printed, turns } = run_programs_on_threads(
+        threads, alloc, files, options,
+    )?;
+    let mut ended = Ended::of_programs(printed);
+    if !ended.text.is_empty() {
+        ended.turns = Some(turns);
     }
+    Ok(ended)
 }
 
-// The turns of programs on threads, and then what is printed. Where nothing is printed, there are no turns to go by.
-fn print_programs_saved(
-    rt: &HostRuntime,
-    said: &PrintedOnThreads,
-    saved: Option<&str>,
-) -> ExitCode {
-    let printed = &said.printed;
-    if printed.text.is_empty() || are_saved(rt, said.turns.as_slice(), saved) {
-        print_programs_text(rt, printed)
-    } else {
-        ExitCode::FAILURE
-    }
-}
-
-fn tell_explored(rt: &HostRuntime, files: &Files<HostRuntime>, call: &Call) -> ExitCode {
-    let asked = Exploring {
-        capacity: call.capacity,
-        around: around_of(call),
-        brief: call.brief,
-        limit: call.limit,
-        wish: call.wish.map(wish_of),
-    };
-    let progress = Progress::begin(rt);
-    let said = explore_programs(rt.alloc(), &progress, files, asked);
-    progress.end();
-    match said {
-        Ok(Said::Listed(printed)) => print_programs_text(rt, &printed),
-        Ok(Said::NoStatement) => tell_unwished(rt, call, &[]),
-        Ok(Said::NoStatus(codes)) => tell_unwished(rt, call, codes.as_slice()),
-        Err(fault) => told_of(rt, &fault, files.paths, call),
-    }
-}
-
-fn wish_of(wished: Wished) -> Wish {
-    Wish {
-        unit: wished.unit.min(LAST_UNIT as u64) as u8,
-        line: wished.line,
-        status: wished.status,
-        never: wished.never,
-    }
-}
-
-// A wish that names no statement, or a status that its statement never has: then these are the ones that it can have.
-fn tell_unwished(rt: &HostRuntime, call: &Call, codes: &[u8]) -> ExitCode {
-    let Some(wished) = call.wish else {
-        return ExitCode::from(WRONG_WORDS);
-    };
-    if codes.is_empty() {
-        return no_statement(rt, wished);
-    }
-    match String::from_utf8_lossy(rt.alloc(), codes) {
-        Ok(codes) => no_status(rt, wished, &codes),
-        Err(_) => told(rt, &Fault::Memory),
-    }
-}
-
-fn no_status(rt: &HostRuntime, wished: Wished, codes: &str) -> ExitCode {
+// What is told of a wish for a statement that is not there, or for a status that its statement never has: with those that it can have.
+fn told_of_wish(alloc: Global, wished: Wished, codes: &[u8]) -> Result<String, AllocError> {
     let Wished {
         unit,
         line,
         status,
         ..
     } = wished;
-    let _ = eprintln!(rt; "no status {status:04} of {unit}.{line}: {codes}");
-    ExitCode::from(WRONG_WORDS)
+    if codes.is_empty() {
+        return format!(in alloc; "no statement {unit}.{line}\n");
+    }
+    let codes = String::from_utf8_lossy(alloc, codes)?;
+    format!(in alloc; "no status {status:04} of {unit}.{line}: {codes}\n")
 }
 
-// What a command prints of programs, or its fault.
-fn print_said(
-    rt: &HostRuntime,
-    said: Result<Printed, Fault>,
-    paths: &Paths,
-    call: &Call,
-) -> ExitCode {
-    match said {
-        Ok(said) => print_programs_text(rt, &said),
-        Err(fault) => told_of(rt, &fault, paths, call),
+// A wish that cannot be judged.
+fn of_wish(alloc: Global, call: &Call, codes: &[u8]) -> Result<Ended, Fault> {
+    let told = match call.wish {
+        Some(wished) => told_of_wish(alloc, wished, codes)?.into_bytes(),
+        None => Vec::new(alloc),
+    };
+    Ok(Ended::told(alloc, told, Status::WrongWords))
+}
+
+fn explored(rt: &HostRuntime, files: &Files<HostRuntime>, call: &Call) -> Result<Ended, Fault> {
+    let progress = Progress::begin(rt);
+    let said = explore_programs(rt.alloc(), &progress, files, exploring(call));
+    progress.end();
+    match said? {
+        Said::Listed(printed) => Ok(Ended::of_programs(printed)),
+        Said::NoStatement => of_wish(rt.alloc(), call, &[]),
+        Said::NoStatus(codes) => of_wish(rt.alloc(), call, codes.as_slice()),
     }
 }
 
-// What is told of the first program, and then the text.
-fn print_programs_text(rt: &HostRuntime, said: &Printed) -> ExitCode {
-    match tell_text(rt, said.beside.as_slice()) {
-        Ok(()) => print_text(rt, said.text.as_slice(), status_of_programs(said)),
-        Err(_) => told(rt, &Fault::Memory),
-    }
-}
-
-fn status_of_programs(said: &Printed) -> ExitCode {
-    if said.failed {
-        ExitCode::from(PROGRAM_FAILED)
-    } else {
-        ExitCode::SUCCESS
-    }
-}
-
-fn print_turns(rt: &HostRuntime, call: &Call) -> ExitCode {
+// The moves for which turns stand. The command has turns in each call.
+fn moves_of_turns(alloc: Global, files: &Files<HostRuntime>, call: &Call) -> Result<Ended, Fault> {
     let turns = match call.order {
         Order::Turns(path) => path,
         _ => "",
     };
     let paths = paths_of(call, Order::Turns(turns));
     let files = Files {
-        reader: rt,
+        reader: files.reader,
         paths: &paths,
     };
-    let given = moves_for_turns(rt.alloc(), &files, call.capacity);
-    print_or_tell(rt, given, &paths, call)
+    let text = moves_for_turns(alloc, &files, call.capacity)?;
+    Ok(Ended::of_text(alloc, text))
 }
 
-fn print_audit(rt: &HostRuntime, files: &Files<HostRuntime>, call: &Call) -> ExitCode {
+fn audited(alloc: Global, files: &Files<HostRuntime>, call: &Call) -> Result<Ended, Fault> {
     let loading_units = if 2 <= files.count() { 1 } else { 0 };
-    match check_count(call.units as usize + loading_units) {
-        Ok(()) => audit_files(rt, files, call),
-        Err(fault) => told(rt, &fault),
-    }
-}
-
-fn audit_files(rt: &HostRuntime, files: &Files<HostRuntime>, call: &Call) -> ExitCode
-    requires { is_count (call.now.units + loading_units (length files.now.paths.now.scripts.now)) ≡ true }
-{
-    let options = AuditOptions {
-        capacity: call.capacity,
-        units: call.units as u8,
-        statuses: call.statuses,
-        all: call.all,
-    };
-    match audit(rt.alloc(), files, options) {
-        Ok(said) => match tell_refusals(rt, files, call) {
-            Ok(()) => print_verdict(rt, &said, explains_refusals(call)),
-            Err(fault) => told(rt, &fault),
-        },
-        Err(fault) => told_of(rt, &fault, files.paths, call),
-    }
-}
-
-fn print_verdict(rt: &HostRuntime, said: &Verdict, explains: bool) -> ExitCode {
-    match said {
-        Verdict::Equal(text) => print_text(rt, text.as_slice(), ExitCode::SUCCESS),
-        Verdict::Differs { told, status } => {
-            tell_difference(rt, told.as_slice(), *status, explains)
+    check_count(call.units as usize + loading_units)?;
+    let verdict = audit(alloc, files, audit_options(call))?;
+    let mut told = told_of_first(alloc, files, call)?;
+    match verdict {
+        Verdict::Equal(text) => {
+            let mut ended = Ended::of_text(alloc, text);
+            ended.told = told;
+            Ok(ended)
         }
-        Verdict::Listed(told) => tell_lines(rt, told.as_slice()),
-    }
-}
-
-fn tell_text(rt: &HostRuntime, text: &[u8]) -> Result<(), AllocError> {
-    let lines = String::from_utf8_lossy(rt.alloc(), text)?;
-    let _ = eprint!(rt; "{lines}");
-    Ok(())
-}
-
-// The line of a trace that differs; with `--explain` what its status means.
-fn tell_difference(rt: &HostRuntime, line: &[u8], status: u16, explains: bool) -> ExitCode {
-    let ended = tell_lines(rt, line);
-    if explains {
-        tell_status(rt, status);
-    }
-    ended
-}
-
-// The lines of a trace that differ.
-fn tell_lines(rt: &HostRuntime, lines: &[u8]) -> ExitCode {
-    match tell_text(rt, lines) {
-        Ok(()) => ExitCode::FAILURE,
-        Err(_) => told(rt, &Fault::Memory),
+        Verdict::Differs { told: line, status } => {
+            told.extend_from_slice(line.as_slice())?;
+            if explains_refusals(call) {
+                push_meaning(alloc, &mut told, status)?;
+            }
+            Ok(Ended::told(alloc, told, Status::Refused))
+        }
+        Verdict::Listed(lines) => {
+            told.extend_from_slice(lines.as_slice())?;
+            Ok(Ended::told(alloc, told, Status::Refused))
+        }
     }
 }
 
 // What `explain` says of a status.
-fn tell_status(rt: &HostRuntime, status: u16) {
-    if let Some(topic) = status_topic(status) {
-        if let Ok(text) = explained(rt.alloc(), &topic) {
-            let _ = tell_text(rt, text.as_slice());
-        }
+fn push_meaning(alloc: Global, told: &mut Vec<u8>, status: u16) -> Result<(), AllocError> {
+    match status_topic(status) {
+        Some(topic) => told.extend_from_slice(explained(alloc, &topic)?.as_slice()),
+        None => Ok(()),
     }
 }
 
-fn no_statement(rt: &HostRuntime, wished: Wished) -> ExitCode {
-    let (unit, line) = (wished.unit, wished.line);
-    let _ = eprintln!(rt; "no statement {unit}.{line}");
-    ExitCode::from(WRONG_WORDS)
+// A dialogue in the shell, which writes as it goes on.
+fn conversed(rt: &HostRuntime, files: &Files<HostRuntime>, call: &Call) -> Result<Ended, Fault> {
+    let alloc = rt.alloc();
+    let known = read_schema(alloc, files)?;
+    check_count(call.units as usize)?;
+    let session = Session::opening(alloc, &known, call.capacity, call.units as u8)?;
+    let (told, status) = match converse(rt, session, call) {
+        Ok(()) => (Vec::new(alloc), Status::Done),
+        Err(Broken::Memory) => return Err(Fault::Memory),
+        Err(Broken::NotWritten(error)) => (Vec::new(alloc), tell_unwritten(rt, &error)),
+        Err(Broken::NotRead) => {
+            let told = Vec::from_slice(alloc, b"cannot read standard input\n")?;
+            (told, Status::Refused)
+        }
+    };
+    Ok(Ended::told(alloc, told, status))
 }
 
 // What a call names, with this order.
@@ -488,92 +263,40 @@ fn paths_of<'a>(call: &'a Call<'a>, order: Order<&'a str>) -> Paths<'a>
     }
 }
 
-// Turns have an order of their own; all else takes the files in the order that is given.
-fn carry_out<R: Threads + Wait + Sync>(rt: &HostRuntime, threads: &R, call: &Call) -> ExitCode {
+// What a command comes to.
+fn come_to<R: Threads + Wait + Sync>(
+    rt: &HostRuntime,
+    threads: &R,
+    files: &Files<HostRuntime>,
+    call: &Call,
+) -> Result<Ended, Fault> {
+    let alloc = rt.alloc();
+    match call.named {
+        Named::Audit => audited(alloc, files, call),
+        Named::Check if call.all => checked_each(rt, files, call),
+        Named::Check => checked(alloc, files, call),
+        Named::Draw => Ok(Ended::of_text(alloc, draw(alloc, files)?)),
+        Named::Explain => Ok(Ended::of_text(alloc, explained(alloc, &call.topic)?)),
+        Named::Explore => explored(rt, files, call),
+        Named::Page | Named::Timeline => pictured(alloc, files, call),
+        Named::Replay => replayed(alloc, files, call),
+        Named::Run => run_programs(threads, alloc, files, call),
+        Named::Shell => conversed(rt, files, call),
+        Named::Threads => run_on_threads(threads, alloc, files, call),
+        Named::Turns => moves_of_turns(alloc, files, call),
+    }
+}
+
+// What the command comes to is written, or its fault is told.
+fn carry_out<R: Threads + Wait + Sync>(rt: &HostRuntime, threads: &R, call: &Call) -> Status {
     let paths = paths_of(call, call.order);
     let files = Files {
         reader: rt,
         paths: &paths,
     };
-    match call.named {
-        Named::Turns => print_turns(rt, call),
-        Named::Threads => print_threads(rt, threads, &files, call),
-        Named::Run => print_programs(rt, threads, &files, call),
-        Named::Explore => tell_explored(rt, &files, call),
-        Named::Audit => print_audit(rt, &files, call),
-        Named::Explain => print_topic(rt, &call.topic),
-        Named::Shell => open_shell(rt, &files, call),
-        _ => print_files(rt, &files, call),
-    }
-}
-
-// A fault of the schema is printed with its word.
-fn open_shell(rt: &HostRuntime, files: &Files<HostRuntime>, call: &Call) -> ExitCode {
-    match read_schema(rt.alloc(), files) {
-        Ok(known) => { open_units(rt, &known, call) }
-        Err(fault) => told_of(rt, &fault, files.paths, call),
-    }
-}
-
-fn open_units(rt: &HostRuntime, known: &Schema, call: &Call) -> ExitCode
-    requires { IsSound known.now }
-{
-    match check_count(call.units as usize) {
-        Ok(()) => open_session(rt, known, call),
-        Err(fault) => told(rt, &fault),
-    }
-}
-
-fn open_session(rt: &HostRuntime, known: &Schema, call: &Call) -> ExitCode
-    requires sound { IsSound known.now }
-    requires counted { is_count call.now.units ≡ true }
-{
-    match Session::opening(rt.alloc(), known, call.capacity, call.units as u8) {
-        Ok(session) => end_of(rt, converse(rt, session, call)),
-        Err(_) => told(rt, &Fault::Memory),
-    }
-}
-
-fn end_of(rt: &HostRuntime, ended: Result<(), Broken>) -> ExitCode {
-    match ended {
-        Ok(()) => ExitCode::SUCCESS,
-        Err(Broken::NotWritten(error)) => not_written(rt, &error),
-        Err(Broken::Memory) => told(rt, &Fault::Memory),
-        Err(Broken::NotRead) => {
-            let _ = eprintln!(rt; "cannot read standard input");
-            ExitCode::FAILURE
-        }
-    }
-}
-
-fn print_topic(rt: &HostRuntime, topic: &Topic) -> ExitCode {
-    match explained(rt.alloc(), topic) {
-        Ok(text) => print_text(rt, text.as_slice(), ExitCode::SUCCESS),
-        Err(_) => told(rt, &Fault::Memory),
-    }
-}
-
-// Arguments that are not text, or a refusal of memory.
-fn without_words(rt: &HostRuntime, error: &io::Error) -> ExitCode {
-    if error.kind() == io::ErrorKind::OutOfMemory {
-        return told(rt, &Fault::Memory);
-    }
-    let _ = eprintln!(rt; "the command's words are not text in UTF-8");
-    ExitCode::from(2)
-}
-
-// Help and version go to standard output, with status 0; other words are refused, with status 2.
-fn without_call(rt: &HostRuntime, error: &clap::Error) -> ExitCode {
-    if error.kind() == ErrorKind::OutOfMemory {
-        return told(rt, &Fault::Memory);
-    }
-    let printed = error.print(rt);
-    if error.exit_code() != 0 {
-        return ExitCode::from(2);
-    }
-    match printed {
-        Ok(()) => ExitCode::SUCCESS,
-        Err(error) => not_written(rt, &error),
+    match come_to(rt, threads, &files, call) {
+        Ok(ended) => write_ended(rt, &ended, call.saved),
+        Err(fault) => tell_fault(rt, &files, call, &fault),
     }
 }
 
@@ -588,10 +311,11 @@ fn words_of(rt: &HostRuntime) -> io::Result<Vec<String>> {
 fn main(rt: HostRuntime) -> ExitCode {
     let words = match words_of(&rt) {
         Ok(words) => words,
-        Err(error) => return without_words(&rt, &error),
+        Err(error) => return tell_arguments(&rt, &error).exit_code(),
     };
-    match call_of(rt.alloc(), words.as_slice()) {
+    let status = match call_of(rt.alloc(), words.as_slice()) {
         Ok(call) => carry_out(&rt, &rt, &call),
-        Err(error) => without_call(&rt, &error),
-    }
+        Err(error) => tell_words(&rt, &error),
+    };
+    status.exit_code()
 }

@@ -1,0 +1,100 @@
+//! What each command is handed of a call.
+
+ghost use Rattle.std.specs.Prelude.{◌≡◌, ◌&&◌, not};
+ghost use Rattle.dbtg.specs.Options.{answer_form, around, explains_refusals, picture_form};
+
+use crate::timeline::Form;
+use dbtg_audit::AuditOptions;
+use dbtg_command::{Call, Named, Wished};
+use dbtg_explore::Wish;
+use dbtg_exploring::Exploring;
+use dbtg_going::Around;
+use dbtg_replay::replay::AnswerForm;
+use dbtg_running::RunOptions;
+use dbtg_unit::LAST_UNIT;
+
+/// Are refusals explained? What goes to standard output is the same on a terminal.
+pub fn explains_refusals(call: &Call) -> bool
+    ensures { result ≡ explains_refusals call.now }
+{
+    call.explains && !call.no_explain
+}
+
+/// How a picture is drawn.
+pub fn picture_form(call: &Call) -> Form
+    ensures { result ≡ picture_form call.now }
+{
+    let explained = explains_refusals(call);
+    match call.named {
+        Named::Page => Form::Page,
+        _ if call.svg => Form::Svg { explained },
+        _ => Form::Text { explained },
+    }
+}
+
+/// How answers are printed.
+pub fn answer_form(call: &Call) -> AnswerForm
+    ensures { result ≡ answer_form call.now }
+{
+    if call.trace {
+        AnswerForm::Trace
+    } else if call.echo && explains_refusals(call) {
+        AnswerForm::Explained(call.capacity)
+    } else if call.echo {
+        AnswerForm::Echo
+    } else {
+        AnswerForm::Plain
+    }
+}
+
+// Which programs run before and after all others.
+fn around(call: &Call) -> Around
+    ensures { result ≡ around call.now }
+{
+    Around {
+        first: call.first,
+        last: call.last,
+    }
+}
+
+/// What `run` is asked for.
+pub fn run_options(call: &Call) -> RunOptions
+    ensures { result ≡ record { capacity = call.now.capacity; around = around call.now; form = answer_form call.now } }
+{
+    RunOptions {
+        capacity: call.capacity,
+        around: around(call),
+        form: answer_form(call),
+    }
+}
+
+// A wish, as `explore` takes it. A unit past the last is as one that is not there.
+fn wish_of(wished: Wished) -> Wish {
+    Wish {
+        unit: wished.unit.min(LAST_UNIT as u64) as u8,
+        line: wished.line,
+        status: wished.status,
+        never: wished.never,
+    }
+}
+
+/// What `explore` is asked for.
+pub fn exploring(call: &Call) -> Exploring {
+    Exploring {
+        capacity: call.capacity,
+        around: around(call),
+        brief: call.brief,
+        limit: call.limit,
+        wish: call.wish.map(wish_of),
+    }
+}
+
+/// What `audit` is asked for. There are at most 8 units.
+pub fn audit_options(call: &Call) -> AuditOptions {
+    AuditOptions {
+        capacity: call.capacity,
+        units: call.units as u8,
+        statuses: call.statuses,
+        all: call.all,
+    }
+}
