@@ -1,11 +1,12 @@
 -- A run of programs can be shown in each form.
-use Rattle.std.proofs.Common.{◌≡◌, ◌≤◌, ℕ, List, length, ap, subst, sym, ◌∙◌}
+use Rattle.std.proofs.Common.{◌≡◌, ◌≤◌, ◌&&◌, ℕ, List, true, length, ap, subst, sym, nat_le, nat_lt, ◌∙◌}
+use Rattle.std.specs.List.{list_all}
 use Rattle.dbtg_schema.specs.Lists.{Lists}
 use Rattle.dbtg_schema.specs.Sound.{IsSound}
 use Rattle.dbtg_unit.specs.Database.Laws.Replay.{IsHistoryOf, opening_state}
-use Rattle.dbtg_unit.proofs.Public.{opening_length, replay_keeps_count}
+use Rattle.dbtg_unit.specs.declared.unit.Entry.{Entry}
+use Rattle.dbtg_unit.proofs.Public.{opening_length, replay_keeps_count, units_are_there}
 use Rattle.dbtg_step.specs.Core.Audit.{MayBeHistory}
-use Rattle.dbtg_step.proofs.Public.{shows_so}
 use Rattle.dbtg_program.specs.declared.program.Program.{Program}
 use Rattle.dbtg_going.specs.declared.going.ProgramRun.{ProgramRun}
 use Rattle.dbtg_going.specs.Turns.{IsRunOf}
@@ -22,8 +23,15 @@ module _ (lists : Lists) (capacity : ℕ) (programs : List Program) (turns : Lis
 
   may_be : MayBeHistory lists (length programs) given.run.history
   may_be =
-      shows_so lists capacity (length programs) given.run.history
-      (subst (IsHistoryOf lists capacity (length programs)) (sym is_run.run.history_is) is_run.run.history_of)
+      let history = given.run.history in
+      let h = subst (IsHistoryOf lists capacity (length programs)) (sym is_run.run.history_is) is_run.run.history_of in
+      record {
+        tickets = h.tickets;
+        numbered =
+            subst (λ (n : ℕ). list_all (λ (x : Entry). nat_lt 0 x.unit && nat_le x.unit n) history ≡ true) (opening_length lists (length programs))
+            (units_are_there lists capacity (opening_state lists (length programs)) history h.answers_hold);
+        fitting = h.fitting;
+      }
 
   pub can_be_shown : (form : AnswerForm) → IsSound lists → length programs ≤ 255 → CanShow lists form given.run
   can_be_shown Plain sound few = tt
