@@ -28,7 +28,7 @@ graph_text = codes "graph [rankdir=TB labelloc=t bgcolor=white nodesep=0.2 ranks
 unfoldable pub style_text : List ℕ
 style_text = codes "node [shape=record style=filled colorscheme=pastel28 height=0 margin=\"0.06,0.03\" fontname=monospace fontsize=10]\nedge [arrowsize=0.7 fontname=monospace fontsize=10]\n"
 
--- ---- the title and the legend of areas
+-- ---- the title and the legend: of areas, and of the letters at boxes and arrows
 
 -- the scheme's colours go by numbers from 1
 unfoldable pub colour_number : ℕ → ℕ
@@ -67,9 +67,21 @@ heading_text name = codes "\"><b>SCHEMA " ++ name
 unfoldable pub title_text : List ℕ → ℕ → List ℕ
 title_text name areas = table_text ++ decimal areas ++ heading_text name ++ row_text
 
--- the title, and the areas in a row below it
+-- the end of the row of areas, and the beginning of the row of letters, up to its width in cells
+unfoldable pub letters_row : List ℕ
+letters_row = codes "</tr>\n<tr><td border=\"0\" colspan=\""
+
+-- what the letters stand for, and the end of the table
+unfoldable pub letters_text : List ℕ
+letters_text = codes "\" balign=\"left\">MA, MM, OA, OM: MANDATORY or OPTIONAL, AUTOMATIC or MANUAL<br/>CALC .. DA, DN: DUPLICATES ALLOWED, NOT ALLOWED<br/>SORTED .. DF, DL, DN: DUPLICATES FIRST, LAST, NOT ALLOWED<br/></td></tr>\n</table>>\n"
+
+-- the letters stand below all areas
+unfoldable pub letters : ℕ → List ℕ
+letters areas = letters_row ++ decimal areas ++ letters_text
+
+-- the title, the areas in a row below it, and the letters
 unfoldable pub legend_text : Lists → List ℕ
-legend_text schema = title_text schema.name (length schema.areas) ++ area_cells 0 schema.areas ++ codes "</tr>\n</table>>\n"
+legend_text schema = title_text schema.name (length schema.areas) ++ area_cells 0 schema.areas ++ letters (length schema.areas)
 
 -- ---- boxes
 

@@ -2,7 +2,7 @@
 //! and pictures also have parentheses, so that no byte within quotation marks has to be escaped. Record types have
 //! different names, and no name has a space, so that each box is called by its name, and each SYSTEM by its set.
 
-ghost use Rattle.dbtg_draw.specs.Dot.{area_cell, area_cells, cell_text, colour_number, colour_text, dot_text, fill_text, front_text, graph_text, heading_text, item_line, left_line, legend_text, location_text, member_edge, member_label, owner_name, quoted, record_label, record_node, row_text, set_text, style_text, system_name, system_node, table_text, title_text, words_end, words_text};
+ghost use Rattle.dbtg_draw.specs.Dot.{area_cell, area_cells, cell_text, colour_number, colour_text, dot_text, fill_text, front_text, graph_text, heading_text, item_line, left_line, legend_text, letters, letters_row, letters_text, location_text, member_edge, member_label, owner_name, quoted, record_label, record_node, row_text, set_text, style_text, system_name, system_node, table_text, title_text, words_end, words_text};
 ghost use Rattle.dbtg_draw.specs.Lines.{area_name};
 ghost use Rattle.std.specs.List.{flat_map};
 ghost use Rattle.std.specs.Prelude.{◌≡◌, ◌++◌, ◌≤◌, IfOk, OnOk, length, option_map};
@@ -119,13 +119,38 @@ fn push_title(out: &mut Vec<u8>, name: &[u8], areas: usize) -> Result<(), AllocE
     push_row(out)
 }
 
+#[tactic(auto, unfolding(crate::specs::Dot::letters_row))]
+fn push_letters_row(out: &mut Vec<u8>) -> Result<(), AllocError>
+    ensures { OnOk result (out.new.items ≡ out.old.items ++ letters_row) }
+{
+    out.extend_from_slice(b"</tr>\n<tr><td border=\"0\" colspan=\"")
+}
+
+#[tactic(auto, unfolding(crate::specs::Dot::letters_text))]
+fn push_letters_text(out: &mut Vec<u8>) -> Result<(), AllocError>
+    ensures { OnOk result (out.new.items ≡ out.old.items ++ letters_text) }
+{
+    out.extend_from_slice(
+        b"\" balign=\"left\">MA, MM, OA, OM: MANDATORY or OPTIONAL, AUTOMATIC or MANUAL<br/>CALC .. DA, DN: DUPLICATES ALLOWED, NOT ALLOWED<br/>SORTED .. DF, DL, DN: DUPLICATES FIRST, LAST, NOT ALLOWED<br/></td></tr>\n</table>>\n",
+    )
+}
+
+#[tactic(auto, unfolding(crate::specs::Dot::letters))]
+fn push_letters(out: &mut Vec<u8>, areas: usize) -> Result<(), AllocError>
+    ensures { OnOk result (out.new.items ≡ out.old.items ++ letters areas) }
+{
+    push_letters_row(out)?;
+    push_number(out, areas as u64)?;
+    push_letters_text(out)
+}
+
 #[tactic(auto, unfolding(crate::specs::Dot::legend_text))]
 fn push_legend(out: &mut Vec<u8>, schema: &Schema) -> Result<(), AllocError>
     ensures { OnOk result (out.new.items ≡ out.old.items ++ legend_text schema.now) }
 {
     push_title(out, schema.name(), schema.areas().len())?;
     push_each_area(out, schema.areas())?;
-    out.extend_from_slice(b"</tr>\n</table>>\n")
+    push_letters(out, schema.areas().len())
 }
 
 #[tactic(auto, unfolding(crate::specs::Dot::left_line))]
