@@ -151,13 +151,13 @@ module _ (m : Meeting) where
           let first = are_first.each g.0 g.1 in
           let at : get_or s.found.orders c.0 [] ≡ o = get_or_default s.found.orders c.0 [] o c.1 ∙ c.2 in
           let fails_at : FailsIn (state_of m (get_or s.found.orders c.0 [])) g.0.failure =
-            subst (FailsIn (state_of m (get_or s.found.orders c.0 []))) (sym g.2) (subst (λ (p : List ℕ). FailsIn (state_of m p) f) (sym at) fails)
+          subst (FailsIn (state_of m (get_or s.found.orders c.0 []))) (sym g.2) (subst (λ (p : List ℕ). FailsIn (state_of m p) f) (sym at) fails)
           in
           let no_later : IsNoLater (get_or s.found.orders first.place []) (get_or s.found.orders c.0 []) =
-            elim (cases_lt c.0 first.place) [
-              | inl earlier ↦ absurd (first.is_first.before c.0 earlier fails_at)
-              | inr later ↦ no_later_place s.found.orders first.place c.0 through.visited.at.under_way.in_order (omega (arith, later)) c.1
-            ]
+          elim (cases_lt c.0 first.place) [
+            | inl earlier ↦ absurd (first.is_first.before c.0 earlier fails_at)
+            | inr later ↦ no_later_place s.found.orders first.place c.0 through.visited.at.under_way.in_order (omega (arith, later)) c.1
+          ]
           in
           (g.0, g.1, g.2, subst (λ (p : List ℕ). IsNoLater p o) (sym first.turns_are) (subst (IsNoLater (get_or s.found.orders first.place [])) at no_later))
 
