@@ -1,7 +1,7 @@
 -- Programs in the shell: the statements of a program are typed as lines of one unit, one after another, and the program is told of each
 -- answer before the next.
 -- f and g are a program under way, u is the number of the unit, out is what is printed.
-use Rattle.std.specs.Prelude.{ℕ, zero, suc, ◌≡◌, ◌⊎◌, List, Option, Some, None, true}
+use Rattle.std.specs.Prelude.{ℕ, zero, suc, ◌≡◌, ◌⊎◌, List, Option, Some, None}
 use Rattle.dbtg_schema.specs.Lists.{Lists}
 use Rattle.dbtg_unit.specs.declared.unit.Entry.{Entry}
 use Rattle.dbtg_script.specs.Lines.{lines}
@@ -29,7 +29,7 @@ begun schema text = record { schema = schema; program = program schema text; lin
 -- the line that is typed for a statement that is due: as the program has it, or, of a statement with fields, its words with the literal of
 -- its value in place of each field. None is typed at the end
 abbrev pub line_for : Program → List (List ℕ) → Due → Option (List ℕ)
-line_for program ls (due at s) = Some (spelled true program ls at)
+line_for program ls (due at s) = Some (spelled program ls at)
 line_for program ls (ended at how) = None
 
 abbrev pub line_due : Following → Option (List ℕ)
