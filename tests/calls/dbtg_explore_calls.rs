@@ -3,10 +3,17 @@
 use dbtg_explore::{Explored, Meeting, explore};
 use dbtg_program::{End, Program, read_program};
 use dbtg_schema::Schema;
-use dbtg_states::Unwatched;
+use dbtg_states::Watch;
 use std::test::*;
 
 mod wishes;
+
+/// Is told nothing.
+struct Unwatched;
+
+impl Watch for Unwatched {
+    fn seen(&self, _: usize) {}
+}
 
 /// One area, and nothing else that the programs name.
 const HOUSE: &[u8] =

@@ -1,9 +1,9 @@
 //! Judges wishes for the status of a statement, by the area that two units want alone.
 
-use super::{COUNTS, HOUSE, OPENS, TRIES, meeting, programs_of};
+use super::{COUNTS, HOUSE, OPENS, TRIES, Unwatched, meeting, programs_of};
 use dbtg_explore::{Wish, broken_turns, is_there};
 use dbtg_schema::{Row, Schema};
-use dbtg_states::{Stop, Unwatched};
+use dbtg_states::Stop;
 use std::test::*;
 
 /// Whether there is the statement, and the first turns that break the wish, or why the search stops; nothing where memory is refused.
