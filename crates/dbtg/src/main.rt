@@ -13,7 +13,7 @@ mod replay;
 mod timeline;
 mod writing;
 
-use dbtg_audit::{Verdict, audit};
+use dbtg_audit::{AuditOptions, Verdict, audit};
 use dbtg_command::check::check;
 use dbtg_command::draw::draw;
 use dbtg_command::{
@@ -31,9 +31,7 @@ use dbtg_schema::Schema;
 use dbtg_session::Session;
 use dbtg_shell::{Broken, converse};
 use ended::{Ended, Status};
-use options::{
-    answer_form, audit_options, explains_refusals, exploring, picture_form, run_options,
-};
+use options::{answer_form, explains_refusals, exploring, picture_form, run_options};
 use progress::Progress;
 use std::alloc::{AllocError, Global};
 use std::process::ExitCode;
@@ -201,10 +199,22 @@ fn moves_of_turns(alloc: Global, files: &Files<HostRuntime>, call: &Call) -> Res
     Ok(Ended::of_text(alloc, text))
 }
 
+fn verdict(alloc: Global, files: &Files<HostRuntime>, call: &Call) -> Result<Verdict, Fault>
+    requires { is_count (call.now.units + loading_units (length files.now.paths.now.scripts.now)) ≡ true }
+{
+    let options = AuditOptions {
+        capacity: call.capacity,
+        units: call.units as u8,
+        statuses: call.statuses,
+        all: call.all,
+    };
+    audit(alloc, files, options)
+}
+
 fn audited(alloc: Global, files: &Files<HostRuntime>, call: &Call) -> Result<Ended, Fault> {
     let loading_units = if 2 <= files.count() { 1 } else { 0 };
     check_count(call.units as usize + loading_units)?;
-    let verdict = audit(alloc, files, audit_options(call))?;
+    let verdict = verdict(alloc, files, call)?;
     let mut told = told_of_first(alloc, files, call)?;
     match verdict {
         Verdict::Equal(text) => {

@@ -4,7 +4,6 @@ ghost use Rattle.std.specs.Prelude.{◌≡◌, ◌&&◌, not};
 ghost use Rattle.dbtg.specs.Options.{answer_form, around, explains_refusals, picture_form};
 
 use crate::timeline::Form;
-use dbtg_audit::AuditOptions;
 use dbtg_command::{Call, Named, Wished};
 use dbtg_explore::Wish;
 use dbtg_exploring::Exploring;
@@ -86,15 +85,5 @@ pub fn exploring(call: &Call) -> Exploring {
         brief: call.brief,
         limit: call.limit,
         wish: call.wish.map(wish_of),
-    }
-}
-
-/// What `audit` is asked for. There are at most 8 units.
-pub fn audit_options(call: &Call) -> AuditOptions {
-    AuditOptions {
-        capacity: call.capacity,
-        units: call.units as u8,
-        statuses: call.statuses,
-        all: call.all,
     }
 }
