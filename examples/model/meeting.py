@@ -66,19 +66,24 @@ def failures_of(runs):
     return {it for it in ends if it[1] != "STOP"}
 
 
-def failures_text(failures):
+def failures_text(failures, begun):
+    """The lines of failures by the first order to each, which follows the turns that were begun with."""
     in_order = sorted(failures, key=lambda it: (it[0], int(it[1].split()[-1]), it[1]))
-    return "".join(f"fails {unit} {how}\n" for unit, how in in_order)
+    return "".join(f"fails {unit} {how}\n{turns_line([*begun, *failures[unit, how]])}" for unit, how in in_order)
+
+
+def turns_line(turns):
+    return f"turns {machine.steps_text(turns)}" if turns else "turns\n"
 
 
 class Explored:
-    """The states with the first of the shortest orders to each, the steps between them, the ends by what they leave behind, with the
-    first order to each, and the failures."""
+    """The states with the first of the shortest orders to each, the steps between them, and the first order to each of the ends, by what
+    they leave behind, and of the failures."""
 
     def __init__(self, meeting, limit):
         self.meeting, self.is_over = meeting, False
         self.orders, self.steps, self.units = {}, {}, {}
-        self.results, self.failures = {}, set()
+        self.results, self.failures = {}, {}
         found = [self.meet([])]
         for state in found:
             self.steps[state] = []
@@ -97,7 +102,8 @@ class Explored:
         state = state_of(run)
         if state not in self.orders:
             self.orders[state], self.units[state] = order, self.meeting.next_units(run)
-            self.failures |= failures_of(run)
+            for failure in failures_of(run):
+                self.failures.setdefault(failure, order)
             if not self.units[state]:
                 self.results.setdefault(told_apart(run), (order, run.text()))
         return state
@@ -164,8 +170,7 @@ class Explored:
     def results_text(self):
         texts = []
         for number, (order, printed) in enumerate(self.results.values(), 1):
-            turns = machine.steps_text([*self.meeting.turns, *order])
-            texts.append(f"result {number}\nturns {turns}{printed}" if turns else f"result {number}\nturns\n{printed}")
+            texts.append(f"result {number}\n{turns_line([*self.meeting.turns, *order])}{printed}")
         return "".join(texts)
 
 
@@ -193,4 +198,4 @@ def explore(folder, words, wanted):
     if first is not None:
         holds = told and machine.turns_in(told[1])[len(turns):] == first and round_holds(meeting, first, machine.turns_in(told[2]))
         line = told[0] if holds else "endless\n"
-    return states.head() + line + failures_text(states.failures) + states.results_text()
+    return states.head() + line + failures_text(states.failures, turns) + states.results_text()

@@ -118,7 +118,9 @@ fn one_fails_although_another_goes_on(rt: HostRuntime) {
         panic!(rt; "not explored")
     };
     assert!(rt; all.failures.len() == 1);
-    assert!(rt; all.failures.as_slice()[0].unit == 1);
-    assert!(rt; all.failures.as_slice()[0].how == End::Assert(2));
+    let first = &all.failures.as_slice()[0];
+    assert!(rt; first.failure.unit == 1);
+    assert!(rt; first.failure.how == End::Assert(2));
+    assert!(rt; first.turns.as_slice() == [1].as_slice());
     assert!(rt; all.endless.is_some());
 }

@@ -21,6 +21,7 @@ pub mod Parts
 pub mod Said
 pub mod Transitions
 pub mod Next
+pub mod FirstFailures
 pub mod Visiting
 pub mod Judging
 pub mod Rounding

@@ -1,8 +1,10 @@
 -- All states, and what they lead to.
 -- m is a meeting, o and p are orders, i is the place of an order that is found.
-use Rattle.std.proofs.Common.{◌≡◌, refl, sym, ◌∙◌, ap, subst, ℕ, ◌+◌, ◌<◌, ◌≤◌, Bool, true, false, List, [], ◌∷◌, ◌++◌, length, get_or, take, Option, None, Some, arith, if◌then◌else◌}
-use Rattle.std.specs.Prelude.{option_and_then}
+use Rattle.std.proofs.Common.{◌≡◌, refl, sym, ◌∙◌, ap, subst, ℕ, ◌+◌, ◌<◌, ◌≤◌, Bool, true, false, List, [], ◌∷◌, ◌++◌, length, get_or, take, Option, None, Some, arith, if◌then◌else◌, inl, inr}
+use Rattle.std.specs.Prelude.{Contains, option_and_then}
+use Rattle.std.proofs.lemmas.Bool.{cases_lt}
 use Rattle.std.proofs.lemmas.List.{get_or-take, get_or_default, length-take, take-append-le, take_all, take_more}
+use Rattle.std.proofs.lemmas.List.Elements.{Contains-get_or}
 use Rattle.dbtg_program.specs.declared.program.End.{End}
 use Rattle.dbtg_program.specs.States.{ProgramState}
 use Rattle.dbtg_program.specs.Going.{Due, due, ended}
@@ -10,25 +12,28 @@ use Rattle.dbtg_step.specs.Machine.SequentialDatabase.{unit_at}
 use Rattle.dbtg_explore.specs.declared.ends.Ends as ends
 use Rattle.dbtg_explore.specs.declared.explored.Explored as given
 use Rattle.dbtg_explore.specs.declared.explored.Failure.{Failure}
+use Rattle.dbtg_explore.specs.declared.explored.FirstFailure.{FirstFailure}
 use Rattle.dbtg_explore.specs.declared.search.Search as search
 use Rattle.dbtg_explore.specs.Explored.{IsExplored, IsFirstEndless}
 use Rattle.dbtg_explore.specs.Inside.Ends.{AreEndsOf, FailsIn, IsBehind, Notes}
+use Rattle.dbtg_explore.specs.Inside.Failures.{AreFirst}
 use Rattle.dbtg_explore.specs.Inside.Found.{orders_at}
 use Rattle.dbtg_explore.specs.Inside.Walks.{failure_by, failure_in}
 use Rattle.dbtg_explore.specs.Inside.Search.{HasFirst}
 use Rattle.dbtg_explore.specs.Inside.Steps.{Goes, IsAt, can_follow}
 use Rattle.dbtg_explore.specs.Inside.Visits.{HasVisited, IsThrough, IsVisited}
-use Rattle.dbtg_explore.specs.Orders.{IsBefore, IsEnd, IsOrder, Meeting, history_of}
+use Rattle.dbtg_explore.specs.Orders.{IsBefore, IsEnd, IsNoLater, IsOrder, Meeting, history_of}
 use Rattle.dbtg_explore.specs.Pairwise.{ArePairwise}
-use Rattle.dbtg_explore.specs.Results.{AreFailures, AreResults, is_failure}
+use Rattle.dbtg_explore.specs.Results.{AreFailures, AreResults, FailsBefore, is_failure}
 use Rattle.dbtg_explore.specs.States.{CountsStates, Essence, MeetingState, essence, essence_of, state_of}
 use Rattle.dbtg_explore.proofs.Alike.{can_go_on_alike}
 use Rattle.dbtg_explore.proofs.Before.{no_later_trans}
 use Rattle.dbtg_explore.proofs.Counted.{counted_failure, counted_says}
+use Rattle.dbtg_explore.proofs.FirstFailures.{pairwise_map}
 use Rattle.dbtg_explore.proofs.Keyed.{same_text}
 use Rattle.dbtg_explore.proofs.Noting.{ends_later}
-use Rattle.dbtg_explore.proofs.Searched.{all_found, in_order_at}
-use Rattle.dbtg_explore.proofs.Steps.{goes_on, kept_range}
+use Rattle.dbtg_explore.proofs.Searched.{all_found, in_order_at, no_later_place}
+use Rattle.dbtg_explore.proofs.Steps.{goes_on, kept_range, of_map}
 
 -- orders before place i are before the order at it
 is_behind : (os : List (List ℕ)) (i : ℕ) → ArePairwise IsBefore os → i < length os → IsBehind (take i os) (get_or os i [])
@@ -134,25 +139,54 @@ module _ (m : Meeting) where
           in_order = results.in_order;
         }
 
-    pub are_failures : AreFailures m e.failures.items
-    are_failures =
-        let failures = noted.failures in
-        record {
-          fail = λ f c.
-              let at = failures.fail f c in
-              let failed = has_failed (state_of m at.0) f at.2 in
-              record { order = at.0; is_order = through.visited.at.under_way.are_orders at.0 at.1; state = failed.at; ended_is = failed.ended_is; is_failure_is = failed.is_failure_is };
-          all = λ f fails.
-              let first = first_of fails.order fails.is_order in
-              failures.all f first.first first.is_found (fails_alike (state_of m first.first) (state_of m fails.order) f first.same ∙ fails_there (state_of m fails.order) f fails.state fails.ended_is fails.is_failure_is);
-          in_order = failures.in_order;
-        }
+    pub fail_there : (f : Failure) → Contains e.failures.items f → (o : List ℕ) × Contains s.found.orders o × FailsIn (state_of m o) f
+    fail_there = noted.failures.fail
+
+    module _ (firsts : List FirstFailure) (are_first : AreFirst m s.found.orders e.failures.items firsts) where
+      -- a failure has its first turns
+      first_failure : (f : Failure) (o : List ℕ) → Contains s.found.orders o → FailsIn (state_of m o) f → (g : FirstFailure) × Contains firsts g × (g.failure ≡ f) × IsNoLater g.turns o
+      first_failure f o c fails =
+          let there = noted.failures.all f o c fails in
+          let g = of_map (λ (g : FirstFailure). g.failure) firsts f (subst (λ (fs : List Failure). Contains fs f) (sym are_first.failures_are) there) in
+          let first = are_first.each g.0 g.1 in
+          let at : get_or s.found.orders c.0 [] ≡ o = get_or_default s.found.orders c.0 [] o c.1 ∙ c.2 in
+          let fails_at : FailsIn (state_of m (get_or s.found.orders c.0 [])) g.0.failure =
+          subst (FailsIn (state_of m (get_or s.found.orders c.0 []))) (sym g.2) (subst (λ (p : List ℕ). FailsIn (state_of m p) f) (sym at) fails)
+          in
+          let no_later : IsNoLater (get_or s.found.orders first.place []) (get_or s.found.orders c.0 []) =
+          elim (cases_lt c.0 first.place) [
+            | inl earlier ↦ absurd (first.is_first.before c.0 earlier fails_at)
+            | inr later ↦ no_later_place s.found.orders first.place c.0 through.visited.at.under_way.in_order (omega (arith, later)) c.1
+          ]
+          in
+          (g.0, g.1, g.2, subst (λ (p : List ℕ). IsNoLater p o) (sym first.turns_are) (subst (IsNoLater (get_or s.found.orders first.place [])) at no_later))
+
+      pub are_failures : AreFailures m firsts
+      are_failures = record {
+        fail = λ f c.
+            let first = are_first.each f c in
+            let fails = subst (λ (p : List ℕ). FailsIn (state_of m p) f.failure) (sym first.turns_are) first.is_first.fails in
+            let failed = has_failed (state_of m f.turns) f.failure fails in
+            let there = Contains-get_or s.found.orders first.place [] first.is_first.within in
+            record {
+              is_order = subst (IsOrder m) (sym first.turns_are) (through.visited.at.under_way.are_orders (get_or s.found.orders first.place []) there);
+              state = failed.at;
+              ended_is = failed.ended_is;
+              is_failure_is = failed.is_failure_is;
+            };
+        all = λ f o fails.
+            let first = first_of o fails.is_order in
+            let fails_first = fails_alike (state_of m first.first) (state_of m o) f first.same ∙ fails_there (state_of m o) f fails.state fails.ended_is fails.is_failure_is in
+            let g = first_failure f first.first first.is_found fails_first in
+            (g.0, g.1, g.2, no_later_trans g.0.turns first.first o g.3 first.no_later);
+        in_order = pairwise_map (λ (g : FirstFailure). g.failure) FailsBefore firsts (subst (ArePairwise FailsBefore) (sym are_first.failures_are) noted.failures.in_order);
+      }
 
     -- so everything is explored, except for ways round
-    pub is_explored : (all : given.Explored) → all.states ≡ length s.found.orders → all.results ≡ orders_at s.found.orders e.results.places → all.failures ≡ e.failures.items → IsFirstEndless m all.endless → IsExplored m all
-    is_explored all states_are results_are failures_are endless = record {
+    pub is_explored : (all : given.Explored) → all.states ≡ length s.found.orders → all.results ≡ orders_at s.found.orders e.results.places → AreFirst m s.found.orders e.failures.items all.failures → IsFirstEndless m all.endless → IsExplored m all
+    is_explored all states_are results_are are_first endless = record {
       states = subst (CountsStates m) (sym states_are) counts;
       results = subst (AreResults m) (sym results_are) are_results;
-      failures = subst (AreFailures m) (sym failures_are) are_failures;
+      failures = are_failures all.failures are_first;
       endless = endless;
     }

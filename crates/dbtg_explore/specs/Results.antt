@@ -16,6 +16,7 @@ use Rattle.dbtg_going.specs.Texts.{programs_text}
 use Rattle.dbtg_going.specs.Turns.{state_in}
 use Rattle.dbtg_states.specs.Users.{by_unit}
 use Rattle.dbtg_explore.specs.declared.explored.Failure.{Failure}
+use Rattle.dbtg_explore.specs.declared.explored.FirstFailure.{FirstFailure}
 use Rattle.dbtg_explore.specs.Orders.{IsBefore, IsEnd, IsLower, IsNoLater, IsOrder, Meeting}
 use Rattle.dbtg_explore.specs.Pairwise.{ArePairwise}
 use Rattle.dbtg_explore.specs.States.{MeetingState, state_of, without_versions}
@@ -58,9 +59,8 @@ is_failure (Assert line) = true
 is_failure (Size line) = true
 is_failure (Astray line) = true
 
--- after some order the program of the unit has ended in this way, which is a failure
-pub record Fails (m : Meeting) (f : Failure) : Type 0 where
-  pub order : List ℕ
+-- after this order the program of the unit has ended in this way, which is a failure
+pub record FailsAfter (m : Meeting) (order : List ℕ) (f : Failure) : Type 0 where
   pub is_order : IsOrder m order
   pub state : ProgramState
   pub ended_is : unit_at (state_of m order).programs f.unit ≡ Some (ended state f.how)
@@ -77,8 +77,8 @@ end_numbers (Astray line) = line ∷ 3 ∷ []
 abbrev pub FailsBefore : Failure → Failure → Type 0
 FailsBefore f g = IsLower (f.unit ∷ end_numbers f.how) (g.unit ∷ end_numbers g.how)
 
--- all failures, each once, in order
-pub record AreFailures (m : Meeting) (failures : List Failure) : Type 0 where
-  pub fail : (f : Failure) → Contains failures f → Fails m f
-  pub all : (f : Failure) → Fails m f → Contains failures f
-  pub in_order : ArePairwise FailsBefore failures
+-- all failures in order, each once, with the first order to it: every order that leads to a failure is no earlier
+pub record AreFailures (m : Meeting) (failures : List FirstFailure) : Type 0 where
+  pub fail : (f : FirstFailure) → Contains failures f → FailsAfter m f.turns f.failure
+  pub all : (f : Failure) (o : List ℕ) → FailsAfter m o f → (g : FirstFailure) × Contains failures g × (g.failure ≡ f) × IsNoLater g.turns o
+  pub in_order : ArePairwise (λ f g. FailsBefore f.failure g.failure) failures

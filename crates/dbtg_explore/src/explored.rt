@@ -26,6 +26,13 @@ pub struct Failure {
     pub how: End,
 }
 
+/// A failure, and the turns of the first order that leads to it.
+#[derive(Drop)]
+pub struct FirstFailure {
+    pub failure: Failure,
+    pub turns: Row<u8>,
+}
+
 /// Turns that lead to a way round, and turns that go round it once.
 #[derive(Drop)]
 pub struct Endless {
@@ -39,7 +46,7 @@ pub struct Endless {
 pub struct Explored {
     pub states: u64,
     pub results: Row<Row<u8>>,
-    pub failures: Row<Failure>,
+    pub failures: Row<FirstFailure>,
     pub endless: Option<Endless>,
 }
 
@@ -135,11 +142,12 @@ fn explored_by<'a, W: Watch>(
     let Ends { results, failures } = ends;
     let states = search.found.len() as u64;
     let results = results.orders(alloc, &search.found)?;
+    let failures = search.first_failures(alloc, meeting, failures.as_slice())?;
     let endless = endless_in(alloc, search)?;
     Ok(Explored {
         states,
         results,
-        failures: Row::of(failures),
+        failures,
         endless,
     })
 }

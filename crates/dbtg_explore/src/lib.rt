@@ -5,6 +5,7 @@ mod endless;
 mod ends;
 mod explored;
 mod failures;
+mod first_failures;
 mod found;
 mod key;
 mod known;
@@ -23,7 +24,7 @@ mod walk;
 mod way;
 mod wishes;
 
-pub use explored::{Endless, Explored, Failure, explore};
+pub use explored::{Endless, Explored, Failure, FirstFailure, explore};
 pub use laws::{
     a_round_goes_on_for_ever, every_run_by_turns_comes_out, every_run_comes_out,
     going_on_for_ever_goes_round, versions_are_no_state, what_counts_is_all,

@@ -1,5 +1,5 @@
--- What `explore` prints of what programs can come to: how many states and results there are, the turns of a way round, the failures,
--- and then, result by result, turns that lead to it, and what `run` prints with them.
+-- What `explore` prints of what programs can come to: how many states and results there are, the turns of a way round, the failures with
+-- the first turns to each, and then, result by result, turns that lead to it, and what `run` prints with them.
 -- told are the turns that are given, as `--turns` has them; asked is what an exploration is asked for; k is the number of a result, order
 -- the one that leads to it; before are the earlier results, if results are shown in brief.
 use Rattle.std.specs.Prelude.{ℕ, ◌≡◌, ◌+◌, false, List, [], ◌∷◌, ◌++◌, Option, Some, None, codes, decimal, flat_map, length, map, option_map, take}
@@ -17,7 +17,7 @@ use Rattle.dbtg_going.specs.Texts.{end_text, given_text, programs_text}
 use Rattle.dbtg_going.specs.Turns.{IsRunOf, turns_of}
 use Rattle.dbtg_explore.specs.declared.explored.Endless.{Endless}
 use Rattle.dbtg_explore.specs.declared.explored.Explored.{Explored}
-use Rattle.dbtg_explore.specs.declared.explored.Failure.{Failure}
+use Rattle.dbtg_explore.specs.declared.explored.FirstFailure.{FirstFailure}
 use Rattle.dbtg_exploring.specs.declared.setting.Exploring.{Exploring}
 
 -- after a space the words of a line, without its line feed; nothing if there is no line
@@ -42,9 +42,10 @@ abbrev pub endless_text : List ℕ → Option Endless → List ℕ
 endless_text told None = []
 endless_text told (Some e) = way_text (told ++ e.turns) e.round
 
--- a unit whose program fails, and how it ends
-abbrev pub failure_text : Failure → List ℕ
-failure_text f = codes "fails " ++ decimal f.unit ++ 32 ∷ end_text f.how ++ 10 ∷ []
+-- a unit whose program fails, how it ends, and the first turns that lead there
+abbrev pub failure_text : List ℕ → FirstFailure → List ℕ
+failure_text told f =
+    codes "fails " ++ decimal f.failure.unit ++ 32 ∷ end_text f.failure.how ++ with_turns (codes "\nturns") (told ++ f.turns) ++ 10 ∷ []
 
 -- the number of a result, and its turns
 abbrev pub result_head : ℕ → List ℕ → List ℕ
@@ -90,4 +91,4 @@ pub record AreTold (schema : Lists) (programs : List Program) (told : List ℕ) 
   pub texts : List ℕ
   pub after : Option (List Told)
   pub are_texts : AreResultTexts schema programs told asked (none_before asked.brief) after 1 all.results texts
-  pub is_text : out ≡ count_text all ++ endless_text told all.endless ++ flat_map failure_text all.failures ++ texts
+  pub is_text : out ≡ count_text all ++ endless_text told all.endless ++ flat_map (failure_text told) all.failures ++ texts

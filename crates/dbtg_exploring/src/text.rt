@@ -11,7 +11,7 @@ ghost use Rattle.dbtg_schema.specs.Sound.{IsSound};
 ghost use Rattle.std.specs.Prelude.{◌≡◌, ◌≤◌, ◌++◌, List, IfOk, OnOk, Option, Some, flat_map, length};
 
 use crate::setting::Setting;
-use dbtg_explore::{Endless, Explored, Failure, told_text};
+use dbtg_explore::{Endless, Explored, FirstFailure, told_text};
 use dbtg_going::{ProgramRun, Reached, push_each_program, push_end, run_programs, run_text};
 use dbtg_schema::Row;
 use dbtg_script::{push_number, turns_text};
@@ -93,24 +93,36 @@ fn push_endless(
     }
 }
 
-// A unit whose program fails.
-fn push_failure(out: &mut Vec<u8>, failure: Failure) -> Result<(), AllocError>
-    ensures { OnOk result (out.new.items ≡ out.old.items ++ failure_text failure) }
+// A unit whose program fails, and the turns that lead there.
+fn push_failure(
+    alloc: Global,
+    out: &mut Vec<u8>,
+    told: &[u8],
+    first: &FirstFailure,
+) -> Result<(), AllocError>
+    ensures { OnOk result (out.new.items ≡ out.old.items ++ failure_text told.now first.now) }
 {
     out.extend_from_slice(b"fails ")?;
-    push_number(out, failure.unit as u64)?;
+    push_number(out, first.failure.unit as u64)?;
     out.push(b' ')?;
-    push_end(out, failure.how)?;
+    push_end(out, first.failure.how)?;
+    let turns = joined(alloc, told, first.turns.as_slice())?;
+    push_with_turns(alloc, out, b"\nturns", turns.as_slice())?;
     out.push(b'\n')?;
     Ok(())
 }
 
 // All units whose programs fail.
-fn push_each_failure(out: &mut Vec<u8>, failures: &[Failure]) -> Result<(), AllocError>
-    ensures { OnOk result (out.new.items ≡ out.old.items ++ flat_map failure_text failures.now) }
+fn push_each_failure(
+    alloc: Global,
+    out: &mut Vec<u8>,
+    told: &[u8],
+    failures: &[FirstFailure],
+) -> Result<(), AllocError>
+    ensures { OnOk result (out.new.items ≡ out.old.items ++ flat_map (failure_text told.now) failures.now) }
 {
-    for failure in failures {
-        push_failure(out, *failure)?;
+    for first in failures {
+        push_failure(alloc, out, told, first)?;
     }
     Ok(())
 }
@@ -244,7 +256,7 @@ impl<'a> Setting<'a> {
         let mut out = Vec::new(alloc);
         push_counts(&mut out, all)?;
         push_endless(alloc, &mut out, self.told, &all.endless)?;
-        push_each_failure(&mut out, all.failures.as_slice())?;
+        push_each_failure(alloc, &mut out, self.told, all.failures.as_slice())?;
         out.extend_from_slice(results.as_slice())?;
         Ok(out)
     }

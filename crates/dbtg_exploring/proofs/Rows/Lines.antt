@@ -21,8 +21,11 @@ ways : endless_text (3 ∷ 1 ∷ []) (Some way) ++ endless_text [] (Some at_once
 unfolding digits with_turns
 ways = refl
 
-failures : failure_text (record { unit = 2; how = Assert 12 }) ++ failure_text (record { unit = 3; how = Size 9 }) ≡ codes "fails 2 ASSERT line 12" ++ 10 ∷ codes "fails 3 SIZE line 9" ++ 10 ∷ []
-unfolding digits
+-- a failure after given turns, and one before any turn
+failures :
+    failure_text (1 ∷ []) (record { failure = record { unit = 2; how = Assert 12 }; turns = 1 ∷ 2 ∷ [] }) ++ failure_text [] (record { failure = record { unit = 3; how = Size 9 }; turns = [] })
+    ≡ codes "fails 2 ASSERT line 12" ++ 10 ∷ codes "turns 1*2 2" ++ 10 ∷ codes "fails 3 SIZE line 9" ++ 10 ∷ codes "turns" ++ 10 ∷ []
+unfolding digits with_turns
 failures = refl
 
 heads : result_head 1 (1 ∷ 1 ∷ 2 ∷ []) ++ result_head 2 [] ≡ codes "result 1" ++ 10 ∷ codes "turns 1*2 2" ++ 10 ∷ codes "result 2" ++ 10 ∷ codes "turns" ++ 10 ∷ []
