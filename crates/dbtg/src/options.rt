@@ -83,6 +83,7 @@ pub fn exploring(call: &Call) -> Exploring {
         capacity: call.capacity,
         around: around(call),
         brief: call.brief,
+        statuses: call.replies,
         limit: call.limit,
         wish: call.wish.map(wish_of),
     }

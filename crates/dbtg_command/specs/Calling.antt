@@ -60,6 +60,7 @@ pub record IsCall (asked : Named) (found : Found) (call : Call) : Type 0 where
   pub trace : IsFlag found (codes "trace") call.trace
   pub svg : IsFlag found (codes "svg") call.svg
   pub brief : IsFlag found (codes "brief") call.brief
+  pub replies : IsFlag found (codes "statuses") call.replies
   pub statuses : IsFlag found (codes "status") call.statuses
   pub programs : IsFlag found (codes "programs") call.programs
   pub threads : IsFlag found (codes "threads") call.threads

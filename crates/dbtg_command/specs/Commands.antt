@@ -34,7 +34,7 @@ all = flag (codes "all")
 abbrev pub wish_option : List ℕ → Rule
 wish_option name = record (new_rule name) { long = Some name; action = Some Set; value_names = 2; range = Some (record { start_inclusive = 2; end_inclusive = 2 }) }
 
--- the option excludes the wish that a status never comes
+-- each of the three excludes the others
 abbrev pub always : Rule
 always = record (wish_option (codes "always")) { is_free = false }
 
@@ -64,7 +64,7 @@ abbrev pub moves : Rule
 moves = file_option (codes "moves")
 
 abbrev pub never : Rule
-never = wish_option (codes "never")
+never = record (wish_option (codes "never")) { is_free = false }
 
 abbrev pub no_explain : Rule
 no_explain = flag (codes "no-explain")
@@ -89,6 +89,9 @@ scripts = words (codes "scripts")
 -- only statuses are compared
 abbrev pub status : Rule
 status = flag (codes "status")
+
+abbrev pub statuses : Rule
+statuses = record (flag (codes "statuses")) { is_free = false }
 
 abbrev pub svg : Rule
 svg = flag (codes "svg")
@@ -148,7 +151,7 @@ rules_for named.Threads = capacity ∷ first ∷ save_turns ∷ trace_alone ∷ 
 rules_for named.Audit = capacity ∷ first ∷ units ∷ status ∷ all ∷ explain ∷ no_explain ∷ schema ∷ trace ∷ []
 rules_for named.Draw = explain ∷ no_explain ∷ schema ∷ []
 rules_for named.Run = capacity ∷ first ∷ turns_alone ∷ on_threads ∷ save_turns ∷ last ∷ echo ∷ trace_option ∷ explain ∷ no_explain ∷ schema ∷ scripts ∷ []
-rules_for named.Explore = capacity ∷ first ∷ turns_alone ∷ last ∷ limit ∷ brief ∷ never ∷ always ∷ explain ∷ no_explain ∷ schema ∷ scripts ∷ []
+rules_for named.Explore = capacity ∷ first ∷ turns_alone ∷ last ∷ limit ∷ brief ∷ statuses ∷ never ∷ always ∷ explain ∷ no_explain ∷ schema ∷ scripts ∷ []
 rules_for named.Explain = topic ∷ []
 rules_for named.Shell = capacity ∷ units ∷ schema ∷ []
 

@@ -16,8 +16,7 @@ pub enum Word<'a> {
     FileOptionWithout(&'a str, &'a str, &'a str),
     /// The second text is the number that stands for none.
     NumberOption(&'a str, &'a str, &'a str),
-    WishOption(&'a str, &'a str),
-    WishOptionWithout(&'a str, &'a str, &'a str),
+    WishOption(&'a str, &'a str, &'a str),
     /// A file that must be named; the usage shows the second text for it.
     File(&'a str, &'a str, &'a str),
     /// Any number of words; the usage shows the second text for each.
@@ -34,7 +33,7 @@ pub const ALL_LINES: Word = Word::Flag(
     "Reports every line that differs [default: the first]",
 );
 
-pub const ALWAYS: Word = Word::WishOptionWithout(
+pub const ALWAYS: Word = Word::WishOption(
     "always",
     "never",
     "Says whether the statement in line LINE of unit U always has this status; not with --never",
@@ -108,6 +107,7 @@ pub const MOVES: Word = Word::FileOption(
 
 pub const NEVER: Word = Word::WishOption(
     "never",
+    "statuses",
     "Says whether the statement in line LINE of unit U never has this status, in any order",
 );
 
@@ -162,6 +162,12 @@ pub const SCRIPTS_ON_THREADS: Word = Word::Words(
 pub const STATUS: Word = Word::Flag(
     "status",
     "Compares only statuses [default: keys and items too, if the trace has them]",
+);
+
+pub const STATUSES: Word = Word::FlagWithout(
+    "statuses",
+    "always",
+    "Prints what each statement is answered, over all orders [default: the results]; not with --never or --always",
 );
 
 pub const SVG: Word = Word::Flag("svg", "Draws as SVG [default: plain text]");
@@ -301,8 +307,7 @@ pub fn arg_of<'a>(alloc: Global, word: Word<'a>) -> Result<Arg<'a>, AllocError>
             file_option(alloc, name, help).conflicts_with(other)
         }
         Word::NumberOption(name, usual, help) => Ok(number_option(alloc, name, usual, help)),
-        Word::WishOption(name, help) => Ok(wish_option(alloc, name, help)),
-        Word::WishOptionWithout(name, other, help) => {
+        Word::WishOption(name, other, help) => {
             wish_option(alloc, name, help).conflicts_with(other)
         }
         Word::File(name, shown, help) => Ok(file_word(alloc, name, shown, help)),

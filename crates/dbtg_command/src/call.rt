@@ -40,6 +40,8 @@ pub struct Call<'a> {
     pub svg: bool,
     /// Results are shown as what differs from the first.
     pub brief: bool,
+    /// What statements are answered is listed, in place of results.
+    pub replies: bool,
     /// Only statuses are compared.
     pub statuses: bool,
     /// The texts are programs.
@@ -216,6 +218,7 @@ fn given_call<'a>(alloc: Global, named: Named, given: &ArgMatches<'a>) -> Result
         trace: given.get_flag("trace"),
         svg: given.get_flag("svg"),
         brief: given.get_flag("brief"),
+        replies: given.get_flag("statuses"),
         statuses: given.get_flag("status"),
         programs: given.get_flag("programs"),
         threads: given.get_flag("threads"),

@@ -9,8 +9,8 @@ use crate::arguments::{
     ALL_FAULTS, ALL_LINES, ALWAYS, BRIEF, CAPACITY, CHECKED_SCRIPTS, ECHO, EXPLAIN, EXPLAIN_ECHO,
     EXPLAIN_PICTURE, FIRST, FIRST_PROGRAM, LAST, LIMIT, MOVES, NEVER, NO_EXPLAIN, ON_THREADS,
     PROGRAM_FILES, PROGRAMS, SAVE_TURNS, SCHEMA, SCHEMA_ALONE, SCRIPTS, SCRIPTS_ON_THREADS, STATUS,
-    SVG, TOPIC, TRACE, TRACE_FILE, TRACE_OR_ECHO, TRACE_UNITS, TURNS, TURNS_BEFORE, TURNS_FILE,
-    TURNS_OR_MOVES, UNITS, Word, arg_of,
+    STATUSES, SVG, TOPIC, TRACE, TRACE_FILE, TRACE_OR_ECHO, TRACE_UNITS, TURNS, TURNS_BEFORE,
+    TURNS_FILE, TURNS_OR_MOVES, UNITS, Word, arg_of,
 };
 use clap::error::ErrorKind;
 use clap::{Command, Error};
@@ -252,6 +252,7 @@ fn explore_command<'a>(alloc: Global, name: &'a str) -> Result<Command<'a>, Allo
             LAST,
             LIMIT,
             BRIEF,
+            STATUSES,
             NEVER,
             ALWAYS,
             EXPLAIN,

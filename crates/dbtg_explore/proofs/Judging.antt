@@ -1,11 +1,10 @@
 -- Wishes: whether the turn after an order breaks one depends on the state alone, so the first that is found is the first of all.
 -- m is a meeting, w a wish, h and g are histories, o, p and q are orders, i, j and k places among the orders that are found.
 use Rattle.std.proofs.Common.{◌≡◌, refl, sym, ◌∙◌, ap, subst, ℕ, ◌+◌, ◌<◌, ◌≤◌, Bool, true, false, ◌&&◌, List, [], ◌∷◌, ◌++◌, length, length-append, get_or, Option, None, Some, arith, inl, inr}
-use Rattle.std.specs.Prelude.{◌==◌, is_some, not, option_and_then, option_map}
+use Rattle.std.specs.Prelude.{◌==◌, is_some, not, option_and_then, option_map, unwrap_or}
 use Rattle.std.proofs.lemmas.Bool.{cases_lt, true≢false}
 use Rattle.std.proofs.lemmas.List.{get_or_append_left, get_or_default, same_from_push}
 use Rattle.std.proofs.lemmas.List.Elements.{Contains-get_or}
-use Rattle.dbtg_schema.specs.Lookups.{some_and}
 use Rattle.dbtg_unit.specs.declared.statement.Statement.{Statement}
 use Rattle.dbtg_unit.specs.declared.unit.Answer.{Answer}
 use Rattle.dbtg_unit.specs.declared.unit.Entry.{Entry}
@@ -24,14 +23,15 @@ use Rattle.dbtg_explore.specs.declared.wishes.Wish.{Wish}
 use Rattle.dbtg_explore.specs.Counted.{counted}
 use Rattle.dbtg_explore.specs.Inside.Parts.{IsNumberOf}
 use Rattle.dbtg_explore.specs.Inside.Search.{HasFirst}
-use Rattle.dbtg_explore.specs.Inside.Standing.{said, turns_in}
+use Rattle.dbtg_explore.specs.Inside.Standing.{line_in, line_of, said, turns_in}
 use Rattle.dbtg_explore.specs.Inside.Steps.{IsAt, can_follow}
 use Rattle.dbtg_explore.specs.Inside.Walks.{StandsAt, order_of}
-use Rattle.dbtg_explore.specs.Inside.Wishes.{HoldsBefore, is_next, line_of, stands_there}
+use Rattle.dbtg_explore.specs.Inside.Wishes.{HoldsBefore, is_next}
 use Rattle.dbtg_explore.specs.Laws.{answer_of}
 use Rattle.dbtg_explore.specs.Orders.{IsNoLater, IsOrder, Meeting, after_turn, beginning, can_turn, due_of, history_of, waits}
+use Rattle.dbtg_explore.specs.Replies.{MakesLast, due_line, line_due, status_of}
 use Rattle.dbtg_explore.specs.States.{Essence, essence, essence_of, sequential_after, state_after}
-use Rattle.dbtg_explore.specs.Wishes.{BreaksBy, HoldsSoFar, IsJudged, breaks, is_wished, stands_in}
+use Rattle.dbtg_explore.specs.Wishes.{BreaksBy, HoldsSoFar, IsJudged, breaks}
 use Rattle.dbtg_explore.proofs.Alike.{answer_alike, can_turn_alike, comes_at, due_alike, due_there}
 use Rattle.dbtg_explore.proofs.Before.{no_later_push, no_later_trans}
 use Rattle.dbtg_explore.proofs.Counted.{counted_at, counted_by}
@@ -45,9 +45,9 @@ module _ (m : Meeting) where
   -- WHICH STATEMENT
 
   -- what counts of a program says in which line its statement stands
-  stands_counted : (line : ℕ) (p : Program) (d : Due) → stands_in line p (counted p d) ≡ stands_in line p d
-  stands_counted line p (due x s) = refl
-  stands_counted line p (ended x how) = refl
+  line_counted : (p : Program) (d : Due) → due_line p (counted p d) ≡ due_line p d
+  line_counted p (due x s) = refl
+  line_counted p (ended x how) = refl
 
   counted_there : (h : List Entry) (u : ℕ) → unit_at (essence m (state_after m h)).programs u ≡ option_map (λ (p : Program). counted p (comes m.schema p u h)) (unit_at m.programs u)
   counted_there h u = counted_at m.programs (state_after m h).programs u ∙ ap (option_map (counted_by (unit_at m.programs u))) (comes_at m h u) ∙ by (unit_at m.programs u) where
@@ -55,15 +55,15 @@ module _ (m : Meeting) where
     by None = refl
     by (Some p) = refl
 
-  pub wished_alike : (w : Wish) (h g : List Entry) → essence m (state_after m h) ≡ essence m (state_after m g) → is_wished m w h ≡ is_wished m w g
-  wished_alike w h g e =
-      by (unit_at m.programs w.unit) (sym (counted_there h w.unit) ∙ ap (λ (s : Essence). unit_at s.programs w.unit) e ∙ counted_there g w.unit) where
-        by : (o : Option Program) → option_map (λ (p : Program). counted p (comes m.schema p w.unit h)) o ≡ option_map (λ (p : Program). counted p (comes m.schema p w.unit g)) o
-            → some_and (λ (p : Program). stands_in w.line p (comes m.schema p w.unit h)) o ≡ some_and (λ (p : Program). stands_in w.line p (comes m.schema p w.unit g)) o
+  pub line_alike : (u : ℕ) (h g : List Entry) → essence m (state_after m h) ≡ essence m (state_after m g) → line_due m h u ≡ line_due m g u
+  line_alike u h g e =
+      by (unit_at m.programs u) (sym (counted_there h u) ∙ ap (λ (s : Essence). unit_at s.programs u) e ∙ counted_there g u) where
+        by : (o : Option Program) → option_map (λ (p : Program). counted p (comes m.schema p u h)) o ≡ option_map (λ (p : Program). counted p (comes m.schema p u g)) o
+            → unwrap_or (option_map (λ (p : Program). due_line p (comes m.schema p u h)) o) 0 ≡ unwrap_or (option_map (λ (p : Program). due_line p (comes m.schema p u g)) o) 0
         by None is = refl
         by (Some p) is =
-            let same : counted p (comes m.schema p w.unit h) ≡ counted p (comes m.schema p w.unit g) = cc (is) in
-            sym (stands_counted w.line p (comes m.schema p w.unit h)) ∙ ap (stands_in w.line p) same ∙ stands_counted w.line p (comes m.schema p w.unit g)
+            let same : counted p (comes m.schema p u h) ≡ counted p (comes m.schema p u g) = cc (is) in
+            sym (line_counted p (comes m.schema p u h)) ∙ ap (due_line p) same ∙ line_counted p (comes m.schema p u g)
 
   -- WHAT IT MAKES
 
@@ -131,51 +131,62 @@ module _ (m : Meeting) where
       let order : order_of old.turns.items ++ turn.unit ∷ [] ≡ o ++ u ∷ [] = λ i. here.order_is i ++ (is i).unit ∷ [] in
       record { is_order = subst (IsOrder m) order there.is_order; history_is = there.history_is ∙ ap (history_of m) order }
 
-  -- BEHIND AN ORDER
+  -- a statement is made alike behind orders that lead to the same state
+  pub record MakesAlike (u line : ℕ) (order : List ℕ) (e : Entry) : Type 0 where
+    pub made : MakesLast m u line order
+    pub status_is : status_of made.entry ≡ status_of e
 
-  module _ (w : Wish) where
-    -- a wish is broken alike behind orders that lead to the same state
-    pub breaks_alike : (q p : List ℕ) (b : BreaksBy m w q) → essence_of m p ≡ essence_of m b.before → IsOrder m p → BreaksBy m w (p ++ w.unit ∷ [])
-    breaks_alike q p b e is =
-        let u = w.unit in
-        let h = history_of m b.before in
-        let g = history_of m p in
-        let can : can_turn m g u ≡ true = can_turn_alike m g h u e ∙ last_can m b.before u (subst (IsOrder m) b.order_is b.is_order) in
-        let there : IsMade h u b.entry = made_there h u b.entry (sym (history_on m b.before u) ∙ ap (history_of m) (sym b.order_is) ∙ b.history_is) in
-        let here : IsMade g u b.entry = record { statement = due_alike m g h u e ∙ there.statement; answer = answer_alike m g h u e ∙ there.answer } in
-        let same = makes_same g u b.entry here in
-        record {
+  pub makes_alike : (u line : ℕ) (q p : List ℕ) (b : MakesLast m u line q) → essence_of m p ≡ essence_of m b.before → IsOrder m p → MakesAlike u line (p ++ u ∷ []) b.entry
+  makes_alike u line q p b e is =
+      let h = history_of m b.before in
+      let g = history_of m p in
+      let can : can_turn m g u ≡ true = can_turn_alike m g h u e ∙ last_can m b.before u (subst (IsOrder m) b.order_is b.is_order) in
+      let there : IsMade h u b.entry = made_there h u b.entry (sym (history_on m b.before u) ∙ ap (history_of m) (sym b.order_is) ∙ b.history_is) in
+      let here : IsMade g u b.entry = record { statement = due_alike m g h u e ∙ there.statement; answer = answer_alike m g h u e ∙ there.answer } in
+      let same = makes_same g u b.entry here in
+      record {
+        made = record {
           before = p;
           order_is = refl;
           is_order = order_on m p u is can;
-          wished = wished_alike w g h e ∙ b.wished;
+          line_is = line_alike u g h e ∙ b.line_is;
           entry = same.entry;
           history_is = history_on m p u ∙ same.history_is;
-          breaks_is = (λ i. breaks w (status_code (same.statement i) (same.answer i).status)) ∙ b.breaks_is;
-        }
+        };
+        status_is = λ i. status_code (same.statement i) (same.answer i).status;
+      }
+
+  -- BEHIND AN ORDER
+
+  module _ (w : Wish) where
+    pub breaks_alike : (q p : List ℕ) (b : BreaksBy m w q) → essence_of m p ≡ essence_of m b.made.before → IsOrder m p → BreaksBy m w (p ++ w.unit ∷ [])
+    breaks_alike q p b e is =
+        let alike = makes_alike w.unit w.line q p b.made e is in
+        record { made = alike.made; breaks_is = ap (breaks w) alike.status_is ∙ b.breaks_is }
 
     pub record IsNext (h : List Entry) : Type 0 where
       pub can : can_turn m h w.unit ≡ true
-      pub wished : is_wished m w h ≡ true
+      pub line_is : line_due m h w.unit ≡ w.line
 
     pub next_both : (h : List Entry) → is_next m w h ≡ true → IsNext h
     next_both h is = by (can_turn m h w.unit) refl is where
-      by : (b : Bool) → can_turn m h w.unit ≡ b → (b && is_wished m w h) ≡ true → IsNext h
-      by true can wished = record { can = can; wished = wished }
+      by : (b : Bool) → can_turn m h w.unit ≡ b → (b && line_due m h w.unit == w.line) ≡ true → IsNext h
+      by true can line = record { can = can; line_is = omega (arith, line) }
       by false cannot is_not = absurd (true≢false (sym is_not))
 
     -- what is before the last turn
-    before_is : (o : List ℕ) (b : BreaksBy m w (o ++ w.unit ∷ [])) → b.before ≡ o
-    before_is o b = let both = same_from_push o b.before w.unit w.unit b.order_is in sym both.0
+    before_is : (o : List ℕ) (b : BreaksBy m w (o ++ w.unit ∷ [])) → b.made.before ≡ o
+    before_is o b = let both = same_from_push o b.made.before w.unit w.unit b.made.order_is in sym both.0
 
     pub next_there : (o : List ℕ) → BreaksBy m w (o ++ w.unit ∷ []) → is_next m w (history_of m o) ≡ true
     next_there o b =
-        let can : can_turn m (history_of m o) w.unit ≡ true = last_can m o w.unit b.is_order in
-        let wished : is_wished m w (history_of m o) ≡ true = ap (λ p. is_wished m w (history_of m p)) (sym (before_is o b)) ∙ b.wished in
-        λ i. can i && wished i
+        let can : can_turn m (history_of m o) w.unit ≡ true = last_can m o w.unit b.made.is_order in
+        let line : line_due m (history_of m o) w.unit ≡ w.line = ap (λ p. line_due m (history_of m p) w.unit) (sym (before_is o b)) ∙ b.made.line_is in
+        let is : (line_due m (history_of m o) w.unit == w.line) ≡ true = omega (arith, line) in
+        λ i. can i && is i
 
-    pub made_last : (o : List ℕ) (b : BreaksBy m w (o ++ w.unit ∷ [])) → history_of m (o ++ w.unit ∷ []) ≡ history_of m o ++ b.entry ∷ []
-    made_last o b = b.history_is ∙ ap (λ p. history_of m p ++ b.entry ∷ []) (before_is o b)
+    pub made_last : (o : List ℕ) (b : BreaksBy m w (o ++ w.unit ∷ [])) → history_of m (o ++ w.unit ∷ []) ≡ history_of m o ++ b.made.entry ∷ []
+    made_last o b = b.made.history_is ∙ ap (λ p. history_of m p ++ b.made.entry ∷ []) (before_is o b)
 
     -- WHICH IS FIRST
 
@@ -188,10 +199,10 @@ module _ (m : Meeting) where
 
       -- an order that breaks it has a first order among those that are found, or comes after them
       module _ (q : List ℕ) (b : BreaksBy m w q) where
-        before_order : IsOrder m b.before
-        before_order = follow_front m (beginning m) b.before (w.unit ∷ []) (subst (IsOrder m) b.order_is b.is_order)
+        before_order : IsOrder m b.made.before
+        before_order = follow_front m (beginning m) b.made.before (w.unit ∷ []) (subst (IsOrder m) b.made.order_is b.made.is_order)
 
-        breaks_at : (first : HasFirst (essence_of m) os b.before) → BreaksBy m w (order_at first.is_found.0 ++ w.unit ∷ [])
+        breaks_at : (first : HasFirst (essence_of m) os b.made.before) → BreaksBy m w (order_at first.is_found.0 ++ w.unit ∷ [])
         breaks_at first =
             let here : order_at first.is_found.0 ≡ first.first = get_or_default os first.is_found.0 [] first.first first.is_found.1 ∙ first.is_found.2 in
             subst (λ p. BreaksBy m w (p ++ w.unit ∷ [])) (sym here) (breaks_alike q first.first b first.same (at.under_way.are_orders first.first first.is_found))
@@ -199,13 +210,13 @@ module _ (m : Meeting) where
         -- behind a place before which it holds no order breaks it earlier
         no_earlier : (k : ℕ) → k < length os → HoldsBefore m w os k → IsNoLater (order_at k ++ w.unit ∷ []) q
         no_earlier k low holds =
-            subst (IsNoLater (order_at k ++ w.unit ∷ [])) (sym b.order_is) (no_later_push (order_at k) b.before w.unit (elim (found_or_later (IsOrder m) (can_follow m) (essence_of m) (goes_on m) os s.edges.items i at.under_way b.before before_order) [
+            subst (IsNoLater (order_at k ++ w.unit ∷ [])) (sym b.made.order_is) (no_later_push (order_at k) b.made.before w.unit (elim (found_or_later (IsOrder m) (can_follow m) (essence_of m) (goes_on m) os s.edges.items i at.under_way b.made.before before_order) [
               | inl first ↦
                   let j = first.is_found.0 in
                   let here : order_at j ≡ first.first = get_or_default os j [] first.first first.is_found.1 ∙ first.is_found.2 in
                   elim (cases_lt j k) [
                     | inl early ↦ absurd (holds j early (breaks_at first))
-                    | inr le ↦ no_later_trans (order_at k) first.first b.before (subst (IsNoLater (order_at k)) here (no_later_place os k j at.under_way.in_order le first.is_found.1)) first.no_later
+                    | inr le ↦ no_later_trans (order_at k) first.first b.made.before (subst (IsNoLater (order_at k)) here (no_later_place os k j at.under_way.in_order le first.is_found.1)) first.no_later
                   ]
               | inr later ↦ inr (later.behind (order_at k) (Contains-get_or os k [] low))
             ]))
@@ -215,7 +226,7 @@ module _ (m : Meeting) where
 
       pub none_breaks : length os ≤ i → HoldsBefore m w os i → IsJudged m w None
       none_breaks through holds q b =
-          let first = all_found (IsOrder m) (can_follow m) (essence_of m) (goes_on m) os s.edges.items i through at.under_way b.before (before_order q b) in
+          let first = all_found (IsOrder m) (can_follow m) (essence_of m) (goes_on m) os s.edges.items i through at.under_way b.made.before (before_order q b) in
           let low = first.is_found.1 in
           holds first.is_found.0 (omega arith) (breaks_at q b first)
 
@@ -240,24 +251,24 @@ module _ (m : Meeting) where
 
 -- BY THE ARRAY OF A STATE
 
-module _ (m : Meeting) (kept : Numbers) (h : List Entry) (n : ℕ) (at : IsNumberOf m kept h n) (w : Wish) where
-  due_where : (b : Option Statement) → due_of m h w.unit ≡ b → can_turn m h w.unit ≡ true → (s : Statement) × (due_of m h w.unit ≡ Some s)
-  due_where None none can =
-      let cannot : can_turn m h w.unit ≡ false = ap (λ (o : Option Statement). is_some o && not (waits m h w.unit)) none in
+module _ (m : Meeting) (kept : Numbers) (h : List Entry) (n : ℕ) (at : IsNumberOf m kept h n) where
+  due_where : (u : ℕ) (b : Option Statement) → due_of m h u ≡ b → can_turn m h u ≡ true → (s : Statement) × (due_of m h u ≡ Some s)
+  due_where u None none can =
+      let cannot : can_turn m h u ≡ false = ap (λ (o : Option Statement). is_some o && not (waits m h u)) none in
       absurd (true≢false (sym can ∙ cannot))
-  due_where (Some s) some can = (s, some)
+  due_where u (Some s) some can = (s, some)
 
-  stands_is : can_turn m h w.unit ≡ true → stands_there m kept n w.unit w.line ≡ is_wished m w h
-  stands_is can =
-      let said_due = due_where (due_of m h w.unit) refl can in
-      let d = due_there m h w.unit said_due.0 said_due.1 in
-      let number = has_number m.programs w.unit d.program d.found in
-      let where_it_is : said kept n w.unit 3 ≡ d.at.at = at_is m kept h n at w.unit said_due.0 d number.0 number.1 in
-      (λ i. some_and (λ (p : Program). line_of p (where_it_is i) == w.line) (d.found i))
-      ∙ sym (ap (some_and (λ (p : Program). stands_in w.line p (comes m.schema p w.unit h))) d.found ∙ ap (stands_in w.line d.program) d.comes_is)
+  pub line_is : (u : ℕ) → can_turn m h u ≡ true → line_in m kept n u ≡ line_due m h u
+  line_is u can =
+      let said_due = due_where u (due_of m h u) refl can in
+      let d = due_there m h u said_due.0 said_due.1 in
+      let number = has_number m.programs u d.program d.found in
+      let where_it_is : said kept n u 3 ≡ d.at.at = at_is m kept h n at u said_due.0 d number.0 number.1 in
+      (λ i. unwrap_or (option_map (λ (p : Program). line_of p (where_it_is i)) (d.found i)) 0)
+      ∙ sym (ap (λ (o : Option Program). unwrap_or (option_map (λ (p : Program). due_line p (comes m.schema p u h)) o) 0) d.found ∙ ap (due_line d.program) d.comes_is)
 
-  pub next_is : (turns_in m kept n w.unit && stands_there m kept n w.unit w.line) ≡ is_next m w h
-  next_is = ap (λ b. b && stands_there m kept n w.unit w.line) (turns_is m kept h n at w.unit) ∙ by (can_turn m h w.unit) refl where
-    by : (b : Bool) → can_turn m h w.unit ≡ b → (b && stands_there m kept n w.unit w.line) ≡ (b && is_wished m w h)
+  pub next_is : (w : Wish) → (turns_in m kept n w.unit && line_in m kept n w.unit == w.line) ≡ is_next m w h
+  next_is w = ap (λ b. b && line_in m kept n w.unit == w.line) (turns_is m kept h n at w.unit) ∙ by (can_turn m h w.unit) refl where
+    by : (b : Bool) → can_turn m h w.unit ≡ b → (b && line_in m kept n w.unit == w.line) ≡ (b && line_due m h w.unit == w.line)
     by false cannot = refl
-    by true can = stands_is can
+    by true can = ap (λ l. l == w.line) (line_is w.unit can)

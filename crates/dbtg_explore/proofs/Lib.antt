@@ -14,6 +14,7 @@ pub mod Failing
 pub mod Links
 pub mod Inserting
 pub mod Searched
+pub mod Noted
 pub mod Steps
 pub mod Noting
 pub mod Numbered
@@ -24,6 +25,7 @@ pub mod Next
 pub mod FirstFailures
 pub mod Visiting
 pub mod Judging
+pub mod Replying
 pub mod Rounding
 pub mod ForEver
 pub mod GoingRound

@@ -1,7 +1,7 @@
 -- The number of the state after a turn, where its transition is known.
 -- m is a meeting, h is a history, o an order, u a unit, t a transition, n and j are numbers of states.
 use Rattle.std.proofs.Common.{◌≡◌, sym, ◌∙◌, ap, subst, ℕ, ◌+◌, ◌-◌, true, false, List, [], ◌∷◌, ◌++◌, length, take, inl, inr}
-use Rattle.std.specs.Prelude.{All, Err, IfOk, Ok, Result}
+use Rattle.std.specs.Prelude.{All}
 use Rattle.std.specs.List.{list_any}
 use Rattle.std.proofs.lemmas.Bool.{false≢true, false_from_ne_true}
 use Rattle.dbtg_interned.specs.Arrays.{IsArray, elements}
@@ -21,12 +21,14 @@ use Rattle.dbtg_states.specs.Numbers.{AreNumbers, Grow, Numbers}
 use Rattle.dbtg_states.specs.Inside.Transitions.{Follow, IsLook, SayBefore}
 use Rattle.dbtg_states.specs.Transitions.{written}
 use Rattle.dbtg_states.proofs.States.Leads.{led_to, say_before}
+use Rattle.dbtg_explore.specs.declared.next_state.Next.{Next}
 use Rattle.dbtg_explore.specs.declared.next_state.Seen as given
 use Rattle.dbtg_explore.specs.declared.search.Search as search
 use Rattle.dbtg_explore.specs.Orders.{Meeting, history_of}
 use Rattle.dbtg_explore.specs.States.{sequential_after}
 use Rattle.dbtg_explore.specs.Inside.Next.{IsFound, Reaches, RecordsStay, is_slot}
 use Rattle.dbtg_explore.specs.Inside.Parts.{IsNumberOf, cell_part, parts_of, unit_part}
+use Rattle.dbtg_explore.specs.Inside.Replies.{status_due}
 use Rattle.dbtg_explore.specs.Inside.Standing.{is_kept_beside}
 use Rattle.dbtg_explore.specs.Inside.Transitions.{AreSeen, SlotsStay}
 use Rattle.dbtg_explore.specs.Inside.Walks.{AreStanding}
@@ -62,31 +64,36 @@ module _ (m : Meeting) (seen : given.Seen) (kept : Numbers) (o : List ℕ) (n u 
   say : SayBefore kept.contents (parts_of m (history_of m o)) t.looks
   say = say_before (parts_of m (history_of m o)) kept t.looks n known_looks at.number found.before
 
-  follow : Follow kept.contents (parts_of m (history_of m o)) (parts_of m (history_of m (o ++ u ∷ []))) t.looks
-  follow =
-      subst (λ v. Follow kept.contents (parts_of m (history_of m o)) (parts_of m (history_of m (o ++ v ∷ []))) t.looks) found.unit
+  -- it follows there, and its statement gets the status
+  abbrev Leads : ℕ → Type 0
+  Leads v = Follow kept.contents (parts_of m (history_of m o)) (parts_of m (history_of m (o ++ v ∷ []))) t.looks × (t.status ≡ status_due m (history_of m o) v)
+
+  leads : Leads u
+  leads =
+      subst Leads found.unit
       (elim found.known [
         | inl plain ↦ (are.plain t plain).leads o (λ h. absurd (false≢true h)) say
         | inr changing ↦ (are.changing t changing.0).leads o (λ h. keeps_alone m kept (history_of m o) n at t.unit (subst (λ v. is_kept_beside m kept n v ≡ false) (sym found.unit) changing.1)) say
       ])
 
+  pub known_status : t.status ≡ status_due m (history_of m o) u
+  known_status = leads.1
+
   pub known_number : (new : Numbers) (j : ℕ) → AreNumbers new → Grow kept new → IsArray new.arrays j → elements new.arrays j ≡ written t.looks (elements kept.arrays n) → IsNumberOf m new (history_of m (o ++ u ∷ [])) j
   known_number new j once keeps is_array wrote =
       let there = history_of m (o ++ u ∷ []) in
-      record { number = led_to (parts_of m (history_of m o)) kept t.looks n known_looks at.number (unit_part m there) (cell_part m there) new j follow once keeps is_array wrote }
+      record { number = led_to (parts_of m (history_of m o)) kept t.looks n known_looks at.number (unit_part m there) (cell_part m there) new j leads.0 once keeps is_array wrote }
 
 -- REACHED
 
-pub reaches : (m : Meeting) (o : List ℕ) (old new : search.Search) (kept : Numbers) (n : ℕ) → new.found ≡ old.found → new.edges.items ≡ old.edges.items → new.numbers ≡ kept → IsNumberOf m kept (history_of m o) n → Grow old.numbers kept → AreSeen m kept.contents new.seen → Reaches m o old new n
-reaches m o old new kept n found_is edges_are numbers_is number keeps seen = record {
-  number = subst (λ (k : Numbers). IsNumberOf m k (history_of m o) n) (sym numbers_is) number;
+pub reaches : (m : Meeting) (o : List ℕ) (u : ℕ) (old new : search.Search) (kept : Numbers) (next : Next) → new.found ≡ old.found → new.edges.items ≡ old.edges.items → new.replies ≡ old.replies
+    → new.numbers ≡ kept → IsNumberOf m kept (history_of m (o ++ u ∷ [])) next.state → next.status ≡ status_due m (history_of m o) u → Grow old.numbers kept → AreSeen m kept.contents new.seen → Reaches m o u old new next
+reaches m o u old new kept next found_is edges_are replies_are numbers_is number status_is keeps seen = record {
+  number = subst (λ (k : Numbers). IsNumberOf m k (history_of m (o ++ u ∷ [])) next.state) (sym numbers_is) number;
+  status_is = status_is;
   keeps = subst (Grow old.numbers) (sym numbers_is) keeps;
   seen = subst (λ (k : Numbers). AreSeen m k.contents new.seen) (sym numbers_is) seen;
   found_is = found_is;
   edges_are = edges_are;
+  replies_are = replies_are;
 }
-
--- what is so of a result in four ways
-pub if_ok_four : {T E : Type 0} (r : Result T E) (A B C D P : T → Type 0) → ((x : T) → A x → B x → C x → D x → P x) → IfOk r A → IfOk r B → IfOk r C → IfOk r D → IfOk r P
-if_ok_four (Ok x) A B C D P f a b c d = f x a b c d
-if_ok_four (Err e) A B C D P f a b c d = tt

@@ -1,7 +1,7 @@
 -- What was seen once of a turn is so wherever the same is looked at.
 -- m is a meeting, h and g are histories, o and q orders, u and v units, x is a statement, t a transition, c the name of a cell.
 use Rattle.std.proofs.Common.{◌≡◌, refl, sym, ◌∙◌, ap, subst, ℕ, zero, suc, ◌+◌, ◌-◌, ◌<◌, ◌≤◌, Bool, true, false, List, [], ◌∷◌, ◌++◌, length, Option, Some, None, inl, inr, ⊎_elim, arith, map, slice_get}
-use Rattle.std.specs.Prelude.{◌≢◌, is_some, option_and_then, option_map, slice_set}
+use Rattle.std.specs.Prelude.{◌≢◌, is_some, option_and_then, option_map, slice_set, unwrap_or}
 use Rattle.std.proofs.lemmas.Bool.{cases_Bool, false_from_ne_true}
 use Rattle.std.proofs.lemmas.Option.{same_Some, slice_get_within}
 use Rattle.dbtg_interned.specs.Kept.{Keeps}
@@ -16,6 +16,7 @@ use Rattle.dbtg_unit.specs.declared.unit.Entry.{Entry}
 use Rattle.dbtg_unit.specs.declared.unit.Unit.{Unit}
 use Rattle.dbtg_unit.specs.Database.State.Base.{Database}
 use Rattle.dbtg_unit.specs.Database.State.Cells.{cell}
+use Rattle.dbtg_unit.specs.Database.Statements.Codes.{status_code}
 use Rattle.dbtg_unit.specs.Database.Statements.Effect.{StatementEffect, effect}
 use Rattle.dbtg_unit.specs.Database.Statements.Fits.{fits}
 use Rattle.dbtg_unit.specs.Database.Laws.Replay.{State, after, effect_of_unit}
@@ -37,10 +38,12 @@ use Rattle.dbtg_states.proofs.States.Leads.{WasSeen, follow_later, follows, look
 use Rattle.dbtg_states.proofs.States.InHand.{held_in, in_held}
 use Rattle.dbtg_explore.specs.declared.next_state.Seen as given
 use Rattle.dbtg_explore.specs.Counted.{counted}
+use Rattle.dbtg_explore.specs.Laws.{answer_of}
 use Rattle.dbtg_explore.specs.Orders.{IsMeeting, Meeting, due_of, history_of}
 use Rattle.dbtg_explore.specs.States.{MeetingState, sequential_after, state_of}
 use Rattle.dbtg_explore.specs.Versions.{unversioned, unversioned_entry, unversioned_unit}
 use Rattle.dbtg_explore.specs.Inside.Parts.{cell_part, kept_count, parts_of, unit_part}
+use Rattle.dbtg_explore.specs.Inside.Replies.{status_due}
 use Rattle.dbtg_explore.specs.Inside.Transitions.{AreKnown, AreSeen, IsKnown, IsPassage, IsTransition, KeepsAlone, SlotsStay}
 use Rattle.dbtg_explore.proofs.Alike.{IsDueOf, comes_at, comes_same, comes_then, due_by as due_in_state, due_is, due_there, programs_then, state_of_on, with_made, with_outcome}
 use Rattle.dbtg_explore.proofs.Counted.{counted_due}
@@ -102,6 +105,15 @@ module _ (m : Meeting) (p : List ℕ) (u : ℕ) (x : Statement) (unit : Unit) (l
 
   its_effect : effect_of_unit m.schema m.capacity (state_of m p).sequential u x ≡ Some outcome
   its_effect = ap (option_map (λ (v : Unit). effect m.schema m.capacity (state_of m p).sequential.database v x)) (unit_is (state_of m p).sequential u low ∙ stands)
+
+  -- its answer
+  pub its_answer : answer_of m (history_of m p) u ≡ Some outcome.answer
+  its_answer =
+      let by = λ (o : Option StatementEffect). option_map (λ (r : StatementEffect). r.answer) o in
+      ap (option_and_then (λ (s : Statement). by (effect_of_unit m.schema m.capacity (sequential_after m (history_of m p)) u s))) due ∙ ap by its_effect
+
+  its_status : status_due m (history_of m p) u ≡ status_code x outcome.answer.status
+  its_status = λ i. unwrap_or (option_and_then (λ (s : Statement). option_map (λ (a : Answer). status_code s a.status) (its_answer i)) (due i)) 0
 
   then_is : state_of m (p ++ u ∷ []) ≡ with_outcome m (state_of m p) u (Some outcome)
   then_is =
@@ -292,18 +304,27 @@ module _ (m : Meeting) (determines : LookedAtDetermines) (is : IsMeeting m) (kep
       other_cell : (c : CellName) → (In c names → ⊥) → cell_part m g' c ≡ cell_part m g c
       other_cell c apart = cell_then m q u x own low its' stands' due' c ∙ lead.others c (false_from_ne_true (holds once.hands.cells c) (λ held. apart (held_named c held)))
 
+      -- and the statement gets the same status
+      status_then : passage.status ≡ status_due m g u
+      status_then =
+          passed.status_is ∙ its_status m o u x unit low its stands passed.looks_at.due ∙ ap (λ (a : Answer). status_code x a.status) lead.answer
+          ∙ sym (its_status m q u x own low its' stands' due')
+
       leads : Follow kept.contents (parts_of m g) (parts_of m g') t.looks
       leads = follows _ _ _ _ _ _ _ was_seen (unit_part m g) (cell_part m g) say (unit_part m g') (cell_part m g') part_then cell_same_then (λ v _ apart. other_part v apart) other_cell
 
   -- so it leads wherever the same is looked at
-  is_transition : IsTransition m kept.contents changing u t.looks
+  is_transition : IsTransition m kept.contents changing u passage.status t.looks
   is_transition q alone say =
       let unit = its_unit o in
       let own = its_unit q in
-      leads q alone say unit.0 own.0 unit.1 own.1
+      (leads q alone say unit.0 own.0 unit.1 own.1, status_then q alone say unit.0 own.0 unit.1 own.1)
+
+  leads_so : IsTransition m kept.contents changing t.unit t.status t.looks
+  leads_so = subst (λ v. IsTransition m kept.contents changing v t.status t.looks) (sym of.unit_is) (subst (λ k. IsTransition m kept.contents changing u k t.looks) (sym of.status_is) is_transition)
 
   is_known : IsKnown m kept.contents changing t
-  is_known = record { looks = looks_are _ _ _ _ _ _ _ was_seen; leads = subst (λ v. IsTransition m kept.contents changing v t.looks) (sym of.unit_is) is_transition }
+  is_known = record { looks = looks_are _ _ _ _ _ _ _ was_seen; leads = leads_so }
 
 -- what is kept of a passage beside what was known is known
 pub known_more : (m : Meeting) → LookedAtDetermines → IsMeeting m → (kept : Numbers) (o : List ℕ) (names : List CellName) (changing : Bool) (passage : Passage) → IsPassage m kept o names changing passage → (old new : List Transition)
@@ -322,7 +343,7 @@ module _ (m : Meeting) (old new : List (List ℕ)) (keeps : Keeps old new) where
         looks = looks_later old new keeps count t.looks known.looks;
         leads = λ q alone say.
             let lead = known.leads q alone (said_before old new keeps count t.looks known.looks (parts_of m (history_of m q)) say) in
-            follow_later old new keeps count t.looks known.looks (parts_of m (history_of m q)) (parts_of m (history_of m (q ++ t.unit ∷ []))) lead;
+            (follow_later old new keeps count t.looks known.looks (parts_of m (history_of m q)) (parts_of m (history_of m (q ++ t.unit ∷ []))) lead.0, lead.1);
       }
 
   pub seen_later : (seen : given.Seen) → AreSeen m old seen → AreSeen m new seen

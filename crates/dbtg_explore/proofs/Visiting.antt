@@ -24,6 +24,7 @@ use Rattle.dbtg_explore.specs.Inside.Steps.{Goes, IsAt, can_follow}
 use Rattle.dbtg_explore.specs.Inside.Visits.{HasVisited, IsThrough, IsVisited}
 use Rattle.dbtg_explore.specs.Orders.{IsBefore, IsEnd, IsNoLater, IsOrder, Meeting, history_of}
 use Rattle.dbtg_explore.specs.Pairwise.{ArePairwise}
+use Rattle.dbtg_explore.specs.Replies.{AreReplies}
 use Rattle.dbtg_explore.specs.Results.{AreFailures, AreResults, FailsBefore, is_failure}
 use Rattle.dbtg_explore.specs.States.{CountsStates, Essence, MeetingState, essence, essence_of, state_of}
 use Rattle.dbtg_explore.proofs.Alike.{can_go_on_alike}
@@ -183,10 +184,11 @@ module _ (m : Meeting) where
       }
 
     -- so everything is explored, except for ways round
-    pub is_explored : (all : given.Explored) → all.states ≡ length s.found.orders → all.results ≡ orders_at s.found.orders e.results.places → AreFirst m s.found.orders e.failures.items all.failures → IsFirstEndless m all.endless → IsExplored m all
-    is_explored all states_are results_are are_first endless = record {
+    pub is_explored : (all : given.Explored) → all.states ≡ length s.found.orders → all.results ≡ orders_at s.found.orders e.results.places → AreFirst m s.found.orders e.failures.items all.failures → IsFirstEndless m all.endless → AreReplies m all.replies → IsExplored m all
+    is_explored all states_are results_are are_first endless replies = record {
       states = subst (CountsStates m) (sym states_are) counts;
       results = subst (AreResults m) (sym results_are) are_results;
       failures = are_failures all.failures are_first;
       endless = endless;
+      replies = replies;
     }

@@ -7,6 +7,7 @@ pub mod Keys
 pub mod Links
 pub mod Next
 pub mod Parts
+pub mod Replies
 pub mod Search
 pub mod Standing
 pub mod Steps

@@ -3,6 +3,7 @@ pub mod Explored
 pub mod Laws
 pub mod Orders
 pub mod Pairwise
+pub mod Replies
 pub mod Results
 pub mod States
 pub mod Versions

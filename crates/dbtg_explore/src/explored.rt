@@ -12,6 +12,7 @@ ghost use Rattle.std.specs.Prelude.{◌≡◌, ◌≤◌, ◌<◌, [], length, s
 use crate::endless::endless_in;
 use crate::ends::Ends;
 use crate::meeting::Meeting;
+use crate::replies::{Reply, replies_in_order};
 use crate::search::Search;
 use crate::walk::Walk;
 use dbtg_program::End;
@@ -40,14 +41,15 @@ pub struct Endless {
     pub round: Row<u8>,
 }
 
-/// Everything that programs can come to: how many states there are, the turns that lead to each result, the failures, and a way round if
-/// there is one.
+/// Everything that programs can come to: how many states there are, the turns that lead to each result, the failures, a way round if there
+/// is one, and what their statements are answered.
 #[derive(Drop)]
 pub struct Explored {
     pub states: u64,
     pub results: Row<Row<u8>>,
     pub failures: Row<FirstFailure>,
     pub endless: Option<Endless>,
+    pub replies: Row<Reply>,
 }
 
 impl Search {
@@ -143,12 +145,14 @@ fn explored_by<'a, W: Watch>(
     let states = search.found.len() as u64;
     let results = results.orders(alloc, &search.found)?;
     let failures = search.first_failures(alloc, meeting, failures.as_slice())?;
+    let replies = replies_in_order(alloc, &search.replies)?;
     let endless = endless_in(alloc, search)?;
     Ok(Explored {
         states,
         results,
         failures,
         endless,
+        replies,
     })
 }
 

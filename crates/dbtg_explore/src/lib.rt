@@ -15,6 +15,7 @@ mod next_state;
 mod numbering;
 mod orders;
 mod reads;
+mod replies;
 mod search;
 mod standing;
 mod text;
@@ -30,5 +31,6 @@ pub use laws::{
     going_on_for_ever_goes_round, versions_are_no_state, what_counts_is_all,
 };
 pub use meeting::Meeting;
+pub use replies::Reply;
 pub use told::told_text;
-pub use wishes::{Wish, broken_turns, is_there};
+pub use wishes::{Wish, broken_turns, is_statement, is_there};

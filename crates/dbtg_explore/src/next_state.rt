@@ -18,6 +18,13 @@ use dbtg_cells::CellName;
 use dbtg_states::{Numbers, Passage, Transition, Transitions, what_is_looked_at_determines};
 use std::alloc::{AllocError, Global};
 
+/// The number of the state after a turn, and the status that its statement got.
+#[derive(Clone, Copy)]
+pub struct Next {
+    pub state: u32,
+    pub status: u16,
+}
+
 /// Transitions of statements that were made. What a statement did that changed no record it does wherever it looks at the same. One that
 /// changed a record can change what is told of a unit that keeps it; what it did it does where no other unit keeps a record.
 pub struct Seen {
@@ -139,7 +146,7 @@ impl Search {
         }
     }
 
-    // The number of the state to which the unit's turn leads where the order at this place leads: its statement is made.
+    // The state to which the unit's turn leads where the order at this place leads: its statement is made.
     fn made_state<'a>(
         &mut self,
         alloc: Global,
@@ -147,35 +154,38 @@ impl Search {
         place: usize,
         walk: &mut Walk<'a>,
         unit: u8,
-    ) -> Result<u32, AllocError>
+    ) -> Result<Next, AllocError>
         requires meeting { IsMeeting meeting.now }
         requires at { IsAt meeting.now place unit self.old }
         requires within { place < length self.old.found.orders }
         requires stands { StandsAmong meeting.now self.old.found.orders walk.old }
         requires turn { can_turn meeting.now (history_of meeting.now (slice_index_or self.old.found.orders place [])) unit ≡ true }
         ensures stands { OnOk result (StandsAmong meeting.now self.new.found.orders walk.new) }
-        ensures reaches { IfOk result (Reaches meeting.now (slice_index_or self.old.found.orders place [] ++ unit ∷ []) self.old self.new) }
+        ensures reaches { IfOk result (Reaches meeting.now (slice_index_or self.old.found.orders place []) unit self.old self.new) }
     {
         meeting.go_to(alloc, walk, &self.found, place)?;
         let names = meeting.cells_at(alloc, walk, unit)?;
         let before = self.found.number(place);
         let turn = Link::new(place, unit)?;
         let after = meeting.number_after(alloc, walk, turn, &mut self.numbers, before)?;
+        let status = walk.last_status();
         if let Some(names) = names {
             let changing = has_changed_record(walk);
             let passage = Passage {
                 unit,
                 before,
                 after,
-                // Not asked for.
-                status: 0,
+                status,
             };
             self.remember(alloc, meeting, passage, names.as_slice(), changing)?;
         }
-        Ok(after)
+        Ok(Next {
+            state: after,
+            status,
+        })
     }
 
-    /// The number of the state to which the unit's turn leads where the order at this place leads. The statement is made only if what it
+    /// The state to which the unit's turn leads where the order at this place leads. The statement is made only if what it
     /// looks at was not looked at before.
     pub(crate) fn next_state<'a>(
         &mut self,
@@ -184,18 +194,23 @@ impl Search {
         place: usize,
         walk: &mut Walk<'a>,
         unit: u8,
-    ) -> Result<u32, AllocError>
+    ) -> Result<Next, AllocError>
         requires meeting { IsMeeting meeting.now }
         requires at { IsAt meeting.now place unit self.old }
         requires within { place < length self.old.found.orders }
         requires stands { StandsAmong meeting.now self.old.found.orders walk.old }
         requires turn { can_turn meeting.now (history_of meeting.now (slice_index_or self.old.found.orders place [])) unit ≡ true }
         ensures stands { OnOk result (StandsAmong meeting.now self.new.found.orders walk.new) }
-        ensures reaches { IfOk result (Reaches meeting.now (slice_index_or self.old.found.orders place [] ++ unit ∷ []) self.old self.new) }
+        ensures reaches { IfOk result (Reaches meeting.now (slice_index_or self.old.found.orders place []) unit self.old self.new) }
     {
         let state = self.found.number(place);
         match self.seen.find(meeting, &self.numbers, state, unit) {
-            Some(known) => self.numbers.put_looks(alloc, state, known.looks.as_slice()),
+            Some(known) => {
+                let status = known.status;
+                let looks = known.looks.as_slice();
+                let state = self.numbers.put_looks(alloc, state, looks)?;
+                Ok(Next { state, status })
+            }
             None => self.made_state(alloc, meeting, place, walk, unit),
         }
     }

@@ -8,19 +8,22 @@ ghost use Rattle.std.specs.Prelude.{◌≡◌, ◌+◌, ◌<◌, [], true, lengt
 
 use crate::known::Known;
 use crate::meeting::Meeting;
-use crate::next_state::Seen;
+use crate::next_state::{Next, Seen};
+use crate::replies::{Reply, enter_reply};
 use crate::walk::Walk;
 use dbtg_rounds::Edge;
 use dbtg_states::Numbers;
 use std::alloc::{AllocError, Global};
+use std::collections::BTreeSet;
 
-/// The first order to each state that is found, the numbers of states, and the turns from state to state.
+/// The first order to each state that is found, the numbers of states, the turns from state to state, and what statements were answered.
 #[derive(Drop)]
 pub struct Search {
     pub found: Known,
     pub numbers: Numbers,
     pub seen: Seen,
     pub edges: Vec<Edge>,
+    pub replies: BTreeSet<Reply>,
 }
 
 impl Search {
@@ -38,6 +41,7 @@ impl Search {
             numbers,
             seen: Seen::none(alloc),
             edges: Vec::new(alloc),
+            replies: BTreeSet::new(alloc),
         })
     }
 
@@ -58,8 +62,10 @@ impl Search {
         ensures stands { OnOk result (StandsAmong meeting.now self.new.found.orders walk.new) }
         ensures goes { OnOk result (Goes meeting.now place (unit + 1) self.old self.new) }
     {
-        let number = self.next_state(alloc, meeting, place, walk, unit)?;
-        let to = self.found.enter(number, place, unit)?;
+        let line = meeting.line(&self.numbers, self.found.number(place), unit);
+        let Next { state, status } = self.next_state(alloc, meeting, place, walk, unit)?;
+        enter_reply(&mut self.replies, Reply { unit, line, status })?;
+        let to = self.found.enter(state, place, unit)?;
         self.edges.push(Edge::new(place, unit, to)?)?;
         Ok(())
     }

@@ -1,13 +1,13 @@
-//! What the array of a state says of its programs: which of them can go on, and how they have failed.
+//! What the array of a state says of its programs: which of them can go on, in which lines they stand, and how they have failed.
 
-ghost use Rattle.dbtg_explore.specs.Inside.Standing.{fails_in, failure_of, goes_on_in, is_kept_beside, is_over_in, keeps_beside, said, turns_in, waits_in};
+ghost use Rattle.dbtg_explore.specs.Inside.Standing.{fails_in, failure_of, goes_on_in, is_kept_beside, is_over_in, keeps_beside, line_in, line_of, said, turns_in, waits_in};
 ghost use Rattle.dbtg_explore.specs.Orders.{IsMeeting};
 ghost use Rattle.dbtg_interned.specs.Arrays.{IsArray};
 ghost use Rattle.std.specs.List.{list_any, range_with_len};
 ghost use Rattle.std.specs.Prelude.{◌≡◌, ◌<◌, length};
 
 use crate::meeting::Meeting;
-use dbtg_program::End;
+use dbtg_program::{End, Program};
 use dbtg_states::Numbers;
 
 /// The number at this place of what the array of a state says of a unit; 0 if it says nothing there.
@@ -29,6 +29,16 @@ fn keeps_beside(numbers: &Numbers, state: u32, unit: u8, other: u8) -> bool
     ensures { result ≡ keeps_beside numbers.now state unit other }
 {
     other != unit && said(numbers, state, other, 0) != 0
+}
+
+// The number of the line of the sentence at this place, from 0; 0 behind the last.
+fn line_of(program: &Program, at: u64) -> u64
+    ensures { result ≡ line_of program.now at }
+{
+    match program.lines.get(at as usize) {
+        Some(line) => line.number,
+        None => 0,
+    }
 }
 
 impl<'a> Meeting<'a> {
@@ -73,6 +83,18 @@ impl<'a> Meeting<'a> {
         ensures { result ≡ turns_in self.now numbers.now state unit }
     {
         self.goes_on(numbers, state, unit) && !self.waits(numbers, state, unit)
+    }
+
+    /// The line in which the statement of the unit stands, if it can go on.
+    pub(crate) fn line(&self, numbers: &Numbers, state: u32, unit: u8) -> u64
+        requires array { IsArray numbers.now.arrays state }
+        requires numbered { 0 < unit }
+        ensures { result ≡ line_in self.now numbers.now state unit }
+    {
+        match self.programs.get(unit as usize - 1) {
+            Some(program) => line_of(program, said(numbers, state, unit, 3)),
+            None => 0,
+        }
     }
 
     /// Can no program go on?

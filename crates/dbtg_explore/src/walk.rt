@@ -4,8 +4,10 @@
 ghost use Rattle.dbtg_explore.specs.Inside.Links.{units_of};
 ghost use Rattle.dbtg_explore.specs.Inside.Walks.{AreStanding, HasTurned, Stands, StandsAmong, StandsAt, links_of, order_of};
 ghost use Rattle.dbtg_explore.specs.Orders.{CanFollow, IsMeeting, IsOrder, Meeting as MeetingOfPrograms, can_turn, due_of};
+ghost use Rattle.dbtg_explore.specs.Replies.{status_of};
 ghost use Rattle.dbtg_step.specs.Machine.SequentialDatabase.{unit_at, with_unit_at};
-ghost use Rattle.std.specs.Prelude.{◌≡◌, ◌≤◌, ◌<◌, ◌-◌, ◌++◌, ◌∷◌, [], Some, true, length, slice_index_or, take, IfOk, OnOk};
+ghost use Rattle.dbtg_unit.specs.declared.unit.Entry.{Entry};
+ghost use Rattle.std.specs.Prelude.{◌≡◌, ◌≤◌, ◌<◌, ◌-◌, ◌++◌, ◌∷◌, [], List, Some, true, length, slice_index_or, take, IfOk, OnOk};
 
 use crate::known::Known;
 use crate::meeting::Meeting;
@@ -55,6 +57,16 @@ fn put_back(goings: &mut [Going], unit: u8, before: Going)
 }
 
 impl<'a> Walk<'a> {
+    /// The status that the statement of the last turn got; 0 if no statement was made.
+    pub(crate) fn last_status(&self) -> u16
+        ensures { (past : List Entry) (entry : Entry) → self.now.database.making.history ≡ past ++ entry ∷ [] → result ≡ status_of entry }
+    {
+        match self.database.database().history().last() {
+            Some(entry) => entry.answer.status.code(&entry.statement),
+            None => 0,
+        }
+    }
+
     // Takes back the last turn.
     fn take_back(&mut self)
         requires { (m : MeetingOfPrograms) × Stands m self.old }

@@ -2,25 +2,21 @@
 
 ghost use Rattle.dbtg_explore.specs.Inside.Steps.{IsAt};
 ghost use Rattle.dbtg_explore.specs.Inside.Walks.{StandsAmong, StandsAt};
-ghost use Rattle.dbtg_explore.specs.Inside.Wishes.{HoldsBefore, IsJudgedAt, is_next, line_of, stands_there};
+ghost use Rattle.dbtg_explore.specs.Inside.Wishes.{HoldsBefore, IsJudgedAt, is_next};
 ghost use Rattle.dbtg_explore.specs.Orders.{IsMeeting, history_of};
 ghost use Rattle.dbtg_explore.specs.States.{HasMoreStates};
 ghost use Rattle.dbtg_explore.specs.Wishes.{HoldsSoFar, IsJudged, breaks, is_statement, is_there};
-ghost use Rattle.dbtg_interned.specs.Arrays.{IsArray};
 ghost use Rattle.dbtg_states.specs.declared.stop.Stop.TheVariants.{States};
-ghost use Rattle.dbtg_unit.specs.declared.unit.Entry.{Entry};
-ghost use Rattle.dbtg_unit.specs.Database.Statements.Codes.{status_code};
 ghost use Rattle.std.specs.List.{list_any};
 ghost use Rattle.std.specs.Prelude.{◌≡◌, ◌==◌, ◌&&◌, ◌<◌, ◌++◌, ◌∷◌, [], ℕ, List, length, slice_index_or, IfErr, IfOk, OnOk};
 
 use crate::meeting::Meeting;
 use crate::orders::Link;
 use crate::search::Search;
-use crate::standing::said;
 use crate::walk::Walk;
-use dbtg_program::{Line, Program, Sentence};
+use dbtg_program::{Line, Sentence};
 use dbtg_schema::Row;
-use dbtg_states::{Numbers, Stop, Watch};
+use dbtg_states::{Stop, Watch};
 use std::alloc::{AllocError, Global};
 
 /// A wish for the statement in a line of a unit's program: that it never has this status, or always.
@@ -32,7 +28,8 @@ pub struct Wish {
     pub never: bool,
 }
 
-fn is_statement(sentence: &Sentence) -> bool
+/// Is the sentence a statement, which gets an answer?
+pub fn is_statement(sentence: &Sentence) -> bool
     ensures { result ≡ is_statement sentence.now }
 {
     matches!(sentence, Sentence::Statement(_) | Sentence::Filled(_))
@@ -43,28 +40,6 @@ fn has_statement(lines: &[Line], number: u64) -> bool
     ensures { result ≡ list_any (λ l. l.number == number && is_statement l.sentence) lines.now }
 {
     lines.iter().any(|line| line.number == number && is_statement(&line.sentence))
-}
-
-// The number of the line of the sentence at this place, from 0; 0 behind the last.
-fn line_of(program: &Program, at: u64) -> u64
-    ensures { result ≡ line_of program.now at }
-{
-    match program.lines.get(at as usize) {
-        Some(line) => line.number,
-        None => 0,
-    }
-}
-
-// By what the array of a state says, does the unit's program stand in this line if it can go on?
-fn stands_there(meeting: &Meeting, numbers: &Numbers, state: u32, unit: u8, line: u64) -> bool
-    requires array { IsArray numbers.now.arrays state }
-    requires numbered { 0 < unit }
-    ensures { result ≡ stands_there meeting.now numbers.now state unit line }
-{
-    match meeting.programs.get(unit as usize - 1) {
-        Some(program) => line_of(program, said(numbers, state, unit, 3)) == line,
-        None => false,
-    }
 }
 
 impl Wish {
@@ -88,17 +63,7 @@ impl Wish {
         let numbers = &search.numbers;
         let state = search.found.number(place);
         meeting.can_turn(numbers, state, self.unit)
-            && stands_there(meeting, numbers, state, self.unit, self.line)
-    }
-
-    // Does the statement that was made last break the wish?
-    fn is_broken(self, walk: &Walk) -> bool
-        ensures { (past : List Entry) (entry : Entry) → walk.now.database.making.history ≡ past ++ entry ∷ [] → result ≡ breaks self (status_code entry.statement entry.answer.status) }
-    {
-        match walk.database.database().history().last() {
-            Some(entry) => self.breaks(entry.answer.status.code(&entry.statement)),
-            None => false,
-        }
+            && meeting.line(numbers, state, self.unit) == self.line
     }
 
     // The turns of the order at this place and that of the unit, if it breaks the wish.
@@ -123,7 +88,7 @@ impl Wish {
         meeting.go_to(alloc, walk, &search.found, place)?;
         let turn = Link::new(place, self.unit)?;
         meeting.take_turn(alloc, walk, turn)?;
-        if !self.is_broken(walk) {
+        if !self.breaks(walk.last_status()) {
             return Ok(None);
         }
         let mut turns = search.found.order(alloc, place)?;

@@ -27,6 +27,7 @@ use Rattle.dbtg_explore.specs.declared.wishes.Wish.{Wish}
 use Rattle.dbtg_exploring.specs.declared.command.Said.{Said}
 use Rattle.dbtg_exploring.specs.declared.command.Said.TheVariants.{Listed, NoStatement, NoStatus}
 use Rattle.dbtg_exploring.specs.declared.setting.Exploring.{Exploring}
+use Rattle.dbtg_exploring.specs.Statuses.{listing_text}
 use Rattle.dbtg_exploring.specs.Texts.{AreTold}
 use Rattle.dbtg_exploring.specs.Wishes.{IsVerdict, verb_of}
 
@@ -49,19 +50,24 @@ Begins schema programs told asked begun =
 abbrev pub IsRunBefore : Lists → List Program → List ℕ → Exploring → ProgramRun → Type 0
 IsRunBefore schema programs told asked before = IsRunOf schema asked.capacity programs (turns_before asked.around (length programs) (Some told)) before
 
+-- the text lists what the statements of the programs are answered, or the results
+abbrev pub IsTextOf : Bool → Lists → List Program → List (List ℕ) → List ℕ → Exploring → Explored → List ℕ → Type 0
+IsTextOf true schema programs texts told asked all out = out ≡ listing_text asked.around programs texts told all
+IsTextOf false schema programs texts told asked all out = AreTold schema programs told asked all out
+
 -- the text lists what the programs of a meeting can come to, in no more states than the limit; the flag says whether a program fails, or the
 -- programs can go on for ever
-pub record IsExploration (schema : Lists) (programs : List Program) (told : List ℕ) (asked : Exploring) (m : Meeting) (printed : Printed) : Type 0 where
+pub record IsExploration (schema : Lists) (programs : List Program) (texts : List (List ℕ)) (told : List ℕ) (asked : Exploring) (m : Meeting) (printed : Printed) : Type 0 where
   pub all : Explored
   pub are_all : IsExplored m all
   pub within : all.states ≤ asked.limit
-  pub told_is : AreTold schema programs told asked all printed.text.items
+  pub told_is : IsTextOf asked.statuses schema programs texts told asked all printed.text.items
   pub failed_is : printed.failed ≡ (not (length all.failures == 0) || is_some all.endless)
 
 -- what is printed of a meeting: what it can come to, or whether the wish holds
-abbrev pub IsPrinted : Option Wish → Lists → List Program → List ℕ → Exploring → Meeting → Printed → Type 0
-IsPrinted None schema programs told asked m printed = IsExploration schema programs told asked m printed
-IsPrinted (Some w) schema programs told asked m printed = IsVerdict told w m printed
+abbrev pub IsPrinted : Option Wish → Lists → List Program → List (List ℕ) → List ℕ → Exploring → Meeting → Printed → Type 0
+IsPrinted None schema programs texts told asked m printed = IsExploration schema programs texts told asked m printed
+IsPrinted (Some w) schema programs texts told asked m printed = IsVerdict told w m printed
 
 -- there are more states than the limit, and the wish holds as far as they were searched
 abbrev pub IsUnknown : Option Wish → Meeting → ℕ → Type 0
@@ -87,17 +93,17 @@ abbrev pub IsTooLarge : Lists → List Program → List ℕ → Exploring → Fa
 IsTooLarge schema programs told asked fault = (begun : List ℕ) × Begins schema programs told asked begun × IsOver asked.wish (meeting_of schema programs asked begun) asked.limit fault
 
 -- nothing is printed if the first program does not end, and else what is asked for of the programs from there on
-abbrev pub IsListedIf : Bool → Lists → List Program → List ℕ → Exploring → Printed → Type 0
-IsListedIf true schema programs told asked printed = (printed.text.items ≡ []) × (printed.failed ≡ true)
-IsListedIf false schema programs told asked printed =
-    (begun : List ℕ) × Begins schema programs told asked begun × IsPrinted asked.wish schema programs told asked (meeting_of schema programs asked begun) printed
+abbrev pub IsListedIf : Bool → Lists → List Program → List (List ℕ) → List ℕ → Exploring → Printed → Type 0
+IsListedIf true schema programs texts told asked printed = (printed.text.items ≡ []) × (printed.failed ≡ true)
+IsListedIf false schema programs texts told asked printed =
+    (begun : List ℕ) × Begins schema programs told asked begun × IsPrinted asked.wish schema programs texts told asked (meeting_of schema programs asked begun) printed
 
 -- after the run of the turns before, beside which it is told of the first program
 pub record IsListed (schema : Lists) (programs : List Program) (texts : List (List ℕ)) (told : List ℕ) (asked : Exploring) (printed : Printed) : Type 0 where
   pub before : ProgramRun
   pub is_before : IsRunBefore schema programs told asked before
   pub beside_is : printed.beside.items ≡ told_of_first schema asked.capacity asked.around texts before
-  pub listed : IsListedIf (never_ends asked.around (length programs) before.programs) schema programs told asked printed
+  pub listed : IsListedIf (never_ends asked.around (length programs) before.programs) schema programs texts told asked printed
 
 -- what is said: there is no such statement, it cannot have the status, or what is printed
 abbrev pub IsSaid : Option Wish → Lists → List Program → List (List ℕ) → List ℕ → Exploring → Said → Type 0

@@ -1,5 +1,6 @@
 pub mod Texts
 pub mod Wishes
+pub mod Statuses
 pub mod Exploring
 pub mod Laws
 pub mod Inside

@@ -60,6 +60,7 @@ pub fn run_before(alloc: Global, setting: &Setting) -> Result<ProgramRun, AllocE
         programs,
         told,
         asked,
+        ..
     } = *setting;
     let turns = turns_before(alloc, asked.around, programs.len() as u8, told)?;
     // The first program's turns are among these.

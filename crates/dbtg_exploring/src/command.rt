@@ -5,7 +5,7 @@ ghost use Rattle.dbtg_command.specs.Sources.{ReadSchema};
 ghost use Rattle.dbtg_explore.specs.Explored.{IsExplored};
 ghost use Rattle.dbtg_explore.specs.Orders.{IsMeeting};
 ghost use Rattle.dbtg_explore.specs.Wishes.{IsJudged};
-ghost use Rattle.dbtg_exploring.specs.Exploring.{ExploresHeld, GivesUp, IsExploration, IsListed, IsListedIf, IsOver, IsPrinted, IsRunBefore, IsSaid, IsTooLarge, ToldOfExploring};
+ghost use Rattle.dbtg_exploring.specs.Exploring.{ExploresHeld, GivesUp, IsExploration, IsListed, IsListedIf, IsOver, IsPrinted, IsRunBefore, IsSaid, IsTextOf, IsTooLarge, ToldOfExploring};
 ghost use Rattle.dbtg_exploring.specs.Wishes.{IsVerdict};
 ghost use Rattle.dbtg_program.specs.Reading.{program};
 ghost use Rattle.dbtg_running.specs.Reading.{ReadPrograms};
@@ -27,7 +27,7 @@ use dbtg_running::{
 use dbtg_schema::{Row, Schema};
 use dbtg_states::{Stop, Watch};
 use dbtg_unit::LAST_UNIT;
-use std::alloc::Global;
+use std::alloc::{AllocError, Global};
 
 /// What `explore` says: what is printed, or why no wish is judged.
 #[derive(Drop)]
@@ -77,6 +77,21 @@ fn judged<W: Watch>(
     }
 }
 
+impl<'a> Setting<'a> {
+    // What is printed of everything that the programs can come to: what their statements are answered, or the results.
+    fn text_of(&self, alloc: Global, all: &Explored) -> Result<Vec<u8>, AllocError>
+        requires sound { IsSound self.now.schema.now }
+        requires few { length self.now.programs.now ≤ LAST_UNIT }
+        ensures { IfOk result (λ out. IsTextOf self.now.asked.statuses self.now.schema.now self.now.programs.now self.now.texts.now self.now.told.now self.now.asked all.now out.items) }
+    {
+        if self.asked.statuses {
+            self.listing_text(alloc, all)
+        } else {
+            self.exploration_text(alloc, all)
+        }
+    }
+}
+
 // What is printed of everything that programs can come to.
 fn print_all<W: Watch>(
     alloc: Global,
@@ -88,13 +103,13 @@ fn print_all<W: Watch>(
     requires sound { IsSound setting.now.schema.now }
     requires few { length setting.now.programs.now ≤ LAST_UNIT }
     requires meeting { IsMeeting meeting.now }
-    ensures done { IfOk result (IsExploration setting.now.schema.now setting.now.programs.now setting.now.told.now setting.now.asked meeting.now) }
+    ensures done { IfOk result (IsExploration setting.now.schema.now setting.now.programs.now setting.now.texts.now setting.now.told.now setting.now.asked meeting.now) }
     ensures beside { IfOk result (λ printed. printed.beside ≡ beside) }
     ensures refused { IfErr result (IsOver None meeting.now setting.now.asked.limit) }
 {
     let all = explored(alloc, watch, meeting, setting.asked.limit)?;
     Ok(Printed {
-        text: setting.exploration_text(alloc, &all)?,
+        text: setting.text_of(alloc, &all)?,
         failed: !all.failures.is_empty() || all.endless.is_some(),
         beside,
     })
@@ -133,7 +148,7 @@ fn print_meeting<W: Watch>(
     requires sound { IsSound setting.now.schema.now }
     requires few { length setting.now.programs.now ≤ LAST_UNIT }
     requires meeting { IsMeeting meeting.now }
-    ensures done { IfOk result (IsPrinted setting.now.asked.wish setting.now.schema.now setting.now.programs.now setting.now.told.now setting.now.asked meeting.now) }
+    ensures done { IfOk result (IsPrinted setting.now.asked.wish setting.now.schema.now setting.now.programs.now setting.now.texts.now setting.now.told.now setting.now.asked meeting.now) }
     ensures beside { IfOk result (λ printed. printed.beside ≡ beside) }
     ensures refused { IfErr result (IsOver setting.now.asked.wish meeting.now setting.now.asked.limit) }
 {
@@ -154,7 +169,7 @@ fn explore_behind<W: Watch>(
     requires sound { IsSound setting.now.schema.now }
     requires few { length setting.now.programs.now ≤ LAST_UNIT }
     requires before { IsRunBefore setting.now.schema.now setting.now.programs.now setting.now.told.now setting.now.asked before.now }
-    ensures done { IfOk result (IsListedIf false setting.now.schema.now setting.now.programs.now setting.now.told.now setting.now.asked) }
+    ensures done { IfOk result (IsListedIf false setting.now.schema.now setting.now.programs.now setting.now.texts.now setting.now.told.now setting.now.asked) }
     ensures beside { IfOk result (λ printed. printed.beside ≡ beside) }
     ensures refused { IfErr result (IsTooLarge setting.now.schema.now setting.now.programs.now setting.now.told.now setting.now.asked) }
 {
@@ -180,6 +195,7 @@ fn explore_setting<W: Watch>(
     requires few { length programs.now.texts.items ≤ LAST_UNIT }
     requires are { programs.now.list.items ≡ map (program setting.now.schema.now) programs.now.texts.items }
     requires same { setting.now.programs.now ≡ programs.now.list.items }
+    requires texts { setting.now.texts.now ≡ programs.now.texts.items }
     ensures done { IfOk result (IsListed setting.now.schema.now setting.now.programs.now programs.now.texts.items setting.now.told.now setting.now.asked) }
     ensures refused { IfErr result (GivesUp setting.now.schema.now setting.now.programs.now setting.now.told.now setting.now.asked) }
 {
@@ -210,6 +226,7 @@ fn explore_wished<W: Watch>(
     requires few { length programs.now.texts.items ≤ LAST_UNIT }
     requires are { programs.now.list.items ≡ map (program setting.now.schema.now) programs.now.texts.items }
     requires same { setting.now.programs.now ≡ programs.now.list.items }
+    requires texts { setting.now.texts.now ≡ programs.now.texts.items }
     ensures done { IfOk result (IsSaid (Some wish) setting.now.schema.now setting.now.programs.now programs.now.texts.items setting.now.told.now setting.now.asked) }
     ensures refused { IfErr result (GivesUp setting.now.schema.now setting.now.programs.now setting.now.told.now setting.now.asked) }
 {
@@ -242,6 +259,7 @@ fn explore_asked<W: Watch>(
     requires few { length programs.now.texts.items ≤ LAST_UNIT }
     requires are { programs.now.list.items ≡ map (program setting.now.schema.now) programs.now.texts.items }
     requires same { setting.now.programs.now ≡ programs.now.list.items }
+    requires texts { setting.now.texts.now ≡ programs.now.texts.items }
     ensures done { IfOk result (IsSaid setting.now.asked.wish setting.now.schema.now setting.now.programs.now programs.now.texts.items setting.now.told.now setting.now.asked) }
     ensures refused { IfErr result (GivesUp setting.now.schema.now setting.now.programs.now setting.now.told.now setting.now.asked) }
 {
@@ -280,6 +298,7 @@ fn explore_known<S: Source, W: Watch>(
     let setting = Setting {
         schema: known,
         programs: programs.list.as_slice(),
+        texts: programs.texts.as_slice(),
         told: told_of(&turns),
         asked,
     };

@@ -1,11 +1,12 @@
-//! The command `explore`: everything that the programs of a source can come to when they meet, or whether a wish for the
-//! status of a statement holds.
+//! The command `explore`: everything that the programs of a source can come to when they meet, what their statements are answered, or
+//! whether a wish for the status of a statement holds.
 #![tactic(auto)]
 
 mod begun;
 mod command;
 mod laws;
 mod setting;
+mod statuses;
 mod text;
 mod wishes;
 

@@ -75,8 +75,8 @@ fn push_way(alloc: Global, out: &mut Vec<u8>, turns: &[u8], round: &[u8]) -> Res
     Ok(())
 }
 
-// The turns of a way round, if there is one.
-fn push_endless(
+/// The turns of a way round, if there is one.
+pub fn push_endless(
     alloc: Global,
     out: &mut Vec<u8>,
     told: &[u8],
@@ -112,8 +112,8 @@ fn push_failure(
     Ok(())
 }
 
-// All units whose programs fail.
-fn push_each_failure(
+/// All units whose programs fail.
+pub fn push_each_failure(
     alloc: Global,
     out: &mut Vec<u8>,
     told: &[u8],

@@ -16,8 +16,8 @@ use dbtg_script::{Token, Tokens, push_number, push_status};
 use dbtg_unit::LAST_UNIT;
 use std::alloc::{AllocError, Global};
 
-// Is the unit none of the program that runs first?
-fn is_met(around: Around, units: u8, unit: u8) -> bool
+/// Is the unit none of the program that runs first?
+pub fn is_met(around: Around, units: u8, unit: u8) -> bool
     requires { units ≤ LAST_UNIT }
     ensures { result ≡ is_met around units unit }
 {

@@ -25,8 +25,7 @@ rule_for (word.FlagWithout name other help) = excluding (flag name.now)
 rule_for (word.FileOption name help) = file_option name.now
 rule_for (word.FileOptionWithout name other help) = excluding (file_option name.now)
 rule_for (word.NumberOption name usual help) = number_option name.now usual.now
-rule_for (word.WishOption name help) = wish_option name.now
-rule_for (word.WishOptionWithout name other help) = excluding (wish_option name.now)
+rule_for (word.WishOption name other help) = excluding (wish_option name.now)
 rule_for (word.File name shown help) = file_word name.now
 rule_for (word.Words name shown help) = words name.now
 

@@ -17,7 +17,8 @@ use Rattle.dbtg_step.specs.Machine.SequentialDatabase.{unit_at}
 use Rattle.dbtg_going.specs.Turns.{after_turns}
 use Rattle.dbtg_explore.specs.declared.wishes.Wish.{Wish}
 use Rattle.dbtg_explore.specs.Orders.{CanFollow, Meeting, after_order}
-use Rattle.dbtg_explore.specs.Wishes.{BreaksBy, breaks, is_there, is_wished}
+use Rattle.dbtg_explore.specs.Replies.{Comes, MakesLast, line_due}
+use Rattle.dbtg_explore.specs.Wishes.{BreaksBy, breaks, is_there}
 
 -- WHICH STATEMENT
 
@@ -52,13 +53,9 @@ unfolding unit_at onto into
 no_unit = refl
 
 -- GET is due in both programs when they meet
-due_at_once : is_wished meeting never [] ≡ true
+due_at_once : line_due meeting [] 2 ≡ 2
 unfolding unit_at within verdict onto into digits
 due_at_once = refl
-
-not_due_yet : is_wished meeting (record never { line = 4 }) [] ≡ false
-unfolding unit_at within verdict onto into digits
-not_due_yet = refl
 
 -- WHICH STATUS
 
@@ -80,18 +77,27 @@ not_always = refl
 abbrev pub refused : Entry
 refused = record { ticket = 0; unit = 2; statement = Get None; answer = no NoCurrentOfRunUnit }
 
-at_once : BreaksBy meeting never (2 ∷ [])
+-- GET is the statement in line 2 of both
+alone : MakesLast meeting 2 2 (2 ∷ [])
 unfolding unit_at replay within verdict onto into digits effect after_turns after_order CanFollow
-at_once = record { before = []; order_is = refl; is_order = (refl, tt); wished = refl; entry = refused; history_is = refl; breaks_is = refl }
+alone = record { before = []; order_is = refl; is_order = (refl, tt); line_is = refl; entry = refused; history_is = refl }
+
+at_once : BreaksBy meeting never (2 ∷ [])
+at_once = record { made = alone; breaks_is = refl }
+
+comes_at_once : Comes meeting (record { unit = 2; line = 2; status = 413 })
+comes_at_once = record { order = 2 ∷ []; made = alone; status_is = refl }
 
 unit_1_first : BreaksBy meeting never (1 ∷ 2 ∷ [])
 unfolding unit_at replay within verdict onto into digits effect after_turns after_order CanFollow
 unit_1_first = record {
-  before = 1 ∷ [];
-  order_is = refl;
-  is_order = (refl, (refl, tt));
-  wished = refl;
-  entry = record refused { ticket = 1 };
-  history_is = refl;
+  made = record {
+    before = 1 ∷ [];
+    order_is = refl;
+    is_order = (refl, (refl, tt));
+    line_is = refl;
+    entry = record refused { ticket = 1 };
+    history_is = refl;
+  };
   breaks_is = refl;
 }

@@ -1,6 +1,6 @@
 -- How the code comes to the state after a turn.
 -- m is a meeting, o an order, n the number of a state, t a transition, c the name of a cell.
-use Rattle.std.specs.Prelude.{ℕ, ◌≡◌, ◌-◌, Bool, true, false, List, Contains, length, ◌⊎◌}
+use Rattle.std.specs.Prelude.{ℕ, ◌≡◌, ◌-◌, Bool, true, false, List, [], ◌∷◌, ◌++◌, Contains, length, ◌⊎◌}
 use Rattle.dbtg_cells.specs.declared.name.CellName.{CellName}
 use Rattle.dbtg_cells.specs.declared.name.CellName.TheVariants.{Usage, Extent, Ring, Slot}
 use Rattle.dbtg_unit.specs.Database.State.Cells.{cell}
@@ -9,10 +9,12 @@ use Rattle.dbtg_step.specs.Core.Whole.{Making, state_now}
 use Rattle.dbtg_states.specs.declared.transitions.Transition.{Transition}
 use Rattle.dbtg_states.specs.Numbers.{Grow, Numbers}
 use Rattle.dbtg_states.specs.Transitions.{HasBefore}
+use Rattle.dbtg_explore.specs.declared.next_state.Next.{Next}
 use Rattle.dbtg_explore.specs.declared.next_state.Seen as given
 use Rattle.dbtg_explore.specs.declared.search.Search as search
 use Rattle.dbtg_explore.specs.Orders.{Meeting, history_of}
 use Rattle.dbtg_explore.specs.Inside.Parts.{IsNumberOf}
+use Rattle.dbtg_explore.specs.Inside.Replies.{status_due}
 use Rattle.dbtg_explore.specs.Inside.Standing.{is_kept_beside}
 use Rattle.dbtg_explore.specs.Inside.Transitions.{AreSeen}
 
@@ -34,10 +36,12 @@ pub record IsFound (m : Meeting) (seen : given.Seen) (kept : Numbers) (n u : ℕ
   pub unit : t.unit ≡ u
   pub before : HasBefore kept n t.looks
 
--- n is the number of the state to which the order leads; what was found stays, and what was kept
-pub record Reaches (m : Meeting) (o : List ℕ) (old new : search.Search) (n : ℕ) : Type 0 where
-  pub number : IsNumberOf m new.numbers (history_of m o) n
+-- the state to which the order with a turn more leads, and the status of its statement; what was found stays, and what was kept
+pub record Reaches (m : Meeting) (o : List ℕ) (u : ℕ) (old new : search.Search) (next : Next) : Type 0 where
+  pub number : IsNumberOf m new.numbers (history_of m (o ++ u ∷ [])) next.state
+  pub status_is : next.status ≡ status_due m (history_of m o) u
   pub keeps : Grow old.numbers new.numbers
   pub seen : AreSeen m new.numbers.contents new.seen
   pub found_is : new.found ≡ old.found
   pub edges_are : new.edges.items ≡ old.edges.items
+  pub replies_are : new.replies ≡ old.replies

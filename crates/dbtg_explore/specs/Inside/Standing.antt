@@ -1,9 +1,12 @@
 -- What the array of a state says of its programs.
 -- m is a meeting, n the number of a state, u and v are units, i a place in what is said of a unit.
-use Rattle.std.specs.Prelude.{ℕ, ◌-◌, ◌==◌, ◌&&◌, Bool, not, [], Option, Some, None, if◌then◌else◌, length, nat_lt, nat_le, slice_index_or, unwrap_or}
+use Rattle.std.specs.Prelude.{ℕ, ◌-◌, ◌==◌, ◌&&◌, Bool, not, [], Option, Some, None, if◌then◌else◌, length, nat_lt, nat_le, option_map, slice_index_or, unwrap_or}
 use Rattle.std.specs.List.{list_any, range_with_len}
 use Rattle.dbtg_program.specs.declared.program.End.{End}
 use Rattle.dbtg_program.specs.declared.program.End.TheVariants.{Assert, Size, Astray}
+use Rattle.dbtg_program.specs.declared.program.Program.{Program}
+use Rattle.dbtg_program.specs.Going.{line_number}
+use Rattle.dbtg_step.specs.Machine.SequentialDatabase.{unit_at}
 use Rattle.dbtg_states.specs.Numbers.{Numbers, content_at}
 use Rattle.dbtg_explore.specs.Orders.{Meeting}
 
@@ -26,6 +29,14 @@ turns_in m kept n u = goes_on_in m kept n u && not (waits_in m kept n u)
 -- no program can go on
 abbrev pub is_over_in : Meeting → Numbers → ℕ → Bool
 is_over_in m kept n = not (list_any (goes_on_in m kept n) (range_with_len 1 (length m.programs)))
+
+-- the number of the line of a program's sentence
+abbrev pub line_of : Program → ℕ → ℕ
+line_of program at = line_number program (record { at = at; values = []; status = 0 })
+
+-- the line in which its statement stands, if it can go on
+abbrev pub line_in : Meeting → Numbers → ℕ → ℕ → ℕ
+line_in m kept n u = unwrap_or (option_map (λ program. line_of program (said kept n u 3)) (unit_at m.programs u)) 0
 
 -- a unit beside this one keeps a record
 abbrev pub keeps_beside : Numbers → ℕ → ℕ → ℕ → Bool

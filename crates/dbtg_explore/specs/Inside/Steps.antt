@@ -3,6 +3,7 @@
 use Rattle.std.specs.Prelude.{ℕ, ◌≡◌, ◌++◌, Bool, List}
 use Rattle.dbtg_explore.specs.declared.search.Search as given
 use Rattle.dbtg_explore.specs.Inside.Parts.{AreNumbered}
+use Rattle.dbtg_explore.specs.Inside.Replies.{HasReplies}
 use Rattle.dbtg_explore.specs.Inside.Search.{IsUnderWay}
 use Rattle.dbtg_explore.specs.Inside.Transitions.{AreSeen}
 use Rattle.dbtg_explore.specs.Orders.{IsOrder, Meeting, can_turn, history_of}
@@ -12,11 +13,13 @@ use Rattle.dbtg_explore.specs.States.{essence_of}
 abbrev pub can_follow : Meeting → List ℕ → ℕ → Bool
 can_follow m o u = can_turn m (history_of m o) u
 
--- the search is at place i and unit u, has each order with the number of its state, and knows of what it has seen where it leads
+-- the search is at place i and unit u, has each order with the number of its state, knows of what it has seen where it leads, and has noted
+-- what statements were answered
 pub record IsAt (m : Meeting) (i u : ℕ) (s : given.Search) : Type 0 where
   pub under_way : IsUnderWay (IsOrder m) (can_follow m) (essence_of m) s.found.orders s.edges.items i u
   pub known : AreNumbered m s.numbers s.found.keys s.found.orders
   pub seen : AreSeen m s.numbers.contents s.seen
+  pub replies : HasReplies m s.found.orders i u s.replies.keys
 
 -- it has gone on to place i and unit u, and kept what it had found
 pub record Goes (m : Meeting) (i u : ℕ) (old new : given.Search) : Type 0 where

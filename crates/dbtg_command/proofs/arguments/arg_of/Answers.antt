@@ -12,6 +12,6 @@ pub returns-in-FileOptionWithout : goal.returns-in-FileOptionWithout
 returns-in-FileOptionWithout c = rw c.in-FileOptionWithout.is
     (IfOk-weaker c.conflicts_with-in-FileOptionWithout.result _ (IsArg (excluding (file_option c.in-FileOptionWithout.name.now))) (λ arg adds. in_conflict c.file_option-in-FileOptionWithout.result arg _ _ c.file_option-in-FileOptionWithout.ensures adds) c.conflicts_with-in-FileOptionWithout.ensures)
 
-pub returns-in-WishOptionWithout : goal.returns-in-WishOptionWithout
-returns-in-WishOptionWithout c = rw c.in-WishOptionWithout.is
-    (IfOk-weaker c.conflicts_with-in-WishOptionWithout.result _ (IsArg (excluding (wish_option c.in-WishOptionWithout.name.now))) (λ arg adds. in_conflict c.wish_option-in-WishOptionWithout.result arg _ _ c.wish_option-in-WishOptionWithout.ensures adds) c.conflicts_with-in-WishOptionWithout.ensures)
+pub returns-in-WishOption : goal.returns-in-WishOption
+returns-in-WishOption c = rw c.in-WishOption.is
+    (IfOk-weaker c.conflicts_with-in-WishOption.result _ (IsArg (excluding (wish_option c.in-WishOption.name.now))) (λ arg adds. in_conflict c.wish_option-in-WishOption.result arg _ _ c.wish_option-in-WishOption.ensures adds) c.conflicts_with-in-WishOption.ensures)

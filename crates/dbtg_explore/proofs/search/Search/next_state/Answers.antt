@@ -2,7 +2,7 @@ use Rattle.std.proofs.Common.{◌∙◌, ◌++◌, ◌∷◌, [], List, ap, refl
 use Rattle.dbtg_interned.specs.Arrays.{elements}
 use Rattle.dbtg_states.specs.declared.transitions.Look.{Look}
 use Rattle.dbtg_states.specs.Transitions.{written}
-use Rattle.dbtg_explore.proofs.Next.{if_ok_four, known_number, reaches}
+use Rattle.dbtg_explore.proofs.Next.{known_number, known_status, reaches}
 use Rattle.dbtg_explore.proofs.Numbered.{numbered_low, state_at}
 use Rattle.dbtg_explore.proofs.Placed.{turn_numbered}
 use Rattle.dbtg_explore.proofs.Transitions.{seen_later}
@@ -31,9 +31,8 @@ returns-in-Some-clause-reaches c =
     let t = c.in-Some.known.now in
     let n = c.number-state.result in
     let at = state_at m s.numbers s.found.keys s.found.orders c.args.place n c.requires.at.known c.requires.within c.number-state.ensures in
-    if_ok_four c.put_looks.result _ _ _ _ _
-    (λ j once keeps is_array wrote.
-    reaches m (o ++ c.args.unit ∷ []) s (record s { numbers = new }) new j refl refl refl
-    (known_number m s.seen s.numbers o n c.args.unit t c.requires.at.seen at c.in-Some.ensures new j once keeps is_array (wrote ∙ ap (λ (looks : List Look). written looks (elements s.numbers.arrays n)) c.as_slice.ensures))
-    keeps (seen_later m s.numbers.contents new.contents keeps.contents s.seen c.requires.at.seen))
-    c.put_looks.ensures.kept c.put_looks.ensures.keeps c.put_looks.ensures.array c.put_looks.ensures.elements
+    let put = c.in_ok-state.ensures in
+    reaches m o c.args.unit s (record s { numbers = new }) new _ refl refl refl refl
+    (known_number m s.seen s.numbers o n c.args.unit t c.requires.at.seen at c.in-Some.ensures new c.in_ok-state.state put.kept put.keeps put.array (put.elements ∙ ap (λ (looks : List Look). written looks (elements s.numbers.arrays n)) c.as_slice-looks.ensures))
+    (known_status m s.seen s.numbers o n c.args.unit t c.requires.at.seen at c.in-Some.ensures)
+    put.keeps (seen_later m s.numbers.contents new.contents put.keeps.contents s.seen c.requires.at.seen)

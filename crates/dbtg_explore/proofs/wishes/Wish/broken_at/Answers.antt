@@ -3,7 +3,7 @@ use Rattle.std.proofs.lemmas.Bool.{true≢false}
 use Rattle.std.proofs.lemmas.List.Elements.{Contains-get_or}
 use Rattle.dbtg_unit.specs.declared.unit.Entry.{Entry}
 use Rattle.dbtg_explore.specs.Orders.{can_turn, history_of}
-use Rattle.dbtg_explore.specs.Wishes.{BreaksBy}
+use Rattle.dbtg_explore.specs.Wishes.{BreaksBy, breaks}
 use Rattle.dbtg_explore.proofs.Judging.{made_last, next_both, next_there, turned_there}
 use Rattle.dbtg_explore.proofs.Walks.{stands}
 use Rattle.dbtg_explore.proofs.Ways.{among_one}
@@ -28,16 +28,16 @@ take_turn-requires-clause-turn c =
     let both = next_both m w (history_of m (get_or c.args.search.now.found.orders c.args.place [])) (sym c.is_next.ensures ∙ c.if-not-is_next.false) in
     (λ i. can_turn m (c.in_ok-go_to.ensures.stands.history_is i) (c.in_ok-turn.ensures i).unit) ∙ both.can
 
-pub returns-then-not-is_broken-clause-judged : goal.returns-then-not-is_broken-clause-judged
-returns-then-not-is_broken-clause-judged c = λ b.
+pub returns-then-not-breaks-clause-judged : goal.returns-then-not-breaks-clause-judged
+returns-then-not-breaks-clause-judged c = λ b.
     let m = c.args.meeting.now in
     let w = c.args.self in
     let o = get_or c.args.search.now.found.orders c.args.place [] in
     let there = turned_there m o c.args.place w.unit c.in_ok-turn.turn c.go_to.new.walk c.take_turn.new.walk c.in_ok-go_to.ensures.stands c.in_ok-turn.ensures c.in_ok-take_turn.ensures.stands in
-    true≢false (sym b.breaks_is ∙ sym (c.is_broken.ensures (history_of m o) b.entry (there.history_is ∙ made_last m w o b)) ∙ c.if-not-is_broken.true)
+    true≢false (sym b.breaks_is ∙ sym (ap (breaks w) (c.last_status.ensures (history_of m o) b.made.entry (there.history_is ∙ made_last m w o b))) ∙ sym c.breaks.ensures ∙ c.if-not-breaks.true)
 
-pub returns-then-not-is_broken-clause-stands : goal.returns-then-not-is_broken-clause-stands
-returns-then-not-is_broken-clause-stands c =
+pub returns-then-not-breaks-clause-stands : goal.returns-then-not-breaks-clause-stands
+returns-then-not-breaks-clause-stands c =
     let m = c.args.meeting.now in
     let there = c.in_ok-go_to.ensures in
     let after = c.in_ok-take_turn.ensures in
@@ -57,13 +57,15 @@ returns-clause-judged c =
       turns,
       subst (BreaksBy m w) (sym turns)
           (record {
-            before = o;
-            order_is = refl;
-            is_order = there.is_order;
-            wished = both.wished;
-            entry = after.turned.entry;
-            history_is = sym there.history_is ∙ made;
-            breaks_is = sym (c.is_broken.ensures (history_of m o) after.turned.entry made) ∙ c.if-not-is_broken.false;
+            made = record {
+              before = o;
+              order_is = refl;
+              is_order = there.is_order;
+              line_is = both.line_is;
+              entry = after.turned.entry;
+              history_is = sym there.history_is ∙ made;
+            };
+            breaks_is = ap (breaks w) (sym (c.last_status.ensures (history_of m o) after.turned.entry made)) ∙ sym c.breaks.ensures ∙ c.if-not-breaks.false;
           }),
     )
 

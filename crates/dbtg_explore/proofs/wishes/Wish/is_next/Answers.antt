@@ -1,5 +1,6 @@
 use Rattle.std.proofs.Common.{◌∙◌, ◌&&◌, [], ap, sym, get_or}
-use Rattle.dbtg_explore.specs.Inside.Wishes.{stands_there}
+use Rattle.std.specs.Prelude.{◌==◌}
+use Rattle.dbtg_explore.specs.Inside.Standing.{line_in}
 use Rattle.dbtg_explore.specs.Orders.{history_of}
 use Rattle.dbtg_explore.proofs.Numbered.{numbered_low, state_at}
 use Rattle.dbtg_explore.proofs.Placed.{turn_numbered}
@@ -16,14 +17,14 @@ can_turn-requires-clause-array c =
     let at = state_at c.args.meeting.now s.numbers s.found.keys s.found.orders c.args.place c.number-state.result c.requires.at.1.known c.requires.within c.number-state.ensures in
     at.number.is_array
 
-pub stands_there-requires-clause-array : goal.stands_there-requires-clause-array
-stands_there-requires-clause-array c =
+pub line-requires-clause-array : goal.line-requires-clause-array
+line-requires-clause-array c =
     let s = c.args.search.now in
     let at = state_at c.args.meeting.now s.numbers s.found.keys s.found.orders c.args.place c.number-state.result c.requires.at.1.known c.requires.within c.number-state.ensures in
     at.number.is_array
 
-pub stands_there-requires-clause-numbered : goal.stands_there-requires-clause-numbered
-stands_there-requires-clause-numbered c =
+pub line-requires-clause-numbered : goal.line-requires-clause-numbered
+line-requires-clause-numbered c =
     let m = c.args.meeting.now in
     let s = c.args.search.now in
     let h = history_of m (get_or s.found.orders c.args.place []) in
@@ -37,8 +38,8 @@ returns-then-can_turn c =
     let w = c.args.self in
     let n = c.number-state.result in
     let at = state_at m s.numbers s.found.keys s.found.orders c.args.place n c.requires.at.1.known c.requires.within c.number-state.ensures in
-    c.stands_there.ensures
-    ∙ ap (λ b. b && stands_there m s.numbers n w.unit w.line) (sym c.if-can_turn.true ∙ c.can_turn.ensures)
+    ap (λ l. l == w.line) c.line.ensures
+    ∙ ap (λ b. b && line_in m s.numbers n w.unit == w.line) (sym c.if-can_turn.true ∙ c.can_turn.ensures)
     ∙ next_is m s.numbers (history_of m (get_or s.found.orders c.args.place [])) n at w
 
 pub returns-else-can_turn : goal.returns-else-can_turn
@@ -48,5 +49,5 @@ returns-else-can_turn c =
     let w = c.args.self in
     let n = c.number-state.result in
     let at = state_at m s.numbers s.found.keys s.found.orders c.args.place n c.requires.at.1.known c.requires.within c.number-state.ensures in
-    c.if-can_turn.false ∙ ap (λ b. b && stands_there m s.numbers n w.unit w.line) (sym c.if-can_turn.false ∙ c.can_turn.ensures)
+    c.if-can_turn.false ∙ ap (λ b. b && line_in m s.numbers n w.unit == w.line) (sym c.if-can_turn.false ∙ c.can_turn.ensures)
     ∙ next_is m s.numbers (history_of m (get_or s.found.orders c.args.place [])) n at w

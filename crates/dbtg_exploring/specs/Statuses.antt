@@ -1,0 +1,64 @@
+-- What `explore --statuses` prints: the statements of programs, each with the statuses that it gets.
+-- program is a program, text its text, u its unit, n the number of a line, rs are the replies that come.
+use Rattle.std.specs.Prelude.{ℕ, ◌==◌, ◌+◌, ◌-◌, ◌&&◌, Bool, true, false, List, [], ◌∷◌, ◌++◌, codes, decimal, drop, flat_map, length, replicate, if◌then◌else◌}
+use Rattle.std.specs.Char.{is_ascii_whitespace}
+use Rattle.std.specs.List.{list_any, prefix_len}
+use Rattle.dbtg_explain.specs.FaultyWord.{line_at}
+use Rattle.dbtg_script.specs.Lines.{trimmed}
+use Rattle.dbtg_script.specs.Printing.Texts.{four_digits}
+use Rattle.dbtg_program.specs.declared.program.Line.{Line}
+use Rattle.dbtg_program.specs.declared.program.Program.{Program}
+use Rattle.dbtg_going.specs.declared.around.Around.{Around}
+use Rattle.dbtg_explore.specs.declared.explored.Explored.{Explored}
+use Rattle.dbtg_explore.specs.declared.replies.Reply.{Reply}
+use Rattle.dbtg_explore.specs.Wishes.{is_statement}
+use Rattle.dbtg_exploring.specs.Texts.{endless_text, failure_text}
+use Rattle.dbtg_exploring.specs.Wishes.{is_met}
+
+-- a line without the spaces before its words
+abbrev pub unindented : List ℕ → List ℕ
+unindented line = drop (prefix_len is_ascii_whitespace line) line
+
+-- a statement as it is written
+abbrev pub written : List ℕ → ℕ → List ℕ
+written text n = unindented (trimmed (line_at n text))
+
+-- the reply is to the statement in this line of the unit's program
+abbrev pub is_to : ℕ → ℕ → Reply → Bool
+is_to u n r = r.unit == u && r.line == n
+
+-- its statuses, or that no order makes it
+abbrev pub statuses_text : List Reply → ℕ → ℕ → List ℕ
+statuses_text rs u n = if list_any (is_to u n) rs then flat_map (λ r. if is_to u n r then 32 ∷ four_digits r.status else []) rs else codes " never made"
+
+-- a number at the right end of a column
+abbrev pub right_number : ℕ → ℕ → List ℕ
+right_number width n = replicate (width - length (decimal n)) 32 ++ decimal n
+
+-- the row of a line, if it holds a statement
+abbrev pub row_text : ℕ → List ℕ → List Reply → ℕ → Line → List ℕ
+row_text width text rs u line =
+    if is_statement line.sentence then 32 ∷ 32 ∷ right_number width line.number ++ 32 ∷ written text line.number ++ codes "  " ++ statuses_text rs u line.number ++ 10 ∷ [] else []
+
+-- as wide as the number of the last line
+abbrev pub width_of : List Line → ℕ
+width_of [] = 0
+width_of (line ∷ []) = length (decimal line.number)
+width_of (line ∷ next ∷ lines) = width_of (next ∷ lines)
+
+-- a program that meets the others: its number, and the rows of its statements
+abbrev pub program_rows : Around → ℕ → List Reply → ℕ → Program → List ℕ → List ℕ
+program_rows around units rs u program text =
+    if is_met around units u then codes "program " ++ decimal u ++ 10 ∷ flat_map (row_text (width_of program.lines) text rs u) program.lines else []
+
+-- so each program, the first of them number u
+abbrev pub programs_rows : Around → ℕ → List Reply → ℕ → List Program → List (List ℕ) → List ℕ
+programs_rows around units rs u [] texts = []
+programs_rows around units rs u (p ∷ ps) [] = []
+programs_rows around units rs u (p ∷ ps) (text ∷ texts) = program_rows around units rs u p text ++ programs_rows around units rs (u + 1) ps texts
+
+-- how many states there are, a way round, the failures, and the programs
+abbrev pub listing_text : Around → List Program → List (List ℕ) → List ℕ → Explored → List ℕ
+listing_text around programs texts told all =
+    codes "states " ++ decimal all.states ++ 10 ∷ endless_text told all.endless ++ flat_map (failure_text told) all.failures
+    ++ programs_rows around (length programs) all.replies 1 programs texts
