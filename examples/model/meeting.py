@@ -43,6 +43,17 @@ class Meeting:
             runs.turn(unit)
         return runs
 
+    def replies(self, order):
+        """What the turns of this order are answered: the unit of each, the line of its statement, and the status."""
+        runs, replies = self.after([]), []
+        for unit in order:
+            program = runs.programs[unit - 1]
+            program.due(self.schema)
+            line = program.sentences[program.at][0]
+            runs.turn(unit)
+            replies.append((unit, line, program.status))
+        return replies
+
     def next_units(self, runs):
         """The units that can have their turn."""
         units = [unit for unit, program in enumerate(runs.programs, 1) if program.due(self.schema) is not None]
@@ -70,6 +81,21 @@ def failures_text(failures, begun):
     """The lines of failures by the first order to each, which follows the turns that were begun with."""
     in_order = sorted(failures, key=lambda it: (it[0], int(it[1].split()[-1]), it[1]))
     return "".join(f"fails {unit} {how}\n{turns_line([*begun, *failures[unit, how]])}" for unit, how in in_order)
+
+
+def statuses_text(meeting, replies):
+    """The rows of all programs that meet: each statement with the statuses of these replies that are to it."""
+    text = ""
+    for unit, program in enumerate(meeting.after([]).programs, 1):
+        if unit == meeting.first:
+            continue
+        width = len(str(program.sentences[-1][0])) if program.sentences else 0
+        text += f"program {unit}\n"
+        for at in filter(program.is_statement, range(len(program.sentences))):
+            line, words, _ = program.sentences[at]
+            statuses = "".join(f" {it[2]}" for it in sorted(replies) if it[:2] == (unit, line))
+            text += f"  {line:>{width}} {words.strip()}  {statuses or ' never made'}\n"
+    return text
 
 
 def turns_line(turns):
