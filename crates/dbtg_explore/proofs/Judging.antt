@@ -2,7 +2,7 @@
 -- m is a meeting, w a wish, h and g are histories, o, p and q are orders, i, j and k places among the orders that are found.
 use Rattle.std.proofs.Common.{◌≡◌, refl, sym, ◌∙◌, ap, subst, ℕ, ◌+◌, ◌<◌, ◌≤◌, Bool, true, false, ◌&&◌, List, [], ◌∷◌, ◌++◌, length, length-append, get_or, Option, None, Some, arith, inl, inr}
 use Rattle.std.specs.Prelude.{◌==◌, is_some, not, option_and_then, option_map, unwrap_or}
-use Rattle.std.proofs.lemmas.Bool.{cases_lt, true≢false}
+use Rattle.std.proofs.lemmas.Bool.{cases_lt, eq-eqb, eqb-true, true≢false}
 use Rattle.std.proofs.lemmas.List.{get_or_append_left, get_or_default, same_from_push}
 use Rattle.std.proofs.lemmas.List.Elements.{Contains-get_or}
 use Rattle.dbtg_unit.specs.declared.statement.Statement.{Statement}
@@ -171,7 +171,7 @@ module _ (m : Meeting) where
     pub next_both : (h : List Entry) → is_next m w h ≡ true → IsNext h
     next_both h is = by (can_turn m h w.unit) refl is where
       by : (b : Bool) → can_turn m h w.unit ≡ b → (b && line_due m h w.unit == w.line) ≡ true → IsNext h
-      by true can line = record { can = can; line_is = omega (arith, line) }
+      by true can line = record { can = can; line_is = eqb-true (line_due m h w.unit) w.line line }
       by false cannot is_not = absurd (true≢false (sym is_not))
 
     -- what is before the last turn
@@ -182,7 +182,7 @@ module _ (m : Meeting) where
     next_there o b =
         let can : can_turn m (history_of m o) w.unit ≡ true = last_can m o w.unit b.made.is_order in
         let line : line_due m (history_of m o) w.unit ≡ w.line = ap (λ p. line_due m (history_of m p) w.unit) (sym (before_is o b)) ∙ b.made.line_is in
-        let is : (line_due m (history_of m o) w.unit == w.line) ≡ true = omega (arith, line) in
+        let is : (line_due m (history_of m o) w.unit == w.line) ≡ true = eq-eqb (line_due m (history_of m o) w.unit) w.line line in
         λ i. can i && is i
 
     pub made_last : (o : List ℕ) (b : BreaksBy m w (o ++ w.unit ∷ [])) → history_of m (o ++ w.unit ∷ []) ≡ history_of m o ++ b.made.entry ∷ []

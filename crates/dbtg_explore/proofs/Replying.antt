@@ -100,9 +100,9 @@ module _ (m : Meeting) where
         let is : reply_of m (history_of m (get_or os j [])) r.unit ≡ r = reply_alike (get_or os j []) o r.unit same ∙ (λ k. record { unit = r.unit; line = c.made.line_is k; status = status k }) in
         subst (Contains s.replies.keys) is there
 
-    pub are_replies : (rs : List Reply) → rs ≡ s.replies.keys → IsStrictlySortedBy reply_cmp rs → AreReplies m rs
-    are_replies rs is in_order = record {
+    pub are_replies : (rs : List Reply) → rs ≡ s.replies.keys → AreReplies m rs
+    are_replies rs is = record {
       come = λ r c. let from = at.replies.are_of r (subst (λ (qs : List Reply). Contains qs r) is c) in subst (Comes m) (sym from.2) (comes_so from.0 r.unit from.1);
       all = λ r c. subst (λ (qs : List Reply). Contains qs r) (sym is) (noted r c);
-      in_order = in_order;
+      in_order = subst (IsStrictlySortedBy reply_cmp) (sym is) at.replies.in_order;
     }

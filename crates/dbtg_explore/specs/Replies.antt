@@ -2,7 +2,8 @@
 -- m is a meeting, u a unit, r a reply: the statement in a line of a unit's program, and a status.
 use Rattle.std.specs.Prelude.{ℕ, ◌≡◌, List, [], ◌∷◌, ◌++◌, Contains, option_map, unwrap_or}
 use Rattle.std.specs.List.Sorted.{IsStrictlySortedBy}
-use Rattle.std.specs.Ordering.{Ordering, nat_cmp, ordering_then}
+use Rattle.std.specs.Ordering.{nat_cmp, ordering_then}
+use Rattle.std.specs.declared.cmp.Ordering.{Ordering}
 use Rattle.dbtg_unit.specs.declared.unit.Entry.{Entry}
 use Rattle.dbtg_unit.specs.Database.Statements.Codes.{status_code}
 use Rattle.dbtg_program.specs.declared.program.Program.{Program}

@@ -145,8 +145,18 @@ fn explored_by<'a, W: Watch>(
     let states = search.found.len() as u64;
     let results = results.orders(alloc, &search.found)?;
     let failures = search.first_failures(alloc, meeting, failures.as_slice())?;
-    let replies = replies_in_order(alloc, &search.replies)?;
-    let endless = endless_in(alloc, search)?;
+    let Search {
+        found,
+        numbers,
+        seen,
+        edges,
+        replies,
+    } = search;
+    // They take most of the memory.
+    drop(numbers);
+    drop(seen);
+    let endless = endless_in(alloc, &found, edges)?;
+    let replies = replies_in_order(alloc, replies)?;
     Ok(Explored {
         states,
         results,

@@ -83,9 +83,11 @@ unfolding unit_at replay within verdict onto into digits effect after_turns afte
 alone = record { before = []; order_is = refl; is_order = (refl, tt); line_is = refl; entry = refused; history_is = refl }
 
 at_once : BreaksBy meeting never (2 ∷ [])
+unfolding alone
 at_once = record { made = alone; breaks_is = refl }
 
 comes_at_once : Comes meeting (record { unit = 2; line = 2; status = 413 })
+unfolding alone
 comes_at_once = record { order = 2 ∷ []; made = alone; status_is = refl }
 
 unit_1_first : BreaksBy meeting never (1 ∷ 2 ∷ [])

@@ -1,6 +1,7 @@
 -- What the code of a search holds.
 -- m is a meeting, o is an order, i is the place of an order that is found, u is a unit.
-use Rattle.std.specs.Prelude.{ℕ, ◌≡◌, ◌++◌, Bool, List}
+use Rattle.std.specs.Prelude.{ℕ, ◌≡◌, ◌++◌, Bool, List, length}
+use Rattle.dbtg_rounds.specs.declared.edge.Edge.{Edge}
 use Rattle.dbtg_explore.specs.declared.search.Search as given
 use Rattle.dbtg_explore.specs.Inside.Parts.{AreNumbered}
 use Rattle.dbtg_explore.specs.Inside.Replies.{HasReplies}
@@ -12,6 +13,10 @@ use Rattle.dbtg_explore.specs.States.{essence_of}
 -- the unit can have its turn after the order
 abbrev pub can_follow : Meeting → List ℕ → ℕ → Bool
 can_follow m o u = can_turn m (history_of m o) u
+
+-- the search has gone on from all orders that it has found
+abbrev pub AreAllFound : Meeting → List (List ℕ) → List Edge → Type 0
+AreAllFound m orders edges = IsUnderWay (IsOrder m) (can_follow m) (essence_of m) orders edges (length orders) 0
 
 -- the search is at place i and unit u, has each order with the number of its state, knows of what it has seen where it leads, and has noted
 -- what statements were answered

@@ -6,11 +6,11 @@ use Rattle.dbtg_explore.proofs.explored.explored_by.Goals as goal
 
 pub returns-clause-explored : goal.returns-clause-explored
 returns-clause-explored g c =
-    is_explored c.args.meeting.now c.args.limit c.in_ok-search.search c.in_ok-search.ends c.in_ok-search.ensures.through _ c.len-states.ensures c.in_ok-results.ensures c.in_ok-failures.ensures (c.in_ok-endless.ensures c.args.meeting.now c.in_ok-search.ensures.through.visited.at)
-    (are_replies c.args.meeting.now c.in_ok-search.search _ c.in_ok-search.ensures.through.visited.at (omega arith) c.in_ok-replies.replies.now c.in_ok-replies.ensures.all c.in_ok-replies.ensures.in_order)
+    is_explored c.args.meeting.now c.args.limit c.in_ok-search.search c.in_ok-search.ends c.in_ok-search.ensures.through _ c.len-states.ensures c.in_ok-results.ensures c.in_ok-failures.ensures (c.in_ok-endless.ensures c.args.meeting.now c.in_ok-search.ensures.through.visited.at.under_way)
+    (are_replies c.args.meeting.now c.in_ok-search.search _ c.in_ok-search.ensures.through.visited.at (omega arith) c.in_ok-replies.replies.now c.in_ok-replies.ensures)
 
 pub endless_in-requires : goal.endless_in-requires
-endless_in-requires g c = (c.args.meeting.now, c.in_ok-search.ensures.through.visited.at)
+endless_in-requires g c = (c.args.meeting.now, c.in_ok-search.ensures.through.visited.at.under_way)
 
 pub returns-in_err-endless-clause-stopped : goal.returns-in_err-endless-clause-stopped
 returns-in_err-endless-clause-stopped g c =

@@ -4,7 +4,7 @@ use Rattle.dbtg_program.specs.declared.program.Program.{Program}
 use Rattle.dbtg_explore.specs.Inside.Standing.{line_of, said}
 use Rattle.dbtg_explore.specs.Orders.{Meeting}
 use Rattle.dbtg_explore.proofs.Placed.{none_got, one_got}
-use Rattle.dbtg_explore.proofs.standing.Meeting.line.Goals as goal
+use Rattle.dbtg_explore.proofs.meeting.Meeting.line.Goals as goal
 
 pub returns-in-Some : goal.returns-in-Some
 returns-in-Some c =
