@@ -11,6 +11,7 @@ use Rattle.dbtg_explore.specs.Inside.Replies.{status_due}
 use Rattle.dbtg_explore.specs.Inside.Transitions.{DueLooksAt, SlotsStay}
 use Rattle.dbtg_explore.specs.Inside.Walks.{StandsAmong, order_of}
 use Rattle.dbtg_explore.specs.Orders.{history_of}
+use Rattle.dbtg_explore.specs.Replies.{status_of}
 use Rattle.dbtg_explore.specs.States.{sequential_after}
 use Rattle.dbtg_explore.proofs.Judging.{made_there}
 use Rattle.dbtg_explore.proofs.Next.{reaches, slots_stay}
@@ -53,8 +54,9 @@ number_there : (c : In_ok-after) → IsNumberOf c.args.meeting.now c.number_afte
 number_there c = subst (λ (es : List Entry). IsNumberOf c.args.meeting.now c.number_after.new.numbers es c.in_ok-after.after) (led_to c) c.in_ok-after.ensures.number
 
 -- and the status of the statement
-status_there : (c : In_ok-after) → c.last_status-status.result ≡ status_due c.args.meeting.now (history_of c.args.meeting.now (get_or c.args.self.now.found.orders c.args.place [])) c.args.unit
-status_there c =
+status_there : (c : In_ok-after) (status : ℕ) → ((past : List Entry) (e : Entry) → c.number_after.new.walk.database.making.history ≡ past ++ e ∷ [] → status ≡ status_of e)
+    → status ≡ status_due c.args.meeting.now (history_of c.args.meeting.now (get_or c.args.self.now.found.orders c.args.place [])) c.args.unit
+status_there c status is =
     let m = c.args.meeting.now in
     let o = get_or c.args.self.now.found.orders c.args.place [] in
     let u = c.args.unit in
@@ -62,7 +64,7 @@ status_there c =
     let here = c.in_ok-go_to.ensures.stands in
     let one = turned.one_more ∙ ap (λ (es : List Entry). es ++ turned.entry ∷ []) here.history_is in
     let made = made_there m (history_of m o) u turned.entry (sym (history_on m o u) ∙ sym (led_to c) ∙ one) in
-    c.last_status-status.ensures (history_of m o) turned.entry one ∙ sym (status_made m (history_of m o) u turned.entry made)
+    is (history_of m o) turned.entry one ∙ sym (status_made m (history_of m o) u turned.entry made)
 
 among_there : (c : In_ok-after) → StandsAmong c.args.meeting.now c.args.self.now.found.orders c.number_after.new.walk
 among_there c =
@@ -96,7 +98,7 @@ remember-requires-clause-passed c =
       record {
         before = number_later m s.numbers kept after.number.number.kept_once after.keeps (history_of m o) c.number-before.result at;
         after = number_there (goal.at.remember-requires-clause-passed c).In_ok-after;
-        status_is = status_there (goal.at.remember-requires-clause-passed c).In_ok-after;
+        status_is = status_there (goal.at.remember-requires-clause-passed c).In_ok-after c.last_status-status.result c.last_status-status.ensures;
         looks_at =
             subst (λ (ns : List CellName). DueLooksAt m (history_of m o) u ns) (sym c.as_slice.ensures.value)
             (subst (λ (es : List Entry). DueLooksAt m es u c.in-Some.names.items) here.history_is cells);
@@ -125,7 +127,7 @@ returns-in_ok-remember-clause-reaches c =
     let o = get_or s.found.orders c.args.place [] in
     let e = c.in_ok-remember.ensures.rest in
     reaches m o c.args.unit s c.remember.new.self c.number_after.new.numbers _ (ap (λ (z : Search). z.found) e) (ap (λ (z : Search). z.edges.items) e) (ap (λ (z : Search). z.replies) e) (ap (λ (z : Search). z.numbers) e)
-    (number_there (goal.at.returns-in_ok-remember-clause-reaches c).In_ok-after) (status_there (goal.at.returns-in_ok-remember-clause-reaches c).In_ok-after) c.in_ok-after.ensures.keeps c.in_ok-remember.ensures.seen
+    (number_there (goal.at.returns-in_ok-remember-clause-reaches c).In_ok-after) (status_there (goal.at.returns-in_ok-remember-clause-reaches c).In_ok-after c.last_status-status.result c.last_status-status.ensures) c.in_ok-after.ensures.keeps c.in_ok-remember.ensures.seen
 
 pub returns-in_default-clause-reaches : goal.returns-in_default-clause-reaches
 returns-in_default-clause-reaches c =
@@ -134,4 +136,4 @@ returns-in_default-clause-reaches c =
     let o = get_or s.found.orders c.args.place [] in
     let kept = c.number_after.new.numbers in
     reaches m o c.args.unit s (record s { numbers = kept }) kept _ refl refl refl refl
-    (number_there (goal.at.returns-in_default-clause-reaches c).In_ok-after) (status_there (goal.at.returns-in_default-clause-reaches c).In_ok-after) c.in_ok-after.ensures.keeps (seen_later m s.numbers.contents kept.contents c.in_ok-after.ensures.keeps.contents s.seen c.requires.at.seen)
+    (number_there (goal.at.returns-in_default-clause-reaches c).In_ok-after) (status_there (goal.at.returns-in_default-clause-reaches c).In_ok-after c.last_status-status.result c.last_status-status.ensures) c.in_ok-after.ensures.keeps (seen_later m s.numbers.contents kept.contents c.in_ok-after.ensures.keeps.contents s.seen c.requires.at.seen)

@@ -22,8 +22,8 @@ pub put_looks-requires : goal.put_looks-requires
 put_looks-requires c =
     (state_at c.args.meeting.now c.args.self.now.numbers c.args.self.now.found.keys c.args.self.now.found.orders c.args.place c.number-state.result c.requires.at.known c.requires.within c.number-state.ensures).number.is_array
 
-pub returns-in-Some-clause-reaches : goal.returns-in-Some-clause-reaches
-returns-in-Some-clause-reaches c =
+pub returns-in_ok-state-clause-reaches : goal.returns-in_ok-state-clause-reaches
+returns-in_ok-state-clause-reaches c =
     let m = c.args.meeting.now in
     let s = c.args.self.now in
     let o = get_or s.found.orders c.args.place [] in

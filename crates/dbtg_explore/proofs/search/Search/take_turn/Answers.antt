@@ -1,8 +1,25 @@
-use Rattle.std.proofs.Common.{◌∙◌, ◌<◌, ◌++◌, ◌∷◌, [], ℕ, refl, subst, sym, length, get_or}
+use Rattle.std.proofs.Common.{◌∙◌, ◌<◌, ◌++◌, ◌∷◌, [], ℕ, List, ap, refl, subst, sym, length, get_or}
+use Rattle.dbtg_explore.specs.declared.replies.Reply.{Reply}
 use Rattle.dbtg_explore.specs.Inside.Found.{FoundOrders, IsEntered}
+use Rattle.dbtg_explore.specs.Inside.Replies.{TakesReply}
+use Rattle.dbtg_explore.specs.Orders.{history_of}
+use Rattle.dbtg_explore.proofs.Judging.{line_is}
+use Rattle.dbtg_explore.proofs.Numbered.{numbered_low, state_at}
+use Rattle.dbtg_explore.proofs.Placed.{turn_numbered}
 use Rattle.dbtg_explore.proofs.Steps.{goes_further}
 use Rattle.dbtg_explore.proofs.Ways.{among_entered}
 use Rattle.dbtg_explore.proofs.search.Search.take_turn.Goals as goal
+
+pub number-requires : goal.number-requires
+number-requires c = let s = c.args.self.now in numbered_low c.args.meeting.now s.numbers s.found.keys s.found.orders c.args.place c.requires.at.known c.requires.within
+
+pub line-line-requires-clause-array : goal.line-line-requires-clause-array
+line-line-requires-clause-array c =
+    let s = c.args.self.now in
+    (state_at c.args.meeting.now s.numbers s.found.keys s.found.orders c.args.place c.number.result c.requires.at.known c.requires.within c.number.ensures).number.is_array
+
+pub line-line-requires-clause-numbered : goal.line-line-requires-clause-numbered
+line-line-requires-clause-numbered c = turn_numbered c.args.meeting.now (history_of c.args.meeting.now (get_or c.args.self.now.found.orders c.args.place [])) c.args.unit c.requires.turn
 
 pub enter-requires : goal.enter-requires
 enter-requires c = subst (λ (f : FoundOrders ℕ). c.args.place < length f.orders) (sym c.in_ok-state.ensures.reaches.found_is) c.requires.within
@@ -10,11 +27,18 @@ enter-requires c = subst (λ (f : FoundOrders ℕ). c.args.place < length f.orde
 pub returns-clause-goes : goal.returns-clause-goes
 returns-clause-goes c =
     let m = c.args.meeting.now in
+    let s = c.args.self.now in
+    let u = c.args.unit in
+    let h = history_of m (get_or s.found.orders c.args.place []) in
     let reached = c.in_ok-state.ensures.reaches in
-    let entered = subst (λ (f : FoundOrders ℕ). IsEntered f c.in_ok-state.state (get_or f.orders c.args.place [] ++ c.args.unit ∷ []) c.enter.new.self) reached.found_is c.in_ok-to.ensures.entered in
+    let entered = subst (λ (f : FoundOrders ℕ). IsEntered f c.in_ok-state.state (get_or f.orders c.args.place [] ++ u ∷ []) c.enter.new.self) reached.found_is c.in_ok-to.ensures.entered in
     let edges_are = c.in_ok-push.ensures.items ∙ (λ j. reached.edges_are j ++ c.in_ok-new.ensures j ∷ []) in
-    goes_further m c.requires.meeting c.args.place c.args.unit c.args.self.now c.requires.within c.requires.at c.requires.turn c.next_state.new.self.numbers reached.keeps
-    c.in_ok-state.state reached.number c.enter.new.self c.in_ok-to.to entered c.in_ok-to.ensures.place _ refl edges_are refl reached.seen
+    let at = state_at m s.numbers s.found.keys s.found.orders c.args.place c.number.result c.requires.at.known c.requires.within c.number.ensures in
+    let line = c.line-line.ensures ∙ line_is m s.numbers h c.number.result at u c.requires.turn in
+    let takes = subst (λ (r : Reply). TakesReply r s.replies.keys c.enter_reply.new.replies.keys) (λ i. record { unit = u; line = line i; status = reached.status_is i })
+    (subst (λ (rs : List Reply). TakesReply (record { unit = u; line = c.line-line.result; status = c.in_ok-state.status }) rs c.enter_reply.new.replies.keys) (λ i. (reached.replies_are i).keys) c.in_ok-enter_reply.ensures) in
+    goes_further m c.requires.meeting c.args.place u s c.requires.within c.requires.at c.requires.turn c.next_state.new.self.numbers reached.keeps
+    c.in_ok-state.state reached.number c.enter.new.self c.in_ok-to.to entered c.in_ok-to.ensures.place _ refl edges_are refl reached.seen takes
 
 pub returns-clause-stands : goal.returns-clause-stands
 returns-clause-stands c =
