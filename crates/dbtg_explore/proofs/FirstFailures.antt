@@ -1,16 +1,18 @@
 -- The first order to each failure.
 -- m is a meeting, os are the orders that are found, f is a failure, i is the place of an order.
-use Rattle.std.proofs.Common.{◌≡◌, refl, sym, ◌∙◌, ap, subst, ℕ, ◌+◌, ◌<◌, ◌≤◌, List, [], ◌∷◌, length, get_or, map, arith, inl, inr}
+use Rattle.std.proofs.Common.{◌≡◌, refl, sym, ◌∙◌, ap, subst, ℕ, ◌+◌, ◌<◌, ◌≤◌, List, [], ◌∷◌, ◌++◌, length, get_or, map, arith, inl, inr, ⊎_elim}
 use Rattle.std.specs.Prelude.{Contains}
 use Rattle.std.proofs.lemmas.Bool.{cases_lt}
-use Rattle.std.proofs.lemmas.List.{get_or_default}
+use Rattle.std.proofs.lemmas.List.{get_or_default, map_push}
+use Rattle.std.proofs.lemmas.List.Elements.{Contains-push_cases}
 use Rattle.dbtg_explore.specs.declared.explored.Failure.{Failure}
 use Rattle.dbtg_explore.specs.declared.explored.FirstFailure.{FirstFailure}
 use Rattle.dbtg_explore.specs.Inside.Ends.{FailsIn}
-use Rattle.dbtg_explore.specs.Inside.Failures.{IsFirstPlace}
+use Rattle.dbtg_explore.specs.Inside.Failures.{AreFirst, HasFirstTurns, IsFirstPlace}
 use Rattle.dbtg_explore.specs.Orders.{Meeting}
 use Rattle.dbtg_explore.specs.Pairwise.{ArePairwise}
 use Rattle.dbtg_explore.specs.States.{state_of}
+use Rattle.dbtg_explore.proofs.Searched.{contains_none}
 use Rattle.dbtg_explore.proofs.Steps.{in_map}
 
 module _ (m : Meeting) (os : List (List ℕ)) (f : Failure) where
@@ -48,8 +50,20 @@ module _ (m : Meeting) (os : List (List ℕ)) (f : Failure) where
     ];
   }
 
-  pub is_first : (i : ℕ) → IsAhead i → FailsIn (state_of m (get_or os i [])) f → IsFirstPlace m os f i
-  is_first i h fails = record { within = omega (arith, h.from_here, h.within); fails = fails; before = h.before }
+  pub first_here : (i : ℕ) → IsAhead i → i < length os → FailsIn (state_of m (get_or os i [])) f → IsFirstPlace m os f i
+  first_here i h low fails = record { within = low; fails = fails; before = h.before }
+
+-- EACH OF THEM
+
+module _ (m : Meeting) (os : List (List ℕ)) where
+  pub none_first : AreFirst m os [] []
+  none_first = record { failures_are = refl; each = λ g c. absurd (contains_none g c) }
+
+  pub one_first : (fs : List Failure) (gs : List FirstFailure) (f : Failure) (g : FirstFailure) → AreFirst m os fs gs → g.failure ≡ f → HasFirstTurns m os g → AreFirst m os (fs ++ f ∷ []) (gs ++ g ∷ [])
+  one_first fs gs f g h is first = record {
+    failures_are = map_push (λ (x : FirstFailure). x.failure) gs g ∙ (λ i. h.failures_are i ++ is i ∷ []);
+    each = λ x c. ⊎_elim (h.each x) (λ e. subst (HasFirstTurns m os) e first) (Contains-push_cases gs g x c);
+  }
 
 -- a relation of what is taken of elements is one of the elements
 pub pairwise_map : {A B : Type 0} (g : A → B) (R : B → B → Type 0) (xs : List A) → ArePairwise R (map g xs) → ArePairwise (λ x y. R (g x) (g y)) xs

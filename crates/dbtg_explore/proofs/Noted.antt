@@ -50,7 +50,7 @@ module _ (old new : BTreeSet Reply) (r : Reply) (updates : Updates reply_cmp old
   pub takes_reply : IsStrictlySortedBy reply_cmp new.keys → TakesReply r old.keys new.keys
   takes_reply in_order = record {
     kept = λ q c. there_if new q (updates.0 q ∙ ap (cond (is_eq (reply_cmp r q)) true) (if_there old q c) ∙ either (is_eq (reply_cmp r q)));
-    there = there_if new r updates.1.0;
+    there = there_if new r updates.1;
     only = λ q c. one q c (reply_cmp r q) refl;
     in_order = in_order;
   }
@@ -64,8 +64,12 @@ module _ (m : Meeting) where
   abbrev reply_at : List (List ℕ) → ℕ → ℕ → Reply
   reply_at os j v = reply_of m (history_of m (get_or os j [])) v
 
+  sorted_none : IsStrictlySortedBy reply_cmp []
+  unfolding IsStrictlySortedBy
+  sorted_none = tt
+
   pub none_noted : HasReplies m ([] ∷ []) 0 0 []
-  none_noted = record { are_of = λ r c. absurd (contains_none r c); behind = λ j v low. absurd (omega (arith, low)); here = λ v low. absurd (omega (arith, low)); in_order = tt }
+  none_noted = record { are_of = λ r c. absurd (contains_none r c); behind = λ j v low. absurd (omega (arith, low)); here = λ v low. absurd (omega (arith, low)); in_order = sorted_none }
 
   module _ (os : List (List ℕ)) (i u : ℕ) (rs : List Reply) (h : HasReplies m os i u rs) where
     -- the unit cannot have its turn there

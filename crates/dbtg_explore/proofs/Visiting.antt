@@ -1,14 +1,17 @@
 -- All states, and what they lead to.
 -- m is a meeting, o and p are orders, i is the place of an order that is found.
-use Rattle.std.proofs.Common.{◌≡◌, refl, sym, ◌∙◌, ap, subst, ℕ, ◌+◌, ◌<◌, ◌≤◌, Bool, true, false, List, [], ◌∷◌, ◌++◌, length, get_or, take, Option, None, Some, arith, if◌then◌else◌, inl, inr}
-use Rattle.std.specs.Prelude.{Contains, option_and_then}
+use Rattle.std.proofs.Common.{◌≡◌, refl, sym, ◌∙◌, ap, subst, ℕ, ◌+◌, ◌-◌, ◌<◌, ◌≤◌, Bool, true, false, List, [], ◌∷◌, ◌++◌, length, get_or, take, Option, None, Some, arith, if◌then◌else◌, inl, inr}
+use Rattle.std.specs.Prelude.{Contains, option_and_then, option_map}
 use Rattle.std.proofs.lemmas.Bool.{cases_lt}
 use Rattle.std.proofs.lemmas.List.{get_or-take, get_or_default, length-take, take-append-le, take_all, take_more}
 use Rattle.std.proofs.lemmas.List.Elements.{Contains-get_or}
+use Rattle.std.proofs.lemmas.Option.{slice_get_within}
 use Rattle.dbtg_program.specs.declared.program.End.{End}
+use Rattle.dbtg_program.specs.declared.program.Program.{Program}
 use Rattle.dbtg_program.specs.States.{ProgramState}
 use Rattle.dbtg_program.specs.Going.{Due, due, ended}
 use Rattle.dbtg_step.specs.Machine.SequentialDatabase.{unit_at}
+use Rattle.dbtg_going.specs.Turns.{comes}
 use Rattle.dbtg_explore.specs.declared.ends.Ends as ends
 use Rattle.dbtg_explore.specs.declared.explored.Explored as given
 use Rattle.dbtg_explore.specs.declared.explored.Failure.{Failure}
@@ -27,7 +30,7 @@ use Rattle.dbtg_explore.specs.Pairwise.{ArePairwise}
 use Rattle.dbtg_explore.specs.Replies.{AreReplies}
 use Rattle.dbtg_explore.specs.Results.{AreFailures, AreResults, FailsBefore, is_failure}
 use Rattle.dbtg_explore.specs.States.{CountsStates, Essence, MeetingState, essence, essence_of, state_of}
-use Rattle.dbtg_explore.proofs.Alike.{can_go_on_alike}
+use Rattle.dbtg_explore.proofs.Alike.{can_go_on_alike, comes_at}
 use Rattle.dbtg_explore.proofs.Before.{no_later_trans}
 use Rattle.dbtg_explore.proofs.Counted.{counted_failure, counted_says}
 use Rattle.dbtg_explore.proofs.FirstFailures.{pairwise_map}
@@ -35,6 +38,7 @@ use Rattle.dbtg_explore.proofs.Keyed.{same_text}
 use Rattle.dbtg_explore.proofs.Noting.{ends_later}
 use Rattle.dbtg_explore.proofs.Searched.{all_found, in_order_at, no_later_place}
 use Rattle.dbtg_explore.proofs.Steps.{goes_on, kept_range, of_map}
+use Rattle.dbtg_explore.proofs.Transitions.{at_number, numbered}
 
 -- orders before place i are before the order at it
 is_behind : (os : List (List ℕ)) (i : ℕ) → ArePairwise IsBefore os → i < length os → IsBehind (take i os) (get_or os i [])
@@ -94,6 +98,21 @@ module _ (m : Meeting) where
     by None there e = absurd (cc)
     by (Some (due at s)) there e = absurd (cc)
     by (Some (ended at how)) there e = by_end at how (is_failure how) there refl e
+
+  -- a unit that fails has a program
+  pub fails_unit : (o : List ℕ) (f : Failure) → FailsIn (state_of m o) f → (0 < f.unit) × (f.unit ≤ length m.programs)
+  fails_unit o f fails = by (unit_at m.programs f.unit) refl where
+    there : (at : ProgramState) × (unit_at (state_of m o).programs f.unit ≡ Some (ended at f.how))
+    there = let failed = has_failed (state_of m o) f fails in (failed.at, failed.ended_is)
+
+    by : (p : Option Program) → unit_at m.programs f.unit ≡ p → (0 < f.unit) × (f.unit ≤ length m.programs)
+    by None none =
+        let nothing : Some (ended there.0 f.how) ≡ None = sym there.1 ∙ comes_at m (history_of m o) f.unit ∙ ap (option_map (λ (p : Program). comes m.schema p f.unit (history_of m o))) none in
+        absurd (cc (nothing))
+    by (Some p) found =
+        let low = numbered m.programs f.unit p found in
+        let within = slice_get_within m.programs (f.unit - 1) p (sym (at_number m.programs f.unit low) ∙ found) in
+        (low, omega (arith, low, within))
 
   fails_there : (state : MeetingState) (f : Failure) (at : ProgramState) → unit_at state.programs f.unit ≡ Some (ended at f.how) → is_failure f.how ≡ true → FailsIn state f
   fails_there state f at there fails = ap (option_and_then failure_by) there ∙ ap (λ (b : Bool). if b then Some f.how else None) fails

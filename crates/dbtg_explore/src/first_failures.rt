@@ -35,11 +35,13 @@ impl Search {
         requires there { (o : List ℕ) × Contains self.now.found.orders o × FailsIn (state_of meeting.now o) failure }
         ensures { IsFirstPlace meeting.now self.now.found.orders failure result }
     {
-        let mut place = 0;
-        while !has_failed(&self.numbers, self.found.number(place), failure) {
-            place += 1;
+        let count = self.found.len();
+        for place in 0..count {
+            if has_failed(&self.numbers, self.found.number(place), failure) {
+                return place;
+            }
         }
-        place
+        count
     }
 
     // The failure with its first turns.

@@ -14,4 +14,4 @@ returns-in-FileOptionWithout c = rw c.in-FileOptionWithout.is
 
 pub returns-in-WishOption : goal.returns-in-WishOption
 returns-in-WishOption c = rw c.in-WishOption.is
-    (IfOk-weaker c.conflicts_with-in-WishOption.result _ (IsArg (excluding (wish_option c.in-WishOption.name.now))) (λ arg adds. in_conflict c.wish_option-in-WishOption.result arg _ _ c.wish_option-in-WishOption.ensures adds) c.conflicts_with-in-WishOption.ensures)
+    (IfOk-weaker c.conflicts_with-in-WishOption.result _ (IsArg (excluding (wish_option c.in-WishOption.name.now))) (λ arg adds. in_conflict c.wish_option.result arg _ _ c.wish_option.ensures adds) c.conflicts_with-in-WishOption.ensures)

@@ -31,15 +31,15 @@ returns-clause-goes c =
     let u = c.args.unit in
     let h = history_of m (get_or s.found.orders c.args.place []) in
     let reached = c.in_ok-state.ensures.reaches in
-    let entered = subst (λ (f : FoundOrders ℕ). IsEntered f c.in_ok-state.state (get_or f.orders c.args.place [] ++ u ∷ []) c.enter.new.self) reached.found_is c.in_ok-to.ensures.entered in
+    let entered = subst (λ (f : FoundOrders ℕ). IsEntered f c.in_ok-state.field-0.state (get_or f.orders c.args.place [] ++ u ∷ []) c.enter.new.self) reached.found_is c.in_ok-to.ensures.entered in
     let edges_are = c.in_ok-push.ensures.items ∙ (λ j. reached.edges_are j ++ c.in_ok-new.ensures j ∷ []) in
     let at = state_at m s.numbers s.found.keys s.found.orders c.args.place c.number.result c.requires.at.known c.requires.within c.number.ensures in
     let line = c.line-line.ensures ∙ line_is m s.numbers h c.number.result at u c.requires.turn in
     let takes = subst (λ (r : Reply). TakesReply r s.replies.keys c.enter_reply.new.replies.keys) (λ i. record { unit = u; line = line i; status = reached.status_is i })
-    (subst (λ (rs : List Reply). TakesReply (record { unit = u; line = c.line-line.result; status = c.in_ok-state.status }) rs c.enter_reply.new.replies.keys) (λ i. (reached.replies_are i).keys) c.in_ok-enter_reply.ensures) in
+    (subst (λ (rs : List Reply). TakesReply (record { unit = u; line = c.line-line.result; status = c.in_ok-state.field-0.status }) rs c.enter_reply.new.replies.keys) (λ i. (reached.replies_are i).keys) c.in_ok-enter_reply.ensures) in
     goes_further m c.requires.meeting c.args.place u s c.requires.within c.requires.at c.requires.turn c.next_state.new.self.numbers reached.keeps
-    c.in_ok-state.state reached.number c.enter.new.self c.in_ok-to.to entered c.in_ok-to.ensures.place _ refl edges_are refl reached.seen takes
+    c.in_ok-state.field-0.state reached.number c.enter.new.self c.in_ok-to.to entered c.in_ok-to.ensures.place _ refl edges_are refl reached.seen takes
 
 pub returns-clause-stands : goal.returns-clause-stands
 returns-clause-stands c =
-    among_entered c.args.meeting.now c.next_state.new.self.found c.in_ok-state.state _ c.enter.new.self c.next_state.new.walk c.in_ok-to.ensures.entered c.in_ok-state.ensures.stands
+    among_entered c.args.meeting.now c.next_state.new.self.found c.in_ok-state.field-0.state _ c.enter.new.self c.next_state.new.walk c.in_ok-to.ensures.entered c.in_ok-state.ensures.stands
