@@ -8,9 +8,6 @@ pub mod NamesOnce
 pub mod Reversals
 pub mod SerialLaw
 pub mod SerialShown
-pub mod TurnedCores
-pub mod TurnsBack
-pub mod TurnsChange
 pub mod TurnsTaken
 pub mod WaysBack
 pub mod Wholes
