@@ -40,7 +40,7 @@ pub use machine::Core;
 pub use opening_parts::{opening_cells, opening_unit};
 pub use results::Run;
 pub use reversible::ReversibleDatabase;
-pub use running::{make_move, run, run_serial};
+pub use running::{make_move, run, run_serial, run_whole_turns};
 pub use statements::{next_need, prepare, true_guesses};
 pub use taking_turns::{Turned, run_turns};
 pub use waiting::{Awaited, Blocking};

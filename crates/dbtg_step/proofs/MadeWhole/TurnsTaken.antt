@@ -77,7 +77,7 @@ module _ (D : SequentialDatabase) (opening : SequentialState D) where
   -- ONE TURN
 
   -- a unit that makes its next statement goes on with it: it draws one ticket at most
-  pub more_alone : (u n : ℕ) (first s t : State D) (before : UnitState D) (a : StepsAlone D opening first u before s) → OneStep D opening s u a.new t → length before.remaining ≤ suc n → (Unticketed D a.new.progress → n < length a.new.remaining) → StepsAlone D opening first u before t
+  unfoldable pub more_alone : (u n : ℕ) (first s t : State D) (before : UnitState D) (a : StepsAlone D opening first u before s) → OneStep D opening s u a.new t → length before.remaining ≤ suc n → (Unticketed D a.new.progress → n < length a.new.remaining) → StepsAlone D opening first u before t
   more_alone u n first s t before a b few begun = record {
     new = b.alone.new;
     units = b.alone.units ∙ ap (λ us. with_unit_at us u b.alone.new) a.units ∙ set_again first.units u a.new b.alone.new;

@@ -1,9 +1,11 @@
--- Words beside `Turns` that private functions and lemmas use: a turn that is not over, and what turns lead to.
+-- Words beside `Turns` that private functions and lemmas use: a turn that is not over, what turns lead to, and the statements that they make.
 -- s is a state before a turn.
-use Rattle.std.specs.Prelude.{ℕ, ◌≡◌, ◌≤◌, ◌++◌, List, None, length, map, nat_lt, take}
+use Rattle.std.specs.Prelude.{ℕ, ◌≡◌, ◌≤◌, ◌++◌, List, [], ◌∷◌, None, drop, length, map, nat_lt, take}
+use Rattle.std.specs.Option.{unwrap_or}
 use Rattle.dbtg_unit.specs.declared.moves.Move.{Move}
+use Rattle.dbtg_unit.specs.declared.statement.Statement.{Statement}
 use Rattle.dbtg_step.specs.declared.taking_turns.Noted.{Noted}
-use Rattle.dbtg_step.specs.Machine.SequentialDatabase.{SequentialDatabase}
+use Rattle.dbtg_step.specs.Machine.SequentialDatabase.{SequentialDatabase, unit_at, with_unit_at}
 use Rattle.dbtg_step.specs.Machine.Machine.{State, UnitState}
 use Rattle.dbtg_step.specs.Machine.Network.{network}
 use Rattle.dbtg_step.specs.Core.Parts.{CoreState, with_state}
@@ -51,3 +53,22 @@ module _ (D : SequentialDatabase) where
   pub record IsDone (n : ℕ) (state : UnitState D) : Type 0 where
     pub between : state.progress ≡ None
     pub few : length state.remaining ≤ n
+
+-- TURNS MADE WHOLE
+
+-- what unit u has left, where these are left of the scripts; one that does not exist has nothing
+abbrev pub left_at : List (List Statement) → ℕ → List Statement
+left_at left u = unwrap_or (unit_at left u) []
+
+-- what is left after a turn of unit u
+abbrev pub after_turn : List (List Statement) → ℕ → List (List Statement)
+after_turn left u = with_unit_at left u (drop 1 (left_at left u))
+
+-- the statement that such a turn makes, with its unit, if the unit has one
+abbrev pub made_in_turn : List (List Statement) → ℕ → List (ℕ × Statement)
+made_in_turn left u = map (λ x. (u, x)) (take 1 (left_at left u))
+
+-- the statements that these turns make, each with its unit, where these are left of the scripts
+unfoldable pub statements_in_turn : List (List Statement) → List ℕ → List (ℕ × Statement)
+statements_in_turn left [] = []
+statements_in_turn left (u ∷ us) = made_in_turn left u ++ statements_in_turn (after_turn left u) us
