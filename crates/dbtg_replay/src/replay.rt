@@ -20,7 +20,7 @@ use dbtg_command::{Fault, OrderKind, Source, read_moves, read_schema, read_turns
 use dbtg_refusal::said_of_history;
 use dbtg_schema::{Row, Schema};
 use dbtg_script::{Beside, moves_text, push_echoed_run, push_run};
-use dbtg_step::{Run, run, run_serial, run_turns};
+use dbtg_step::{Run, run, run_serial, run_whole_turns};
 use dbtg_trace::push_traced_run;
 use dbtg_unit::{LAST_UNIT, Statement};
 use std::alloc::{AllocError, Global};
@@ -184,7 +184,7 @@ fn moved_text(
     text_with_moves(alloc, schema, shown, &given, all.before)
 }
 
-// Takes these turns. The moves that they stand for are not asked for.
+// Takes these turns, each statement made whole.
 fn turned_text(
     alloc: Global,
     schema: &Schema,
@@ -198,8 +198,8 @@ fn turned_text(
     requires fit { scripts_fit schema.now scripts ≡ true }
     ensures { IfOk result (λ out. IsPrinted (RunByTurnsIs schema.now capacity scripts turns.now) (shown_text schema.now shown.entry.form shown.entry.texts.now) out.items) }
 {
-    let given = run_turns(alloc, schema, capacity, scripts, turns, 0)?;
-    text_of(alloc, schema, shown, &given.run)
+    let given = run_whole_turns(alloc, schema, capacity, scripts, turns)?;
+    text_of(alloc, schema, shown, &given)
 }
 
 // Runs one script after the other. The last one runs before all others if it is to be made first.

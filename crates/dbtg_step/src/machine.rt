@@ -1,5 +1,5 @@
 //! The core: a database and its run-units, stepped event by event.
-ghost use Rattle.std.specs.Prelude.{◌≡◌, ◌≤◌, ◌∷◌, [], true, Some, length, map, option_map, IfOk, OnOk};
+ghost use Rattle.std.specs.Prelude.{◌≡◌, ◌≤◌, true, length, map, option_map, IfOk, OnOk};
 ghost use Rattle.dbtg_unit.specs.Database.State.Image.{image_of};
 ghost use Rattle.dbtg_unit.specs.Database.Laws.Replay.{AnswersHold, TicketsInOrder, opening_state, replay};
 ghost use Rattle.dbtg_step.specs.Machine.SequentialDatabase.{unit_at};
@@ -11,8 +11,8 @@ ghost use Rattle.dbtg_step.specs.Laws.{scripts_fit};
 ghost use Rattle.dbtg_step.specs.Machine.Network.{network};
 ghost use Rattle.dbtg_step.specs.Inside.Events.{IsWell};
 ghost use Rattle.dbtg_step.specs.Inside.Parts.{core_of};
-ghost use Rattle.dbtg_step.specs.Core.Parts.{CoreState, machine};
-ghost use Rattle.dbtg_step.specs.Inside.Turns.{HaveTurned, LeadsBackTo};
+ghost use Rattle.dbtg_step.specs.Core.Parts.{machine};
+ghost use Rattle.dbtg_step.specs.Inside.Turns.{HaveTurned};
 ghost use Rattle.dbtg_step.specs.Core.Newest.{newest_at};
 ghost use Rattle.dbtg_step.specs.Core.Positions.{position_at};
 ghost use Rattle.dbtg_step.specs.Core.Runs.{IsHandedOut};
@@ -23,11 +23,10 @@ use crate::imaging::{CellSource, read_image, unit_numbered};
 use crate::opening_parts::{opening_runners, opening_table};
 use crate::parts::Parts;
 use crate::quitting::quit;
-use crate::results::{Run, copy_entries};
-use crate::runner::{copy_units, units_of};
+use crate::results::Run;
+use crate::runner::units_of;
 use crate::stepping::step;
-use crate::taking_turns::{Noted, take_one_turn, take_turns};
-use crate::turned_core::{WayOverTurn, go_back, way_before, with_cells};
+use crate::taking_turns::{Noted, take_turns};
 use crate::waiting::{Blocking, blocking_of};
 use crate::watching::{Newest, Position, newest_of, position_of};
 use dbtg_schema::{Row, Schema};
@@ -143,51 +142,6 @@ impl Core {
             turns,
             noted,
         )
-    }
-
-    /// One turn of a unit, and the way back over it; none if there is no such unit.
-    pub(crate) fn take_turn(
-        &mut self,
-        unit: u8,
-        noted: &mut Noted,
-    ) -> Result<Option<WayOverTurn>, AllocError>
-        requires { AllBetween (network (machine self.old).schema (machine self.old).capacity) (machine self.old).state }
-        ensures turned { OnOk result (HaveTurned (machine self.old) (unit ∷ []) (machine self.new) noted.old noted.new) }
-        ensures back { IfOk result (λ way. LeadsBackTo unit way (machine self.old) (machine self.new)) }
-    {
-        let way = way_before(self.alloc, &self.parts, unit)?;
-        let cells = take_one_turn(
-            self.alloc,
-            &self.schema,
-            self.capacity,
-            &mut self.parts,
-            unit,
-            noted,
-        )?;
-        Ok(with_cells(way, cells))
-    }
-
-    /// Goes the way back over the last turn, which was one of this unit.
-    pub(crate) fn go_back(&mut self, unit: u8, way: WayOverTurn)
-        requires { (c : CoreState) × LeadsBackTo unit (Some way) c (machine self.old) }
-        ensures { (c : CoreState) → LeadsBackTo unit (Some way) c (machine self.old) → machine self.new ≡ c }
-    {
-        go_back(&self.schema, self.capacity, &mut self.parts, unit, way);
-    }
-
-    /// What it comes to so far. Moves have no results.
-    pub(crate) fn run(&self) -> Result<Run, AllocError>
-        ensures { IfOk result (IsHandedOut self.now []) }
-    {
-        let image = self.image(self.alloc)?;
-        let history = copy_entries(self.alloc, self.history())?;
-        let units = copy_units(self.alloc, self.parts.runners.as_slice())?;
-        Ok(Run {
-            results: Row::of(Vec::new(self.alloc)),
-            image,
-            history,
-            units,
-        })
     }
 
     /// One step of the unit with this number: the machine's step, or a refusal of memory in place of an event before its

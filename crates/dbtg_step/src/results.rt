@@ -1,9 +1,8 @@
 //! The results of a run: the result of each move, the image of its database, its history and its units.
-ghost use Rattle.std.specs.Prelude.{◌≡◌, IfOk};
+ghost use Rattle.std.specs.Prelude.{◌≡◌};
 
 use dbtg_schema::Row;
 use dbtg_unit::{Entry, Image, Stepped, Unit};
-use std::alloc::{AllocError, Global};
 
 /// The result of each move of a run, and then the image, the statements that drew a ticket, in the order of their
 /// tickets, and the units by number.
@@ -23,15 +22,4 @@ impl Run {
         let Run { history, .. } = self;
         history
     }
-}
-
-/// Copies of the entries, in their order.
-pub fn copy_entries(alloc: Global, entries: &[Entry]) -> Result<Row<Entry>, AllocError>
-    ensures { IfOk result (λ copies. copies ≡ entries.now) }
-{
-    let mut copies = Vec::with_capacity(alloc, entries.len())?;
-    for entry in entries {
-        copies.push(entry.copy()?)?;
-    }
-    Ok(Row::of(copies))
 }

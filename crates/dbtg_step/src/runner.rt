@@ -146,14 +146,3 @@ pub fn units_of(alloc: Global, runners: Vec<UnitState>) -> Result<Row<Unit>, All
     }
     Ok(Row::of(units))
 }
-
-/// Copies of the units, in their order.
-pub fn copy_units(alloc: Global, runners: &[UnitState]) -> Result<Row<Unit>, AllocError>
-    ensures { IfOk result (λ units. units ≡ map (λ r. r.unit) runners.now) }
-{
-    let mut units = Vec::with_capacity(alloc, runners.len())?;
-    for runner in runners {
-        units.push(runner.unit.copy(alloc)?)?;
-    }
-    Ok(Row::of(units))
-}

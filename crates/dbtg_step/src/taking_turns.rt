@@ -1,6 +1,5 @@
 //! Interleavings by whole statements: units take turns, and each turn consists of the events of one statement.
 ghost use Rattle.std.specs.Prelude.{◌≡◌, ℕ, ◌<◌, ◌≤◌, ◌-◌, ◌∷◌, ◌++◌, [], true, List, drop, length, map, take, IfOk, OnOk};
-ghost use Rattle.std.specs.Option.{option_to_list};
 ghost use Rattle.std.specs.Bool.{Decides};
 ghost use Rattle.dbtg_schema.specs.Lists.{Lists};
 ghost use Rattle.dbtg_schema.specs.Sound.{IsSound};
@@ -13,14 +12,12 @@ ghost use Rattle.dbtg_step.specs.Core.Parts.{machine, unit_state_of};
 ghost use Rattle.dbtg_step.specs.Inside.Parts.{core_of, state_of};
 ghost use Rattle.dbtg_step.specs.Inside.Events.{IsWell};
 ghost use Rattle.dbtg_step.specs.Core.Turns.{AllBetween, AreGiven, TurnedIs};
-ghost use Rattle.dbtg_step.specs.Inside.Turns.{ChangesInTurn, HaveTurned, IsDone, IsNoted, NotesMore, TurnsLead, machine_cells, newest_untouched};
-ghost use Rattle.dbtg_cells.specs.Cells.{shown};
+ghost use Rattle.dbtg_step.specs.Inside.Turns.{HaveTurned, IsDone, IsNoted, NotesMore, TurnsLead};
 
 use crate::machine::Core;
 use crate::parts::{Parts, UnitState};
 use crate::results::Run;
 use crate::stepping::step;
-use dbtg_cells::{Cell, CellName};
 use dbtg_schema::{Row, Schema};
 use dbtg_unit::{LAST_UNIT, Move, Statement, Stepped};
 use std::alloc::{AllocError, Global};
@@ -64,8 +61,8 @@ impl Noted {
         Ok(())
     }
 
-    /// Nothing yet.
-    pub(crate) fn new(alloc: Global, limit: usize) -> Noted
+    // Nothing yet.
+    fn new(alloc: Global, limit: usize) -> Noted
         ensures limit { result.limit ≡ limit }
         ensures nothing { IsNoted result [] }
     {
@@ -76,25 +73,12 @@ impl Noted {
         }
     }
 
-    /// The moves, if no more of them were made than the limit.
-    pub(crate) fn moves(&self, alloc: Global) -> Result<Option<Row<Move>>, AllocError>
-        ensures { IfOk result (λ given. (moves : List Move) → IsNoted self.now moves → AreGiven self.now.limit moves given) }
+    // The moves, if no more of them were made than the limit.
+    fn into_moves(self) -> Option<Row<Move>>
+        ensures { (moves : List Move) → IsNoted self moves → AreGiven self.limit moves result }
     {
-        if self.over {
-            return Ok(None);
-        }
-        let copy = Vec::from_slice(alloc, self.moves.as_slice())?;
-        Ok(Some(Row::of(copy)))
-    }
-
-    /// Takes back the last moves, until as many as this are noted; there are more of them, or not.
-    pub(crate) fn take_back(&mut self, count: usize, over: bool)
-        ensures moves { self.new.moves.items ≡ take count self.old.moves.items }
-        ensures limit { self.new.limit ≡ self.old.limit }
-        ensures over { self.new.over ≡ over }
-    {
-        self.moves.truncate(count);
-        self.over = over;
+        let Noted { moves, over, .. } = self;
+        if over { None } else { Some(Row::of(moves)) }
     }
 }
 
@@ -112,34 +96,8 @@ fn is_done(runner: &UnitState, left: usize) -> bool
     runner.progress.is_none() & (statements_left(runner) <= left)
 }
 
-// The cell that the unit took last, if its statement has no ticket: no event has changed it yet.
-fn newest_untouched(runner: &UnitState) -> Option<(CellName, &Cell)>
-    ensures { (schema : Lists) (capacity : ℕ) → map (λ e. record { name = e.0; value = shown e.1.now }) (option_to_list result) ≡ newest_untouched (network schema capacity) (unit_state_of schema capacity runner.now).progress }
-{
-    if runner.progress?.ticket.is_some() {
-        return None;
-    }
-    let name = runner.held.last_name()?;
-    let cell = runner.held.cells().last()?;
-    Some((name, cell))
-}
-
-// Keeps a copy of the cell that the unit took last, as long as its statement has no ticket.
-fn keep_newest(
-    alloc: Global,
-    runner: &UnitState,
-    kept: &mut Vec<(CellName, Cell)>,
-) -> Result<(), AllocError>
-    ensures { OnOk result ((schema : Lists) (capacity : ℕ) → machine_cells kept.new.items ≡ machine_cells kept.old.items ++ newest_untouched (network schema capacity) (unit_state_of schema capacity runner.now).progress) }
-{
-    if let Some((name, cell)) = newest_untouched(runner) {
-        kept.push((name, cell.copy(alloc)?))?;
-    }
-    Ok(())
-}
-
 /// One turn of a unit, step by step; nothing if there is no such unit, or its script is at its end. No other unit holds
-/// anything, so the unit never waits, and its steps come to an end. It gives copies of the cells that the unit took, as they were.
+/// anything, so the unit never waits, and its steps come to an end.
 pub fn take_one_turn(
     alloc: Global,
     schema: &Schema,
@@ -147,33 +105,28 @@ pub fn take_one_turn(
     parts: &mut Parts,
     unit: u8,
     noted: &mut Noted,
-) -> Result<Vec<(CellName, Cell)>, AllocError>
+) -> Result<(), AllocError>
     requires well { IsWell schema.now capacity parts.old }
     requires between { AllBetween (network schema.now capacity) (state_of schema.now capacity parts.old) }
     ensures well { IsWell schema.now capacity parts.new }
     ensures turned { OnOk result (HaveTurned (core_of schema.now capacity parts.old) (unit ∷ []) (core_of schema.now capacity parts.new) noted.old noted.new) }
-    ensures changes { IfOk result (λ kept. ChangesInTurn (network schema.now capacity) unit (state_of schema.now capacity parts.old) (state_of schema.now capacity parts.new) (machine_cells kept.items)) }
 {
-    let mut kept = Vec::new(alloc);
     if unit == 0 || parts.runners.len() < unit as usize {
-        return Ok(kept);
+        return Ok(());
     }
     let left = statements_left(&parts.runners[unit as usize - 1]);
     if left == 0 {
-        return Ok(kept);
+        return Ok(());
     }
     while !is_done(&parts.runners[unit as usize - 1], left - 1) {
         match step(alloc, schema, capacity, parts, unit) {
-            Stepped::Moved => {
-                noted.note(Move::Step(unit))?;
-                keep_newest(alloc, &parts.runners[unit as usize - 1], &mut kept)?;
-            }
+            Stepped::Moved => noted.note(Move::Step(unit))?,
             Stepped::NoMemory => return Err(AllocError),
             Stepped::Blocked => unreachable!(),
             Stepped::Idle => unreachable!(),
         }
     }
-    Ok(kept)
+    Ok(())
 }
 
 /// The units take these turns, one after another. If memory is refused it stops there.
@@ -191,7 +144,7 @@ pub fn take_turns(
     ensures turned { OnOk result (HaveTurned (core_of schema.now capacity parts.old) turns.now (core_of schema.now capacity parts.new) noted.old noted.new) }
 {
     for unit in turns {
-        let _kept = take_one_turn(alloc, schema, capacity, parts, *unit, noted)?;
+        take_one_turn(alloc, schema, capacity, parts, *unit, noted)?;
     }
     Ok(())
 }
@@ -208,7 +161,7 @@ fn moves_of_turns(
 {
     let mut noted = Noted::new(alloc, limit);
     core.take_turns(turns, &mut noted)?;
-    noted.moves(alloc)
+    Ok(noted.into_moves())
 }
 
 /// The units take these turns, starting with the opening database, with a unit for each script: a turn is the events of a unit up to

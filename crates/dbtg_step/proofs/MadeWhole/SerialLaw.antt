@@ -46,7 +46,7 @@ entries_same (e ∷ es) (f ∷ fs) t s a =
     let answers_then : map (λ (e : Entry). Some e.answer) es ≡ map (λ (e : Entry). Some e.answer) fs = cc (a) in
     λ i. record { ticket = ticket i; unit = unit i; statement = statement i; answer = answer i } ∷ entries_same es fs tickets statements answers_then i
 
-same_history : (schema : Lists) (capacity : ℕ) (state : DatabaseState) (es fs : List Entry) → TicketsInOrder es → TicketsInOrder fs → AnswersHold schema capacity state es → AnswersHold schema capacity state fs → statements_of es ≡ statements_of fs → es ≡ fs
+pub same_history : (schema : Lists) (capacity : ℕ) (state : DatabaseState) (es fs : List Entry) → TicketsInOrder es → TicketsInOrder fs → AnswersHold schema capacity state es → AnswersHold schema capacity state fs → statements_of es ≡ statements_of fs → es ≡ fs
 same_history schema capacity state es fs t u a b s =
     let count : length es ≡ length fs = sym (length-map es (λ (e : Entry). (e.unit, e.statement))) ∙ ap length s ∙ length-map fs (λ (e : Entry). (e.unit, e.statement)) in
     entries_same es fs (t ∙ ap (range_with_len 0) count ∙ sym u) s
@@ -83,6 +83,12 @@ module _ (schema : Lists) (capacity : ℕ) (location : CellName → CellLocation
 
 -- THE LAW
 
+-- the statements of the machine's history, in its order
+pub entries_made : (schema : Lists) (capacity : ℕ) (es : List (HistoryEntry (network schema capacity)))
+    → statements_of (map entry_of es) ≡ map (λ (e : HistoryEntry (network schema capacity)). (e.unit, e.statement)) es
+entries_made schema capacity [] = refl
+entries_made schema capacity (e ∷ es) = ap (λ ps. (e.unit, e.statement) ∷ ps) (entries_made schema capacity es)
+
 module _ (schema : Lists) (capacity : ℕ) (sound : IsSound schema) (scripts : List (List Statement)) (fit : scripts_fit schema scripts ≡ true) where
   abbrev first : State (network schema capacity)
   first = machine_of schema capacity scripts
@@ -90,13 +96,13 @@ module _ (schema : Lists) (capacity : ℕ) (sound : IsSound schema) (scripts : L
   abbrev opening : SequentialState (network schema capacity)
   opening = opening_of schema capacity (length scripts)
 
-  is_opening : IsOpening (network schema capacity) opening first
+  pub is_opening : IsOpening (network schema capacity) opening first
   is_opening = headlines.machine_is_opening schema capacity scripts (opening_is_legal schema capacity (length scripts)) fit
 
-  between : AllBetween schema capacity first
+  pub between : AllBetween schema capacity first
   between w other e = (is_opening.idle w other e).0
 
-  order : AllInTurn (network schema capacity) name_below first
+  pub order : AllInTurn (network schema capacity) name_below first
   order = record { each = λ w state p e q t. let b = between w state e in absurd (cc (b, q)) }
 
   stand : Stand schema capacity scripts 1 first
@@ -112,12 +118,8 @@ module _ (schema : Lists) (capacity : ℕ) (sound : IsSound schema) (scripts : L
   unfolding machine_after
   is_run = reached.1
 
-  entries_made : (es : List (HistoryEntry (network schema capacity))) → statements_of (map entry_of es) ≡ map (λ (e : HistoryEntry (network schema capacity)). (e.unit, e.statement)) es
-  entries_made [] = refl
-  entries_made (e ∷ es) = ap (λ ps. (e.unit, e.statement) ∷ ps) (entries_made es)
-
   in_turn : statements_of (map entry_of out.last.history) ≡ in_turn_from 1 scripts
-  in_turn = entries_made out.last.history ∙ out.made
+  in_turn = entries_made schema capacity out.last.history ∙ out.made
 
   sequential : IsSequential schema capacity scripts (map entry_of out.last.history) (image_of schema capacity (replay (network schema capacity) opening out.last.history).database) (map (λ (x : UnitState (network schema capacity)). x.unit) out.last.units)
   sequential =

@@ -7,8 +7,6 @@ use Rattle.std.proofs.lemmas.List.{map-append, take_more, nil_from_length}
 use Rattle.std.proofs.lemmas.Option.{same_Some}
 use Rattle.dbtg_schema.specs.Lists.{Lists}
 use Rattle.dbtg_schema.specs.Sound.{IsSound}
-use Rattle.dbtg_cells.specs.declared.cell.Cell.{Cell}
-use Rattle.dbtg_cells.specs.declared.name.CellName.{CellName}
 use Rattle.dbtg_unit.specs.declared.moves.Move.{Move}
 use Rattle.dbtg_unit.specs.declared.moves.Move.TheVariants.{Step}
 use Rattle.dbtg_unit.specs.declared.moves.Stepped.TheVariants.{Moved}
@@ -23,7 +21,6 @@ use Rattle.dbtg_step.specs.Machine.SequentialDatabase.{SequentialDatabase, unit_
 use Rattle.dbtg_step.specs.Machine.Machine.{HistoryEntry, SequentialState, State, UnitState}
 use Rattle.dbtg_step.specs.Inside.Step.{IfMoved}
 use Rattle.dbtg_step.specs.Machine.Step.{MovedTo, run, state_after, step, transition}
-use Rattle.dbtg_step.specs.Machine.Lawful.{Lawful}
 use Rattle.dbtg_step.specs.Machine.Network.{network}
 use Rattle.dbtg_step.specs.Machine.Headline.{entry_of, machine_after, machine_of, opening_of, units_from}
 use Rattle.dbtg_step.specs.Laws.{scripts_fit}
@@ -32,12 +29,11 @@ use Rattle.dbtg_step.specs.Inside.Parts.{core_of, state_of}
 use Rattle.dbtg_step.specs.Inside.Events.{IsStepped, IsWell, opening_for}
 use Rattle.dbtg_step.specs.Core.Runs.{IsHandedOut}
 use Rattle.dbtg_step.specs.Core.Turns.{AllBetween, AreEvents, AreTurns, IsBefore, IsRunByTurns, IsTurnOf, left_of, made_turns}
-use Rattle.dbtg_step.specs.Inside.Turns.{ChangesInTurn, HaveTurned, IsDone, IsNoted, NotesMore, TurnsLead, first_core, lefts_of, machine_cells, newest_untouched, turns_ahead}
+use Rattle.dbtg_step.specs.Inside.Turns.{HaveTurned, IsDone, IsNoted, NotesMore, TurnsLead, lefts_of, turns_ahead}
 use Rattle.dbtg_step.proofs.TheCore.Alone.{OneStep, StepsAlone, Unticketed, one_step}
 use Rattle.dbtg_step.proofs.TheCore.EventsShown.{found}
 use Rattle.dbtg_step.proofs.Runs.Headlines.{machine_is_opening, run_is_sequential}
 use Rattle.dbtg_step.proofs.Network.NetworkFacts.{network_is_sequential}
-use Rattle.dbtg_step.proofs.MadeWhole.TurnsChange.{KeepsCells, changes_in_turn, changes_nothing, keeps_more, keeps_none}
 use Rattle.dbtg_step.proofs.TheCore.QuitShown.{stepped_well}
 use Rattle.dbtg_step.proofs.TheCore.RunsShown.{handed_sequential, history_handed}
 use Rattle.dbtg_step.proofs.Runs.Serials.{run_append}
@@ -81,7 +77,7 @@ module _ (D : SequentialDatabase) (opening : SequentialState D) where
   -- ONE TURN
 
   -- a unit that makes its next statement goes on with it: it draws one ticket at most
-  pub more_alone : (u n : ℕ) (first s t : State D) (before : UnitState D) (a : StepsAlone D opening first u before s) → OneStep D opening s u a.new t → length before.remaining ≤ suc n → (Unticketed D a.new.progress → n < length a.new.remaining) → StepsAlone D opening first u before t
+  unfoldable pub more_alone : (u n : ℕ) (first s t : State D) (before : UnitState D) (a : StepsAlone D opening first u before s) → OneStep D opening s u a.new t → length before.remaining ≤ suc n → (Unticketed D a.new.progress → n < length a.new.remaining) → StepsAlone D opening first u before t
   more_alone u n first s t before a b few begun = record {
     new = b.alone.new;
     units = b.alone.units ∙ ap (λ us. with_unit_at us u b.alone.new) a.units ∙ set_again first.units u a.new b.alone.new;
@@ -94,7 +90,7 @@ module _ (D : SequentialDatabase) (opening : SequentialState D) where
         | inl q ↦ inr (record { x = d.x; xs = d.xs; before = d.before; after = q.1 ∙ d.after; entry = d.entry; history = q.0 ∙ d.history; unit = d.unit; statement = d.statement })
         | inr d2 ↦
             let from = b.drew d2 in
-            let high = begun (from.0, from.1, from.2) in
+            let high = begun from in
             let was = ap length d.before in
             let is = ap length d.after in
             absurd (omega (arith, few, high, was, is))
@@ -155,8 +151,8 @@ notes_append a b c ms ns p q = record { limit = q.limit ∙ p.limit; noted = λ 
 
 -- THE PARTS IN A TURN
 
--- unit u is on its way from old to now, through a statement after which it has n left; these cells are kept as they were
-pub record OnTheWay (schema : Lists) (capacity u n : ℕ) (old now : Parts) (before after : Noted) (kept : List (CellName × Cell)) : Type 0 where
+-- unit u is on its way from old to now, through a statement after which it has n left
+pub record OnTheWay (schema : Lists) (capacity u n : ℕ) (old now : Parts) (before after : Noted) : Type 0 where
   pub well : IsWell schema capacity now
   pub count : length now.runners.items ≡ length old.runners.items
   pub alone : IsAlone schema capacity u n (state_of schema capacity now)
@@ -167,17 +163,15 @@ pub record OnTheWay (schema : Lists) (capacity u n : ℕ) (old now : Parts) (bef
   pub moves : List Move
   pub events : AreEvents (network schema capacity) (opening_for schema capacity old) u (state_of schema capacity old) moves (state_of schema capacity now)
   pub noted : NotesMore before after moves
-  pub keeps : KeepsCells (network schema capacity) (opening_for schema capacity old) (state_of schema capacity old) u first (machine_cells kept) (state_of schema capacity now) steps.new
 
 module _ (schema : Lists) (capacity u n : ℕ) where
   -- before the first step
   pub sets_out : (old : Parts) (noted : Noted) (r : CoreUnit) → IsWell schema capacity old → AllBetween (network schema capacity) (state_of schema capacity old) → 0 < u → slice_get old.runners.items (u - 1) ≡ Some r →
-      length (unit_state_of schema capacity r).remaining ≡ suc n → (kept : List (CellName × Cell)) → kept ≡ [] → OnTheWay schema capacity u n old old noted noted kept
+      length (unit_state_of schema capacity r).remaining ≡ suc n → OnTheWay schema capacity u n old old noted noted
   unfolding AreEvents
-  sets_out old noted r well between numbered at left kept none =
+  sets_out old noted r well between numbered at left =
       let here = found schema capacity u old r well numbered at in
       let first = unit_state_of schema capacity r in
-      subst (λ ks. OnTheWay schema capacity u n old old noted noted ks) (sym none)
       record {
         well = well;
         count = refl;
@@ -193,10 +187,9 @@ module _ (schema : Lists) (capacity u n : ℕ) where
         moves = [];
         events = refl;
         noted = notes_none noted;
-        keeps = keeps_none (network schema capacity) (opening_for schema capacity old) (state_of schema capacity old) u first (between u first here);
       }
 
-  module _ (old now : Parts) (before after : Noted) (kept : List (CellName × Cell)) (way : OnTheWay schema capacity u n old now before after kept) where
+  module _ (old now : Parts) (before after : Noted) (way : OnTheWay schema capacity u n old now before after) where
     new_found : unit_at (state_of schema capacity now).units u ≡ Some way.steps.new
     new_found = subst (λ us. unit_at us u ≡ Some way.steps.new) (sym way.steps.units) (set_at (state_of schema capacity old).units u way.first way.steps.new way.at)
 
@@ -212,35 +205,14 @@ module _ (schema : Lists) (capacity u n : ℕ) where
       unfolding IfMoved
       one = subst (λ q. IfMoved (network schema capacity) q (OneStep (network schema capacity) (opening_for schema capacity old) (state_of schema capacity now) u way.steps.new)) moved (one_step (network schema capacity) (opening_for schema capacity old) (state_of schema capacity now) u way.steps.new new_found)
 
-      -- a unit between statements has not made this one
-      fresh : way.steps.new.progress ≡ None → (state_of schema capacity now).history ≡ (state_of schema capacity old).history
-      fresh between = elim way.steps.drawn [
-        | inl p ↦ p.0
-        | inr d ↦
-            let l = way.left in
-            let more = ap length d.before in
-            let less = ap length d.after in
-            let is : unit_state_of schema capacity r ≡ way.steps.new = same_Some _ way.steps.new (sym (found schema capacity u now r way.well numbered at) ∙ new_found) in
-            absurd (busy (subst (IsDone (network schema capacity) n) (sym is) (record { between = between; few = omega (arith, l, more, less) })))
-      ]
-
       well_after : IsWell schema capacity new
       well_after = stepped_well schema capacity u now new way.well Moved stepped
 
-      lawful_from : (p : Parts) → IsWell schema capacity p → length p.runners.items ≡ length old.runners.items → Lawful (network schema capacity) (opening_for schema capacity old) (state_of schema capacity p)
-      lawful_from p well count = subst (λ k. Lawful (network schema capacity) (opening_of schema capacity k) (state_of schema capacity p)) count well.lawful
-
-      pub goes_on : (then : Noted) → NotesMore after then (Step u ∷ []) → (last : CoreUnit) → slice_get new.runners.items (u - 1) ≡ Some last → (more_kept : List (CellName × Cell))
-          → machine_cells more_kept ≡ machine_cells kept ++ newest_untouched (network schema capacity) (unit_state_of schema capacity last).progress → OnTheWay schema capacity u n old new before then more_kept
+      pub goes_on : (then : Noted) → NotesMore after then (Step u ∷ []) → OnTheWay schema capacity u n old new before then
       unfolding more_alone one
-      goes_on then more last here more_kept kept_is =
+      goes_on then more =
           let few : length way.first.remaining ≤ suc n = (let l = way.left in omega (arith, l)) in
-          let next_found : unit_at (state_of schema capacity new).units u ≡ Some one.alone.new = subst (λ us. unit_at us u ≡ Some one.alone.new) (sym one.alone.units) (set_at (state_of schema capacity now).units u way.steps.new one.alone.new new_found) in
-          let last_is : unit_state_of schema capacity last ≡ one.alone.new = same_Some _ one.alone.new (sym (found schema capacity u new last well_after numbered here) ∙ next_found) in
-          let keeps = keeps_more (network schema capacity) (opening_for schema capacity old) (state_of schema capacity old) u way.first (network_is_sequential schema capacity way.well.sound) (machine_cells kept) (state_of schema capacity now) way.steps.new way.keeps new_found (lawful_from now way.well way.count) fresh (state_of schema capacity new) one (lawful_from new well_after (stepped.count ∙ way.count)) in
           record {
-            keeps = subst (λ hs. KeepsCells (network schema capacity) (opening_for schema capacity old) (state_of schema capacity old) u way.first hs (state_of schema capacity new) one.alone.new)
-                (sym (kept_is ∙ ap (λ (x : UnitState (network schema capacity)). machine_cells kept ++ newest_untouched (network schema capacity) x.progress) last_is)) keeps;
             well = well_after;
             count = stepped.count ∙ way.count;
             alone = parts_stay schema capacity n u now way.well way.alone r numbered at busy new stepped;
@@ -265,11 +237,6 @@ module _ (schema : Lists) (capacity u n : ℕ) where
         | inr p ↦ way.alone.work.others w other p.0 e
       ]
 
-      pub arrives_changed : IsWell schema capacity old → AllBetween (network schema capacity) (state_of schema capacity old) → ChangesInTurn (network schema capacity) u (state_of schema capacity old) (state_of schema capacity now) (machine_cells kept)
-      arrives_changed well between =
-          changes_in_turn (network schema capacity) (opening_for schema capacity old) (state_of schema capacity old) u way.first (machine_cells kept) (state_of schema capacity now) well.lawful
-          (subst (λ k. Lawful (network schema capacity) (opening_of schema capacity k) (state_of schema capacity now)) way.count way.well.lawful) between all_between way.at way.steps way.keeps
-
       pub arrives : HaveTurned (core_of schema capacity old) (u ∷ []) (core_of schema capacity now) before after
       unfolding AreTurns
       arrives =
@@ -285,9 +252,6 @@ module _ (schema : Lists) (capacity u n : ℕ) where
             };
             noted = subst (NotesMore before after) (sym (append-nil way.moves)) way.noted;
           }
-
-  pub changed_nothing : (old : Parts) (kept : List (CellName × Cell)) → kept ≡ [] → ChangesInTurn (network schema capacity) u (state_of schema capacity old) (state_of schema capacity old) (machine_cells kept)
-  changed_nothing old kept none = subst (λ ks. ChangesInTurn (network schema capacity) u (state_of schema capacity old) (state_of schema capacity old) (machine_cells ks)) (sym none) (changes_nothing (network schema capacity) (opening_for schema capacity old) (state_of schema capacity old) u)
 
   -- a unit that is not there has nothing left, and one whose script is at its end neither
   pub not_there : (old : Parts) → unit_at old.runners.items u ≡ None → left_of (network schema capacity) (unit_at (state_of schema capacity old).units u) ≡ []
@@ -361,8 +325,9 @@ turned_next turns i u below c d e a b k p q = subst (λ us. HaveTurned c us e a 
 -- THE WHOLE RUN
 
 module _ (schema : Lists) (capacity : ℕ) (scripts : List (List Statement)) (sound : IsSound schema) (fit : scripts_fit schema scripts ≡ true) where
+  -- the core before its first turn
   abbrev pub opened : CoreState
-  opened = first_core schema capacity scripts
+  opened = record { schema = schema; capacity = capacity; opening = opening_of schema capacity (length scripts); state = machine_of schema capacity scripts }
 
   -- before the first turn every unit is between statements
   pub opens_between : (c : CoreState) → c ≡ opened → IsBetween c

@@ -1,6 +1,6 @@
 -- What a statement needs is above all that it holds, where that was taken in turn: its areas, then its cells.
 use Rattle.std.proofs.Common.{◌≡◌, refl, sym, ◌∙◌, ap, ℕ, ◌<◌, Bool, true, false, eqb, List, [], ◌∷◌, Option, Some, inl, inr}
-use Rattle.std.specs.Prelude.{is_some, nat_lt, ◌==◌, if◌then◌else◌}
+use Rattle.std.specs.Prelude.{is_some, nat_lt, if◌then◌else◌}
 use Rattle.std.specs.List.{list_any, find}
 use Rattle.std.proofs.lemmas.Bool.{or_cases, or_left, or_right, false≢true, eqb-true, eq-eqb, ltb-true, not-false}
 use Rattle.dbtg_schema.specs.Lists.{Lists}

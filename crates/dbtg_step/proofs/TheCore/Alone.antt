@@ -1,9 +1,9 @@
 -- A step of a unit changes only that unit, and draws at most the ticket of its next statement.
-use Rattle.std.proofs.Common.{ℕ, suc, ◌≡◌, Bool, true, false, List, [], ◌∷◌, ◌++◌, Option, Some, None, ◌⊎◌, inl, inr, length, take, refl, sym, ap, subst, arith}
+use Rattle.std.proofs.Common.{ℕ, suc, ◌≡◌, Bool, true, false, List, [], ◌∷◌, ◌++◌, Option, Some, None, ◌⊎◌, inl, inr, length, refl, sym, ap, subst, arith}
 use Rattle.std.proofs.lemmas.Option.{same_Some}
-use Rattle.dbtg_step.specs.Machine.SequentialDatabase.{HeldCell, NextNeed, NeedsArea, NeedsCell, StaleGuesses, NeedsNothing, SequentialDatabase, In, unit_at, with_unit_at}
+use Rattle.dbtg_step.specs.Machine.SequentialDatabase.{HeldCell, NextNeed, NeedsArea, NeedsCell, StaleGuesses, NeedsNothing, SequentialDatabase, unit_at, with_unit_at}
 use Rattle.dbtg_step.specs.Machine.Machine.{CellLocation, Home, HeldBy, StatementProgress, UnitState, HistoryEntry, State, SequentialState, begun, unless_over}
-use Rattle.dbtg_step.specs.Machine.Step.{updated, with_progress, with_ticket, after_ticket, takes_area, takes_cell, follows_need, next_need, before_ticket, in_statement, is_nonempty, step_of_unit, step_if_unit, step, Transition, MovedTo, IsBlocked, IsIdle, any_other, conflicts}
+use Rattle.dbtg_step.specs.Machine.Step.{updated, with_progress, with_ticket, after_ticket, takes_area, takes_cell, follows_need, before_ticket, in_statement, step_of_unit, step_if_unit, step, Transition, MovedTo, IsBlocked, IsIdle, any_other, conflicts}
 use Rattle.dbtg_step.specs.Inside.Step.{IfMoved}
 
 -- in mid-statement without a ticket
@@ -28,40 +28,24 @@ module _ (D : SequentialDatabase) (opening : SequentialState D) (s : State D) (u
     pub units : t.units ≡ with_unit_at s.units u new
     pub drawn : ((t.history ≡ s.history) × (new.remaining ≡ state.remaining)) ⊎ DrawsNext new t
 
-  -- the cell was held before the step, without a ticket
-  abbrev pub WasHeld : HeldCell D.Cell D.Value → Type 0
-  WasHeld h = (w : StatementProgress D) × (state.progress ≡ Some w) × (w.ticket ≡ None) × In h w.cells
-
-  -- what is held was held before, except for the newest
-  abbrev pub GrowsByNewest : StatementProgress D → Type 0
-  GrowsByNewest v = (h : HeldCell D.Cell D.Value) → In h v.cells → In h (take 1 v.cells) ⊎ WasHeld h
-
-  -- by one step, which draws only in mid-statement without a ticket, where nothing more is needed; a unit in that state after the step drew nothing,
+  -- by one step, which draws only in mid-statement without a ticket; a unit in that state after the step drew nothing,
   -- and was in it before or between statements
   pub record OneStep (t : State D) : Type 0 where
     pub alone : StepsAlone t
-    pub script : alone.new.script ≡ state.script
-    pub drew : (d : DrawsNext alone.new t) → (w : StatementProgress D) × (state.progress ≡ Some w) × (w.ticket ≡ None) × (next_need D opening s state w d.x ≡ NeedsNothing)
-    pub grew : (v : StatementProgress D) → alone.new.progress ≡ Some v → v.ticket ≡ None → GrowsByNewest v
+    pub drew : DrawsNext alone.new t → Unticketed D state.progress
     pub undrawn : Unticketed D alone.new.progress → (alone.new.remaining ≡ state.remaining) × ((state.progress ≡ None) ⊎ Unticketed D state.progress)
 
-  grows : (v w : StatementProgress D) → GrowsByNewest v → Some v ≡ Some w → GrowsByNewest w
-  grows v w f e = subst GrowsByNewest (same_Some v w e) f
-
-  updated_alone : (location : D.Cell → CellLocation D.Value) (g : D.Guesses) (p : Option (StatementProgress D)) → (Unticketed D p → (state.progress ≡ None) ⊎ Unticketed D state.progress)
-      → ((v : StatementProgress D) → p ≡ Some v → v.ticket ≡ None → GrowsByNewest v) → OneStep (updated D s u state location g p)
+  updated_alone : (location : D.Cell → CellLocation D.Value) (g : D.Guesses) (p : Option (StatementProgress D)) → (Unticketed D p → (state.progress ≡ None) ⊎ Unticketed D state.progress) → OneStep (updated D s u state location g p)
   unfolding updated
-  updated_alone location g p f grow = record {
+  updated_alone location g p f = record {
     alone = record { new = with_progress D state g p; units = refl; drawn = inl (refl, refl) };
-    script = refl;
-    grew = grow;
     drew = λ d. (let more = ap length d.before in let same = ap length d.after in absurd (omega (arith, more, same)));
     undrawn = λ q. (refl, f q);
   }
 
   -- after which it is not in mid-statement without a ticket
   ended : (location : D.Cell → CellLocation D.Value) (g : D.Guesses) (p : Option (StatementProgress D)) → (Unticketed D p → ⊥) → OneStep (updated D s u state location g p)
-  ended location g p f = updated_alone location g p (λ q. absurd (f q)) (λ v e n. absurd (f (v, e, n)))
+  ended location g p f = updated_alone location g p (λ q. absurd (f q))
 
   -- with a ticket
   ticketed : (v : StatementProgress D) (t : ℕ) → v.ticket ≡ Some t → Unticketed D (Some v) → ⊥
@@ -84,54 +68,45 @@ module _ (D : SequentialDatabase) (opening : SequentialState D) (s : State D) (u
     so_before : {p : Option (StatementProgress D)} → Unticketed D p → (state.progress ≡ None) ⊎ Unticketed D state.progress
     so_before q = inr (w, is, none)
 
-    -- the progress with these cells, all of which were held
-    held_still : (v : StatementProgress D) → ((h : HeldCell D.Cell D.Value) → In h v.cells → In h w.cells) → (y : StatementProgress D) → Some v ≡ Some y → y.ticket ≡ None → GrowsByNewest y
-    held_still v f y e n = grows v y (λ h i. inr (w, is, none, f h i)) e
-
-    one_more_held : (h : HeldCell D.Cell D.Value) (y : StatementProgress D) → Some (record w { cells = h ∷ w.cells }) ≡ Some y → y.ticket ≡ None → GrowsByNewest y
-    one_more_held h y e n = grows (record w { cells = h ∷ w.cells }) y (λ k i. elim i [ inl q ↦ inl (inl q) | inr j ↦ inr (w, is, none, j) ]) e
-
-    ticket_alone : next_need D opening s state w x ≡ NeedsNothing → OneStep (with_ticket D opening s u state w x xs)
+    ticket_alone : OneStep (with_ticket D opening s u state w x xs)
     unfolding with_ticket
-    ticket_alone nothing = record {
+    ticket_alone = record {
       alone = record { new = _; units = refl; drawn = inr (record { x = x; xs = xs; before = r; after = refl; entry = _; history = refl; unit = refl; statement = refl }) };
-      script = refl;
-      drew = λ d. (let b = d.before in let same : x ≡ d.x = cc (b, r) in (w, is, none, subst (λ y. next_need D opening s state w y ≡ NeedsNothing) same nothing));
-      grew = λ v e n. absurd (over_ticketed _ w.areas _ s.counter refl (v, e, n));
+      drew = λ d. (w, is, none);
       undrawn = λ q. absurd (over_ticketed _ w.areas _ s.counter refl q);
     }
 
-    follows_need_alone : (n : NextNeed D.Cell D.Guesses) → next_need D opening s state w x ≡ n → IfMoved D (follows_need D opening s u state w x xs n) OneStep
+    follows_need_alone : (n : NextNeed D.Cell D.Guesses) → IfMoved D (follows_need D opening s u state w x xs n) OneStep
     unfolding follows_need takes_area takes_cell IfMoved
-    follows_need_alone (NeedsArea a) e = go (any_other (conflicts D w.exclusive a) u s.units)
+    follows_need_alone (NeedsArea a) = go (any_other (conflicts D w.exclusive a) u s.units)
       where
         go : (b : Bool) → IfMoved D (takes_area D s u state w a b) OneStep
         go true = tt
-        go false = updated_alone _ _ _ so_before (held_still (record w { areas = a ∷ w.areas }) (λ h i. i))
-    follows_need_alone (NeedsCell c) e = go (s.location c)
+        go false = updated_alone _ _ _ so_before
+    follows_need_alone (NeedsCell c) = go (s.location c)
       where
         go : (p : CellLocation D.Value) → IfMoved D (takes_cell D s u state w c p) OneStep
         go (HeldBy v) = tt
-        go (Home v) = updated_alone _ _ _ so_before (one_more_held (record { name = c; value = v }))
-    follows_need_alone (StaleGuesses g) e = updated_alone _ _ _ so_before (held_still (record w { turning_back = is_nonempty w.cells }) (λ h i. i))
-    follows_need_alone NeedsNothing e = ticket_alone e
+        go (Home v) = updated_alone _ _ _ so_before
+    follows_need_alone (StaleGuesses g) = updated_alone _ _ _ so_before
+    follows_need_alone NeedsNothing = ticket_alone
 
-    before_ticket_alone : (b : Bool) (cells : List (HeldCell D.Cell D.Value)) → w.cells ≡ cells → IfMoved D (before_ticket D opening s u state w x xs b cells) OneStep
+    before_ticket_alone : (b : Bool) (cells : List (HeldCell D.Cell D.Value)) → IfMoved D (before_ticket D opening s u state w x xs b cells) OneStep
     unfolding before_ticket IfMoved
-    before_ticket_alone true (h ∷ hs) e = updated_alone _ _ _ so_before (held_still (record w { cells = hs; turning_back = is_nonempty hs }) (λ k i. subst (In k) (sym e) (inr i)))
-    before_ticket_alone true [] e = follows_need_alone _ refl
-    before_ticket_alone false cells e = follows_need_alone _ refl
+    before_ticket_alone true (h ∷ hs) = updated_alone _ _ _ so_before
+    before_ticket_alone true [] = follows_need_alone _
+    before_ticket_alone false cells = follows_need_alone _
 
   in_statement_alone : (w : StatementProgress D) → state.progress ≡ Some w → (t : Option ℕ) → w.ticket ≡ t → (xs : List D.Statement) → state.remaining ≡ xs → IfMoved D (in_statement D opening s u state w t xs) OneStep
   unfolding in_statement IfMoved
   in_statement_alone w is (Some t) has xs r = after_ticket_alone w t has _ _ _
-  in_statement_alone w is None has (x ∷ xs) r = before_ticket_alone w is has x xs r _ _ refl
+  in_statement_alone w is None has (x ∷ xs) r = before_ticket_alone w is has x xs r _ _
   in_statement_alone w is None has [] r = tt
 
   step_of_unit_alone : (p : Option (StatementProgress D)) → state.progress ≡ p → (xs : List D.Statement) → state.remaining ≡ xs → IfMoved D (step_of_unit D opening s u state p xs) OneStep
   unfolding step_of_unit IfMoved begun
   step_of_unit_alone (Some w) is xs r = in_statement_alone w is _ refl xs r
-  step_of_unit_alone None is (x ∷ xs) r = updated_alone _ _ _ (λ q. inl is) (λ v e n. grows (begun D x) v (λ h i. absurd i) e)
+  step_of_unit_alone None is (x ∷ xs) r = updated_alone _ _ _ (λ q. inl is)
   step_of_unit_alone None is [] r = tt
 
   pub one_step : unit_at s.units u ≡ Some state → IfMoved D (step D opening s u) OneStep

@@ -20,7 +20,6 @@ use Rattle.dbtg_step.specs.declared.parts.UnitState.{UnitState as CoreUnit}
 use Rattle.dbtg_step.specs.declared.parts.StatementProgress.{StatementProgress}
 use Rattle.dbtg_step.specs.declared.waiting.Awaited.{Awaited}
 use Rattle.dbtg_step.specs.declared.waiting.Awaited.TheVariants as awaits
-use Rattle.dbtg_step.specs.declared.waiting.Blocking.{Blocking}
 use Rattle.dbtg_step.specs.Machine.SequentialDatabase.{HeldCell, In, unit_at}
 use Rattle.dbtg_step.specs.Machine.Machine.{CellLocation, Home, HeldBy, State, UnitState, held_cells}
 use Rattle.dbtg_step.specs.Machine.Step.{IsBlocked, IsIdle, MovedTo, Transition, conflicts, follows_need, step, takes_area, takes_cell}

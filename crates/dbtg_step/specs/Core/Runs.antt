@@ -4,7 +4,6 @@ use Rattle.dbtg_unit.specs.Database.State.Image.{image_of}
 use Rattle.dbtg_unit.specs.Database.Laws.Replay.{opening_state, replay}
 use Rattle.dbtg_step.specs.declared.results.Run.{Run}
 use Rattle.dbtg_unit.specs.declared.moves.Stepped.{Stepped}
-use Rattle.dbtg_step.specs.Machine.Step.{results}
 use Rattle.dbtg_step.specs.Core.Parts.{CoreParts}
 
 -- what a core hands out with these results: the image of the database to which its history leads, its history and its units

@@ -78,11 +78,3 @@ pub record TurnedIs (schema : Lists) (capacity : ℕ) (scripts : List (List Stat
   pub moves : List Move
   pub run : IsRunByTurns schema capacity scripts turns moves given.run
   pub given_moves : AreGiven limit moves given.moves
-
--- a core whose units have taken these turns, and nothing else, with these scripts; as many of the moves are noted as the limit allows
-pub record TurnedCore : Type 0 where
-  pub schema : Lists
-  pub capacity : ℕ
-  pub scripts : List (List Statement)
-  pub limit : ℕ
-  pub turns : List ℕ

@@ -4,7 +4,6 @@ use Rattle.dbtg_schema.specs.Lists.{Lists}
 use Rattle.dbtg_cells.specs.declared.cell.Cell.{Cell}
 use Rattle.dbtg_cells.specs.declared.name.CellName.{CellName}
 use Rattle.dbtg_cells.specs.CellNumbers.{cell_number}
-use Rattle.dbtg_unit.specs.Database.State.Base.{opening}
 use Rattle.dbtg_step.specs.declared.parts.Parts.{Parts}
 use Rattle.dbtg_step.specs.declared.parts.CellLocation.{CellLocation}
 use Rattle.dbtg_step.specs.declared.parts.CellLocation.TheVariants.{Home as AtHome}

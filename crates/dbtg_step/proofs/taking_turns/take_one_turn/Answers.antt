@@ -6,7 +6,7 @@ use Rattle.dbtg_step.specs.Machine.SequentialDatabase.{unit_at}
 use Rattle.dbtg_step.specs.Inside.Events.{IsStepped}
 use Rattle.dbtg_step.proofs.TheCore.EventsShown.{no_unit}
 use Rattle.dbtg_step.proofs.TheCore.QuitShown.{stepped_well}
-use Rattle.dbtg_step.proofs.MadeWhole.TurnsTaken.{arrives, arrives_changed, at_its_end, changed_nothing, goes_on, not_there, sets_out, stays}
+use Rattle.dbtg_step.proofs.MadeWhole.TurnsTaken.{arrives, at_its_end, goes_on, not_there, sets_out, stays}
 use Rattle.dbtg_step.proofs.TheCore.Work.{not_blocked, not_idle, parts_less}
 use Rattle.dbtg_step.proofs.taking_turns.take_one_turn.Goals as goal
 use Rattle.dbtg_step.proofs.taking_turns.take_one_turn.Goals.{then-unit-eq0-via-then-unit-eq0, then-unit-eq0-via-else-unit-eq0+then-len-unit}
@@ -32,7 +32,7 @@ loop-alloc-init c =
     let items = c.args.parts.now.runners.items in
     let at : slice_get items (c.args.unit - 1) ≡ Some runner = slice_get_read items (length items) (c.args.unit - 1) runner refl (omega arith) c.index.ensures in
     let left : length (drop runner.next runner.script) ≡ suc (c.statements_left-left.result - 1) = omega (arith, c.statements_left-left.ensures) in
-    sets_out c.args.schema.now c.args.capacity c.args.unit (c.statements_left-left.result - 1) c.args.parts.now c.args.noted.now runner c.requires.well c.requires.between (omega arith) at left c.new-kept.result.items c.new-kept.ensures.items
+    sets_out c.args.schema.now c.args.capacity c.args.unit (c.statements_left-left.result - 1) c.args.parts.now c.args.noted.now runner c.requires.well c.requires.between (omega arith) at left
 
 pub loop-alloc-smaller : goal.loop-alloc-smaller
 loop-alloc-smaller c =
@@ -52,12 +52,8 @@ loop-alloc-preserved c =
     let items = c.loop-alloc.parts.runners.items in
     let at : slice_get items (c.args.unit - 1) ≡ Some runner = slice_get_read items (length items) (c.args.unit - 1) runner refl (omega (arith, way.count)) c.index-in-loop-alloc.ensures in
     let stepped : IsStepped c.args.schema.now c.args.capacity c.args.unit Moved c.loop-alloc.parts c.step.new.parts = rw c.in-Moved.is at c.step.ensures in
-    let after = c.step.new.parts.runners.items in
-    let last = c.index-in-Moved.result.now in
-    let last_at : slice_get after (c.args.unit - 1) ≡ Some last = slice_get_read after (length after) (c.args.unit - 1) last refl (omega (arith, way.count, stepped.count)) c.index-in-Moved.ensures in
-    goes_on c.args.schema.now c.args.capacity c.args.unit left c.args.parts.now c.loop-alloc.parts c.args.noted.now c.loop-alloc.noted c.loop-alloc.kept.items way runner (omega arith) at
+    goes_on c.args.schema.now c.args.capacity c.args.unit left c.args.parts.now c.loop-alloc.parts c.args.noted.now c.loop-alloc.noted way runner (omega arith) at
     (λ h. false≢true (sym c.loop-alloc-test.true ∙ (c.is_done.ensures c.args.schema.now c.args.capacity).1 h)) c.step.new.parts stepped c.note.new.self c.in_ok-note-in-Moved.ensures
-    last last_at c.keep_newest.new.kept.items (c.in_ok-keep_newest-in-Moved.ensures c.args.schema.now c.args.capacity)
 
 pub returns-in_err-note-in-Moved-clause-well : goal.returns-in_err-note-in-Moved-clause-well
 returns-in_err-note-in-Moved-clause-well c =
@@ -94,27 +90,5 @@ returns-clause-turned c =
     let runner = c.index-in-loop-alloc.result.now in
     let items = c.loop-alloc.parts.runners.items in
     let at : slice_get items (c.args.unit - 1) ≡ Some runner = slice_get_read items (length items) (c.args.unit - 1) runner refl (omega (arith, way.count)) c.index-in-loop-alloc.ensures in
-    arrives c.args.schema.now c.args.capacity c.args.unit left c.args.parts.now c.loop-alloc.parts c.args.noted.now c.loop-alloc.noted c.loop-alloc.kept.items way runner (omega arith) at
+    arrives c.args.schema.now c.args.capacity c.args.unit left c.args.parts.now c.loop-alloc.parts c.args.noted.now c.loop-alloc.noted way runner (omega arith) at
     ((c.is_done.ensures c.args.schema.now c.args.capacity).0 c.loop-alloc-test.false)
-
-pub returns-clause-changes : goal.returns-clause-changes
-returns-clause-changes c =
-    let left = c.statements_left-left.result - 1 in
-    let way = c.loop-alloc.invariant in
-    let runner = c.index-in-loop-alloc.result.now in
-    let items = c.loop-alloc.parts.runners.items in
-    let at : slice_get items (c.args.unit - 1) ≡ Some runner = slice_get_read items (length items) (c.args.unit - 1) runner refl (omega (arith, way.count)) c.index-in-loop-alloc.ensures in
-    arrives_changed c.args.schema.now c.args.capacity c.args.unit left c.args.parts.now c.loop-alloc.parts c.args.noted.now c.loop-alloc.noted c.loop-alloc.kept.items way runner (omega arith) at
-    ((c.is_done.ensures c.args.schema.now c.args.capacity).0 c.loop-alloc-test.false) c.requires.well c.requires.between
-
-pub returns-then-unit-eq0-clause-changes : goal.returns-then-unit-eq0-clause-changes
-returns-then-unit-eq0-clause-changes c =
-    changed_nothing c.args.schema.now c.args.capacity c.args.unit 0 c.args.parts.now c.new-kept.result.items c.new-kept.ensures.items
-
-pub returns-then-left-eq0-clause-changes : goal.returns-then-left-eq0-clause-changes
-returns-then-left-eq0-clause-changes c =
-    changed_nothing c.args.schema.now c.args.capacity c.args.unit 0 c.args.parts.now c.new-kept.result.items c.new-kept.ensures.items
-
-pub returns-in_err-keep_newest-in-Moved-clause-well : goal.returns-in_err-keep_newest-in-Moved-clause-well
-returns-in_err-keep_newest-in-Moved-clause-well c =
-    stepped_well c.args.schema.now c.args.capacity c.args.unit c.loop-alloc.parts c.step.new.parts c.loop-alloc.invariant.well Moved (rw c.in-Moved.is at c.step.ensures)

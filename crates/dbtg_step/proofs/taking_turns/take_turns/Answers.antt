@@ -16,6 +16,6 @@ loop-unit-preserved c =
     let mid = core_of c.args.schema.now c.args.capacity c.loop-unit.parts in
     let new = core_of c.args.schema.now c.args.capacity c.take_one_turn.new.parts in
     record {
-      well = c.in_ok-_kept.ensures.well;
-      turned = turned_next c.args.turns.now c.loop-unit.unit-index _ (omega (arith, c.loop-unit-test.true)) old mid new c.args.noted.now c.loop-unit.noted c.take_one_turn.new.noted c.loop-unit.invariant.turned c.in_ok-_kept.ensures.turned;
+      well = c.in_ok-take_one_turn.ensures.well;
+      turned = turned_next c.args.turns.now c.loop-unit.unit-index _ (omega (arith, c.loop-unit-test.true)) old mid new c.args.noted.now c.loop-unit.noted c.take_one_turn.new.noted c.loop-unit.invariant.turned c.in_ok-take_one_turn.ensures.turned;
     }
