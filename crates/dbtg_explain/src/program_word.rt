@@ -392,6 +392,25 @@ fn has_verb(wanted: &[&[u8]]) -> bool
     !wanted.is_empty()
 }
 
+// The same if these are wanted where the line stops.
+fn said_of_other_with(
+    alloc: Global,
+    schema: &Schema,
+    text: &[u8],
+    place: (u64, u8),
+    wanted: &[&[u8]],
+) -> Result<Vec<u8>, AllocError>
+    ensures { IfOk result (λ out. out.items ≡ said_of_other schema.now place.1 place.0 text.now (not (length (map (λ thing. thing.now) wanted.now) == 0))) }
+{
+    said_of_other(alloc, schema, text, place, has_verb(wanted))
+}
+
+fn is_misfit(number: u8) -> bool
+    ensures { result ≡ (number == 3) }
+{
+    number == 3
+}
+
 // The explanation of a line's fault if these are wanted where its sentence stops.
 fn said_with_wanted(
     alloc: Global,
@@ -402,10 +421,10 @@ fn said_with_wanted(
 ) -> Result<Vec<u8>, AllocError>
     ensures { IfOk result (λ out. out.items ≡ said_with_wanted schema.now place.1 place.0 text.now (map (λ thing. thing.now) wanted.now)) }
 {
-    if place.1 == 3 {
+    if is_misfit(place.1) {
         said_of_program_misfit(alloc, schema, text, place.0, wanted)
     } else {
-        said_of_other(alloc, schema, text, place, has_verb(wanted))
+        said_of_other_with(alloc, schema, text, place, wanted)
     }
 }
 
