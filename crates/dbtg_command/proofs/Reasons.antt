@@ -34,10 +34,10 @@ module _ (has : List ℕ → ℕ → List ℕ → Type 0) (lacks : List ℕ → 
       inr (told.0, first.0, subst (λ (path : List ℕ). has path 65537 told.0) told.1.1 told.1.2, first.1)
 
   -- what the schema that was read says is what the one in the file says
-  pub said_by_schema : (which : Kind) (lists : Lists) (number : ℕ) (line said : List ℕ) → ReadSchema (FileHolds has schema scripts order) lists → said ≡ said_in_text which lists number line → SaysOfLine has lacks which schema number line said
-  said_by_schema which lists number line said read is = inr (
+  pub said_by_schema : (which : Kind) (lists : Lists) (number line : ℕ) (text said : List ℕ) → ReadSchema (FileHolds has schema scripts order) lists → said ≡ said_in_text which lists number line text → SaysOfLine has lacks which schema number line text said
+  said_by_schema which lists number line text said read is = inr (
     read.text,
     subst (λ (path : List ℕ). has path 65537 read.text) read.held.1 read.held.2,
     read.accepted,
-    subst (λ (l : Lists). said ≡ said_in_text which l number line) read.says is,
+    subst (λ (l : Lists). said ≡ said_in_text which l number line text) read.says is,
   )

@@ -10,12 +10,9 @@ use Rattle.dbtg_schema.specs.Texts.Forms.{start_with, starts}
 use Rattle.dbtg_schema.specs.Texts.SchemaFaults.{refusal}
 use Rattle.dbtg_schema.specs.declared.fault.Fault.{Fault as SchemaRefusal}
 use Rattle.dbtg_schema.specs.Lists.{Lists}
-use Rattle.dbtg_schema.specs.Lookups.{first, some_and}
-use Rattle.dbtg_script.specs.Lines.{trimmed}
 use Rattle.dbtg_script.specs.Moves.{cause_number as moves_cause_number}
 use Rattle.dbtg_script.specs.Printing.Causes.{cause_number as script_cause_number}
 use Rattle.dbtg_script.specs.Printing.Spelling.{has_byte, in_front, is_number}
-use Rattle.dbtg_script.specs.StatementFaults.{line_faults}
 use Rattle.dbtg_script.specs.StatementGrammar.{fits, statement}
 use Rattle.dbtg_script.specs.Tokens.{plain}
 use Rattle.dbtg_program.specs.Faults.{cause_number as program_cause_number}
@@ -24,6 +21,7 @@ use Rattle.dbtg_explain.specs.declared.topic.Kind.{Kind}
 use Rattle.dbtg_explain.specs.declared.topic.Kind.TheVariants as kind
 use Rattle.dbtg_explain.specs.Explaining.{fault_field}
 use Rattle.dbtg_explain.specs.FaultyWord.{line_at}
+use Rattle.dbtg_explain.specs.InProgram.{said_of_program_word}
 use Rattle.dbtg_explain.specs.Misfits.{said_of_schema_word, said_of_word}
 use Rattle.dbtg_command.specs.declared.fault.Fault.{Fault}
 use Rattle.dbtg_command.specs.declared.fault.Fault.TheVariants.{Schema, Script, Moves, Turns, Trace, MovesOver, StatesOver, Unreadable, ScriptCount, Memory, Program}
@@ -60,29 +58,25 @@ abbrev pub SaysOfSchema : (List ℕ → ℕ → List ℕ → Type 0) → (List �
 SaysOfSchema has lacks path number said =
     (IsNotRead lacks path × (said ≡ [])) ⊎ ((text : List ℕ) × has path 1048577 text × (said ≡ said_of_schema_word number text))
 
--- as a line of a script it would have this fault
-abbrev pub has_script_fault : Lists → ℕ → List ℕ → Bool
-has_script_fault schema number line = some_and (λ cause. script_cause_number cause == number) (first (line_faults schema 0 (trimmed line)))
+-- what is said of the word of a line in a text of this kind
+abbrev pub said_in_text : Kind → Lists → ℕ → ℕ → List ℕ → List ℕ
+said_in_text kind.Program schema number line text = said_of_program_word schema number line text
+said_in_text kind.Schema schema number line text = said_of_word schema number (line_at line text)
+said_in_text kind.Script schema number line text = said_of_word schema number (line_at line text)
+said_in_text kind.Moves schema number line text = said_of_word schema number (line_at line text)
+said_in_text kind.Turns schema number line text = said_of_word schema number (line_at line text)
+said_in_text kind.Trace schema number line text = said_of_word schema number (line_at line text)
 
--- what is said of the word of a line in a text of this kind; in a program nothing, unless the line has the same fault in a script
-abbrev pub said_in_text : Kind → Lists → ℕ → List ℕ → List ℕ
-said_in_text kind.Program schema number line = if has_script_fault schema number line then said_of_word schema number line else []
-said_in_text kind.Schema schema number line = said_of_word schema number line
-said_in_text kind.Script schema number line = said_of_word schema number line
-said_in_text kind.Moves schema number line = said_of_word schema number line
-said_in_text kind.Turns schema number line = said_of_word schema number line
-said_in_text kind.Trace schema number line = said_of_word schema number line
+-- this is said of the word of a line of a script's or a program's text, according to the schema in the file with this path
+abbrev pub SaysOfLine : (List ℕ → ℕ → List ℕ → Type 0) → (List ℕ → ℕ → Type 0) → Kind → List ℕ → ℕ → ℕ → List ℕ → List ℕ → Type 0
+SaysOfLine has lacks which schema number line text said =
+    (IsNoSchema has lacks schema × (said ≡ []))
+    ⊎ ((ddl : List ℕ) × has schema 65537 ddl × (refusal ddl ≡ None) × (said ≡ said_in_text which (schema_in ddl) number line text))
 
--- this is said of the word of a line, according to the schema in the file with this path
-abbrev pub SaysOfLine : (List ℕ → ℕ → List ℕ → Type 0) → (List ℕ → ℕ → Type 0) → Kind → List ℕ → ℕ → List ℕ → List ℕ → Type 0
-SaysOfLine has lacks which schema number line said =
-    (IsNoSchema has lacks schema × (said ≡ [])) ⊎ ((text : List ℕ) × has schema 65537 text × (refusal text ≡ None) × (said ≡ said_in_text which (schema_in text) number line))
-
--- this is said of the word of a line of the script or program in the file with this path, according to the schema in another file
+-- the same of the script or program in the file with this path
 abbrev pub SaysOfScript : (List ℕ → ℕ → List ℕ → Type 0) → (List ℕ → ℕ → Type 0) → Kind → List ℕ → List ℕ → ℕ → ℕ → List ℕ → Type 0
 SaysOfScript has lacks which schema path line number said =
-    (IsScriptNotRead lacks schema path × (said ≡ []))
-    ⊎ ((text : List ℕ) × has path 1048577 text × SaysOfLine has lacks which schema number (line_at line text) said)
+    (IsScriptNotRead lacks schema path × (said ≡ [])) ⊎ ((text : List ℕ) × has path 1048577 text × SaysOfLine has lacks which schema number line text said)
 
 -- the letters with which a text begins
 abbrev pub first_letters : List ℕ → List ℕ

@@ -3,7 +3,7 @@ ghost use Rattle.std.specs.Char.{is_ascii_alphabetic};
 ghost use Rattle.std.specs.List.{prefix_len};
 ghost use Rattle.std.specs.Prelude.{◌≡◌, ◌≤◌, [], IfOk, MatchOption, length, map, string_bytes};
 ghost use Rattle.dbtg_explain.specs.declared.topic.Kind.TheVariants as text_kind;
-ghost use Rattle.dbtg_command.specs.Reasons.{HasNoReason, IsNotRead, IsNotReadTo, IsReason, IsReasonLine, IsToldIn, IsToldOfOrder, IsScriptNotRead, IsUnreadLine, SaysOfFile, SaysOfLine, SaysOfSchema, SaysOfScript, begins_statement, first_letters, order_path, other_kind, place_of, script_path, told_at, IsToldOfProgram, IsToldOfTrace, SaysOfTrace, has_script_fault, no_unit, said_in_text, said_of_unit};
+ghost use Rattle.dbtg_command.specs.Reasons.{HasNoReason, IsNotRead, IsNotReadTo, IsReason, IsReasonLine, IsToldIn, IsToldOfOrder, IsScriptNotRead, IsUnreadLine, SaysOfFile, SaysOfLine, SaysOfSchema, SaysOfScript, begins_statement, first_letters, order_path, other_kind, place_of, script_path, told_at, IsToldOfProgram, IsToldOfTrace, SaysOfTrace, no_unit, said_in_text, said_of_unit};
 ghost use Rattle.dbtg_command.specs.Sources.{order_map};
 ghost use Rattle.dbtg_command.specs.declared.fault.Fault.TheVariants.{Memory};
 
@@ -11,9 +11,11 @@ use crate::fault::Fault;
 use crate::files::{FileReader, Files, Paths, SCRIPT_BYTES, STANDARD_INPUT, TRACE_BYTES};
 use crate::order::Order;
 use crate::texts::read_schema;
-use dbtg_explain::{Kind, line_at, meaning_of, said_of_schema_word, said_of_word};
+use dbtg_explain::{
+    Kind, line_at, meaning_of, said_of_program_word, said_of_schema_word, said_of_word,
+};
 use dbtg_schema::Schema;
-use dbtg_script::{LineFault, has_byte, in_front, is_number, push_number, read_script_line};
+use dbtg_script::{has_byte, in_front, is_number, push_number};
 use std::alloc::{AllocError, Global};
 use std::io;
 
@@ -162,51 +164,21 @@ fn nothing_said(alloc: Global, fault: &Fault) -> Result<Vec<u8>, AllocError>
     }
 }
 
-/// Would the line have the fault with this number in a script?
-fn has_script_fault(
-    alloc: Global,
-    schema: &Schema,
-    line: &[u8],
-    number: u8,
-) -> Result<bool, AllocError>
-    ensures { IfOk result (λ has. has ≡ has_script_fault schema.now number line.now) }
-{
-    match read_script_line(alloc, schema, 0, line) {
-        Err(LineFault::Refused(cause)) => Ok(cause.number() == number),
-        Err(LineFault::Memory) => Err(AllocError),
-        Ok(_) => Ok(false),
-    }
-}
-
-/// The same for a line of a program: a script's reader knows no fields, and may find another fault in it.
-fn said_in_program(
-    alloc: Global,
-    schema: &Schema,
-    line: &[u8],
-    number: u8,
-) -> Result<Vec<u8>, AllocError>
-    ensures { IfOk result (λ said. said.items ≡ said_in_text text_kind.Program schema.now number line.now) }
-{
-    if has_script_fault(alloc, schema, line, number)? {
-        return said_of_word(alloc, schema, line, number);
-    }
-    Ok(Vec::new(alloc))
-}
-
 /// What is said of the word of a line that is at fault, in a text of this kind.
 fn said_in_text(
     alloc: Global,
     schema: &Schema,
     kind: Kind,
-    line: &[u8],
+    text: &[u8],
+    line: u64,
     number: u8,
 ) -> Result<Vec<u8>, AllocError>
-    ensures { IfOk result (λ said. said.items ≡ said_in_text kind schema.now number line.now) }
+    ensures { IfOk result (λ said. said.items ≡ said_in_text kind schema.now number line text.now) }
 {
     match kind {
-        Kind::Program => said_in_program(alloc, schema, line, number),
+        Kind::Program => said_of_program_word(alloc, schema, text, line, number),
         Kind::Schema | Kind::Script | Kind::Moves | Kind::Turns | Kind::Trace => {
-            said_of_word(alloc, schema, line, number)
+            said_of_word(alloc, schema, line_at(text, line), number)
         }
     }
 }
@@ -216,13 +188,14 @@ fn said_in_line<F: FileReader>(
     alloc: Global,
     files: &Files<F>,
     kind: Kind,
-    line: &[u8],
+    text: &[u8],
+    line: u64,
     number: u8,
 ) -> Result<Vec<u8>, AllocError>
-    ensures { IfOk result (λ said. SaysOfLine (F.has files.now.reader.now) (F.lacks files.now.reader.now) kind files.now.paths.now.schema.now number line.now said.items) }
+    ensures { IfOk result (λ said. SaysOfLine (F.has files.now.reader.now) (F.lacks files.now.reader.now) kind files.now.paths.now.schema.now number line text.now said.items) }
 {
     match read_schema(alloc, files) {
-        Ok(known) => { said_in_text(alloc, &known, kind, line, number) }
+        Ok(known) => { said_in_text(alloc, &known, kind, text, line, number) }
         Err(fault) => nothing_said(alloc, &fault),
     }
 }
@@ -239,7 +212,7 @@ fn said_in_script<F: FileReader>(
     ensures { IfOk result (λ said. SaysOfScript (F.has files.now.reader.now) (F.lacks files.now.reader.now) kind files.now.paths.now.schema.now path.now line number said.items) }
 {
     match script_again(files, path) {
-        Some(text) => said_in_line(alloc, files, kind, line_at(text.as_slice(), line), number),
+        Some(text) => said_in_line(alloc, files, kind, text.as_slice(), line, number),
         None => Ok(Vec::new(alloc)),
     }
 }

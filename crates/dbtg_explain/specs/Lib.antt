@@ -5,4 +5,5 @@ pub mod Hints
 pub mod Offered
 pub mod Saying
 pub mod Misfits
+pub mod InProgram
 pub mod Units

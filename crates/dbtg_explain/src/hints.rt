@@ -6,7 +6,7 @@ ghost use Rattle.dbtg_explain.specs.Hints.{hint_for, lacks_capitals, row_of_word
 use crate::row::{field, next_row};
 use dbtg_script::in_front;
 
-// A word, and the hint for it: words of IDMS, and marks with which other languages begin a comment.
+// A word, and the hint for it: words of IDMS and of COBOL, and marks with which other languages begin a comment.
 const HINTS: &str = "\
 READY|; here OPEN AREA
 FINISH|; here CLOSE AREA
@@ -19,9 +19,50 @@ DISCONNECT|; here REMOVE FROM
 COMMIT|; there is none here: what a statement did is there for all at once
 ROLLBACK|; there is none here: what a statement did stays
 ACCEPT|; there is none here: each answer has its key
-IF|; there is none here: FIND FIRST of an empty set answers 0307
+IF|; programs have it, which run and explore read: FIND FIRST of an empty set answers 0307
 ANY|; here CALC
 ADD|; leave it out
+EXCLUSIVE|; leave it out: a usage mode is for all units, and KEEP is no lock
+SHARED|; leave it out: a mode without EXCLUSIVE or PROTECTED is shared
+LONGTERM|; leave it out: KEEP is no lock
+PERFORM|; there is none here: GO TO leads to a paragraph, and GO TO back
+COMPUTE|; here ADD and SUBTRACT
+MULTIPLY|; there is none here: ADD in a loop
+DIVIDE|; there is none here: SUBTRACT in a loop
+EVALUATE|; there is none here: a line with IF and GO TO for each case
+DISPLAY|; there is none here: each answer is printed
+GOTO|; here GO TO, in two words
+ELSE|; there is none here: a line with IF and GO TO for each case
+END-IF|; there is none here: IF ends with its line
+THEN|; leave it out: GO TO follows the condition
+OR|; there is none here: a line with IF and GO TO for each condition
+AND|; there is none here: a line with IF NOT and GO TO for each condition, past what is for both
+EQUAL|; here =
+EQUALS|; here =
+GREATER|; here >
+LESS|; here <
+<>|; here NOT =
+EXIT|; leave it out: a paragraph is its name alone
+CONTINUE|; leave it out
+SECTION|; there is none here: a paragraph is its name alone
+GIVING|; there is none here: MOVE first, and then ADD or SUBTRACT
+ROUNDED|; leave it out: there are no fractions
++|; there is none here: ADD and SUBTRACT, in lines of their own
+-|; there is none here: ADD and SUBTRACT, in lines of their own
+ZERO|; here 0
+ZEROS|; here 0
+ZEROES|; here 0
+SPACE|; here \"\"
+SPACES|; here \"\"
+ERROR-STATUS|; here STATUS
+DB-STATUS-OK|; here STATUS = 0000
+DB-END-OF-SET|; here STATUS = 0307
+DB-REC-NOT-FOUND|; here STATUS = 0326
+77|; here 01
+88|; there is none here: compare with the value
+VALUE|; leave it out: a counter begins with 0, or with the empty text
+COMP|; leave it out
+COMP-3|; leave it out
 *|; a note has its star at the beginning of its line, and a schema has no notes
 --|; a note begins with a star, and a schema has no notes
 #|; a note begins with a star, and a schema has no notes";

@@ -56,7 +56,11 @@ fn said_of_end(alloc: Global, form: &'static str, wanted: &[&[u8]]) -> Result<Ve
 }
 
 // The explanation of a line that ends too early, or in a text that is not closed.
-fn said_of_early_line(alloc: Global, line: &[u8], wanted: &[&[u8]]) -> Result<Vec<u8>, AllocError>
+pub fn said_of_early_line(
+    alloc: Global,
+    line: &[u8],
+    wanted: &[&[u8]],
+) -> Result<Vec<u8>, AllocError>
     ensures { IfOk result (λ out. out.items ≡ said_of_early_line line.now (map (λ thing. thing.now) wanted.now)) }
 {
     if ends_in_text(trimmed(line)) {
@@ -69,7 +73,7 @@ fn said_of_early_line(alloc: Global, line: &[u8], wanted: &[&[u8]]) -> Result<Ve
 }
 
 // The explanation of the word that was met in a line, or of its end.
-fn said_in_line(
+pub fn said_in_line(
     alloc: Global,
     number: u8,
     line: &[u8],
@@ -85,7 +89,7 @@ fn said_in_line(
 }
 
 // The explanation of fault 2 or 3 of a script's line.
-fn said_of_line_misfit(
+pub fn said_of_line_misfit(
     alloc: Global,
     schema: &Schema,
     line: &[u8],

@@ -56,7 +56,7 @@ pub fn listed(alloc: Global, names: &[&[u8]]) -> Result<Vec<u8>, AllocError>
 }
 
 // The names of the items of the record type with this name.
-fn items_named<'a>(
+pub fn items_named<'a>(
     alloc: Global,
     schema: &'a Schema,
     rtype: &[u8],

@@ -67,7 +67,7 @@ fn quoted(alloc: Global, text: &[u8]) -> Result<Vec<u8>, AllocError>
     Ok(out)
 }
 
-fn written_if_any(alloc: Global, token: Option<Token>) -> Result<Vec<u8>, AllocError>
+pub fn written_if_any(alloc: Global, token: Option<Token>) -> Result<Vec<u8>, AllocError>
     ensures { IfOk result (λ out. out.items ≡ unwrap_or (option_map written (option_map view token.entry)) []) }
 {
     match token {

@@ -1,6 +1,5 @@
 -- Names are entered one after another, and lead to the place where they first stand.
 use Rattle.std.proofs.Common.{◌≡◌, ℕ, ◌+◌, ◌<◌, ◌≤◌, cond, List, [], ◌∷◌, ◌++◌, length, get_or, take, drop, refl, map, Some, None, sym, ap, ◌∙◌, arith}
-use Rattle.std.specs.Prelude.{Option}
 use Rattle.std.specs.Option.{option_or}
 use Rattle.std.specs.Str.{bytes_eq}
 use Rattle.std.proofs.lemmas.List.{get_or_default, length-append, length-map, length-take-le, map_more}

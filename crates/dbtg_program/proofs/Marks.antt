@@ -1,10 +1,10 @@
 -- The words of a statement with their marks, by how it begins.
-use Rattle.std.proofs.Common.{◌≡◌, Bool, true, false, cond, ◌&&◌, List, [], ◌∷◌, ◌++◌, length, map, refl, ap, sym, ◌∙◌, arith}
+use Rattle.std.proofs.Common.{◌≡◌, Bool, true, false, cond, ◌&&◌, List, [], ◌∷◌, length, map, refl, ap, sym, ◌∙◌, arith}
 use Rattle.std.specs.List.{list_any}
 use Rattle.std.specs.Prelude.{codes, nat_lt}
 use Rattle.std.proofs.lemmas.Bool.Decides.{nat_tests}
 use Rattle.dbtg_script.specs.declared.token.Token as code
-use Rattle.dbtg_script.specs.Tokens.{Token, view}
+use Rattle.dbtg_script.specs.Tokens.{view}
 use Rattle.dbtg_program.specs.Sentences.{is_spelled, marked, marked_from, word_at}
 
 -- it begins in another way

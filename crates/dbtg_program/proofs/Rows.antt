@@ -10,3 +10,4 @@ pub mod FaultsFound
 pub mod Entries
 pub mod Bytes
 pub mod Scripts
+pub mod Stops

@@ -1,5 +1,5 @@
 -- The sentences that scripts do not have: which word may come in each place, and how it is judged there.
-use Rattle.std.specs.Prelude.{ℕ, Bool, true, false, ◌&&◌, ◌||◌, ◌==◌, List, [], ◌∷◌, ◌++◌, length, is_some, codes}
+use Rattle.std.specs.Prelude.{Bool, true, false, ◌&&◌, ◌||◌, ◌==◌, List, [], ◌∷◌, ◌++◌, length, is_some, codes}
 use Rattle.dbtg_schema.specs.Lookups.{some_and}
 use Rattle.dbtg_schema.specs.Texts.Spelling.{is_picture}
 use Rattle.dbtg_script.specs.Tokens.{Token, plain, equals, literal}

@@ -9,5 +9,6 @@ pub mod Sentences
 pub mod Grammar
 pub mod Faults
 pub mod Reading
+pub mod Told
 pub mod Laws
 pub mod Inside

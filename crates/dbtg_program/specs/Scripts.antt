@@ -1,5 +1,5 @@
 -- A script as a program.
-use Rattle.std.specs.Prelude.{◌≡◌, List, [], Option, Some, None, map}
+use Rattle.std.specs.Prelude.{List, [], map}
 use Rattle.dbtg_unit.specs.declared.statement.Statement as said
 use Rattle.dbtg_program.specs.declared.program.Line.{Line}
 use Rattle.dbtg_program.specs.declared.program.Program.{Program}

@@ -1,5 +1,5 @@
 -- The spec-level view of the code's results: without their references.
-use Rattle.std.specs.Prelude.{ℕ, ◌<◌, length}
+use Rattle.std.specs.Prelude.{◌<◌, length}
 use Rattle.dbtg_program.specs.declared.going.Due as going
 use Rattle.dbtg_program.specs.declared.going.Due.TheVariants as code_due
 use Rattle.dbtg_program.specs.declared.program.Program.{Program}

@@ -165,7 +165,13 @@ fn when(test: bool, cause: ProgramCause) -> Option<ProgramCause>
 }
 
 /// The first fault of a word of sentence number `at`, which has these words.
-fn said(text: &Text, at: usize, words: &[Token], token: Token, role: Role) -> Option<ProgramCause>
+pub fn said(
+    text: &Text,
+    at: usize,
+    words: &[Token],
+    token: Token,
+    role: Role,
+) -> Option<ProgramCause>
     ensures { result ≡ first (said text.now at (map view words.now) (view token.entry) role) }
 {
     match role {

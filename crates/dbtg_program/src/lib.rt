@@ -20,7 +20,9 @@ mod script;
 mod spelling;
 mod state;
 mod statement;
+mod stopping;
 mod text;
+mod told;
 mod word;
 
 pub use fault::{ProgramCause, ProgramFault};
@@ -31,3 +33,8 @@ pub use program::{Condition, End, Line, Operand, Program, Relation, Sentence, Wo
 pub use reader::read_program;
 pub use spelling::push_said_words;
 pub use state::State;
+pub use told::{
+    counters_in_program, paragraphs_in_program, statement_in_program, wanted_in_program,
+    word_in_program,
+};
+pub use word::is_own_name;

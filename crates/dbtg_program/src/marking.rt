@@ -103,7 +103,7 @@ pub fn has_field(words: &[Token]) -> bool
     }
 }
 
-fn unknown_word(text: &Text, word: &Marked) -> Option<ProgramCause>
+pub fn unknown_word(text: &Text, word: &Marked) -> Option<ProgramCause>
     ensures { result ≡ first (unknown_word text.now (view_marked word.now)) }
 {
     if word.is_field && text.field(text_in(word.token)).is_none() {

@@ -182,6 +182,12 @@ impl<'a> Text<'a> {
         self.schema
     }
 
+    pub fn sentences(&self) -> &[Holding<'a>]
+        ensures { map view_holding result.now ≡ self.now.sentences }
+    {
+        self.sentences.as_slice()
+    }
+
     /// The sentence with this number.
     pub fn sentence(&self, at: usize) -> Option<&Holding<'a>>
         ensures { option_map (λ h. view_holding h.now) result ≡ slice_get self.now.sentences at }

@@ -1,6 +1,6 @@
 use Rattle.std.proofs.Common.{ℕ, List, inl, inr, subst, sym}
 use Rattle.std.proofs.lemmas.Result.{IfOk-weaker}
-use Rattle.dbtg_command.specs.Reasons.{SaysOfLine, SaysOfScript}
+use Rattle.dbtg_command.specs.Reasons.{SaysOfScript}
 use Rattle.dbtg_command.proofs.reason.said_in_script.Goals as goal
 
 pub returns-in-Some : goal.returns-in-Some
@@ -10,7 +10,7 @@ returns-in-Some g c =
     let schema = c.args.files.now.paths.now.schema.now in
     let held = subst (λ (text : List ℕ). has c.args.path.now 1048577 text) (sym c.as_slice.ensures.value) c.in-Some.ensures in
     IfOk-weaker c.said_in_line.result _ (λ said. SaysOfScript has lacks c.args.kind schema c.args.path.now c.args.line c.args.number said.items)
-    (λ said is. inr (c.as_slice.result.now, held, subst (λ (line : List ℕ). SaysOfLine has lacks c.args.kind schema c.args.number line said.items) c.line_at.ensures is)) c.said_in_line.ensures
+    (λ said is. inr (c.as_slice.result.now, held, is)) c.said_in_line.ensures
 
 pub returns-in-None : goal.returns-in-None
 returns-in-None g c = inl (c.in-None.ensures, c.new.ensures.items)

@@ -1,7 +1,7 @@
 use Rattle.std.proofs.Common.{ℕ, ◌+◌, ◌++◌, List, ap, drop, length, map, refl, subst, sym, ◌∙◌, arith}
 use Rattle.std.specs.Prelude.{Option}
 use Rattle.std.proofs.lemmas.List.{append-nil}
-use Rattle.dbtg_script.specs.Lines.{lines, trimmed}
+use Rattle.dbtg_script.specs.Lines.{lines}
 use Rattle.dbtg_program.specs.declared.fault.Fault.{Fault}
 use Rattle.dbtg_program.specs.Reading.{RefusesProgram, line_of}
 use Rattle.dbtg_program.specs.Sentences.{Holding, cut, cut_lines}
