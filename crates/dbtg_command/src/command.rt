@@ -195,7 +195,7 @@ fn audit_command<'a>(alloc: Global, name: &'a str) -> Result<Command<'a>, AllocE
         alloc,
         name,
         "Compares the answers of a trace with those of this database, and prints what it leads to",
-        "Example, in examples/shop: dbtg replay --trace shop.schema unit1.script unit2.script | dbtg audit --units 2 shop.schema -",
+        "Example, in examples/shop: dbtg audit --units 2 shop.schema shop.trace",
         &[
             CAPACITY,
             FIRST,
