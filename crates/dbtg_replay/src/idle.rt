@@ -73,6 +73,7 @@ fn turns_used(first: bool, scripts: &[Row<Statement>], unit: u8) -> Option<usize
 }
 
 // What is told of these turns.
+#[tactic(auto, using(crate::proofs::EachUnit::one_more))]
 fn idle_text(
     alloc: Global,
     first: bool,

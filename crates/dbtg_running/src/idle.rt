@@ -52,6 +52,7 @@ fn push_idle_of(
 }
 
 /// Appends the lines that say which of these turns made nothing.
+#[tactic(auto, using(dbtg_replay::proofs::Public::one_more))]
 pub fn push_idle_turns(
     out: &mut Vec<u8>,
     around: Around,
