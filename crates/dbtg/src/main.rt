@@ -38,7 +38,7 @@ use std::process::ExitCode;
 use std::sync::Wait;
 use std::thread::Threads;
 use std::{env, io};
-use timeline::timeline;
+use timeline::{names_of_files, timeline};
 use writing::{tell_arguments, tell_fault, tell_unwritten, tell_words, write_ended};
 
 // What `check` prints of programs, or of scripts.
@@ -104,7 +104,9 @@ fn replayed(alloc: Global, files: &Files<HostRuntime>, call: &Call) -> Result<En
 }
 
 fn pictured(alloc: Global, files: &Files<HostRuntime>, call: &Call) -> Result<Ended, Fault> {
-    let text = timeline(alloc, files, call.capacity, picture_form(call), call.first)?;
+    let names = names_of_files(alloc, call.schema, call.scripts.as_slice())?;
+    let form = picture_form(call, names.as_slice());
+    let text = timeline(alloc, files, call.capacity, &form, call.first)?;
     of_run(alloc, files, call, text)
 }
 

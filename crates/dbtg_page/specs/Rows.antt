@@ -1,7 +1,7 @@
 -- The page of a run: what surrounds its data, and their rows: one for the names of files and of each part of the schema, one for the
 -- table of causes, one for the statements of each script, one for the database where the page begins, one for each event if events are
 -- shown, and one for each ticket, with what it changes.
-use Rattle.std.specs.Prelude.{ℕ, Bool, true, false, ◌-◌, List, [], ◌∷◌, ◌++◌, codes, decimal, length, map, option_and_then, option_map, slice_get, unwrap_or}
+use Rattle.std.specs.Prelude.{ℕ, Bool, true, false, ◌-◌, List, [], ◌∷◌, ◌++◌, codes, decimal, drop, length, map, option_and_then, option_map, slice_get, take, unwrap_or}
 use Rattle.std.specs.List.{flat_map}
 use Rattle.dbtg_schema.specs.Lists.{Lists}
 use Rattle.dbtg_unit.specs.Database.State.Image.{Image, image_of}
@@ -112,7 +112,7 @@ run_rows events c (b ∷ bs) moves = run_rows events (after_move c b) bs moves
 
 -- ---- the whole
 
--- the page of the run of these moves, which begins after those before; scripts has the text of each statement
-unfoldable pub page_text : Lists → ℕ → List (List Statement) → Titles → Bool → List Move → List Move → List ℕ
+-- the page of the run of these moves, which begins after so many of them
+unfoldable pub page_text : Lists → ℕ → List (List Statement) → Titles → Bool → ℕ → List Move → List ℕ
 page_text schema capacity statements titles events before moves =
-    MARKUP.now ++ front_rows schema titles ++ run_rows events (opening_core schema capacity statements) before moves ++ SCRIPT.now
+    MARKUP.now ++ front_rows schema titles ++ run_rows events (opening_core schema capacity statements) (take before moves) (drop before moves) ++ SCRIPT.now

@@ -8,4 +8,4 @@ mod page;
 mod script;
 
 pub use changes::changes_lead_on;
-pub use page::{Told, page_text};
+pub use page::{Steps, Told, page_text};

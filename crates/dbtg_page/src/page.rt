@@ -1,5 +1,5 @@
 //! The page of a run. The core is stepped move by move; each ticket is followed by what it leads to.
-ghost use Rattle.std.specs.Prelude.{List, ◌≡◌, ◌++◌, ◌∷◌, ◌≤◌, [], true, length, map, if◌then◌else◌, IfOk, OnOk, codes};
+ghost use Rattle.std.specs.Prelude.{List, ◌≡◌, ◌++◌, ◌∷◌, ◌≤◌, [], true, drop, length, map, take, if◌then◌else◌, IfOk, OnOk, codes};
 ghost use Rattle.std.specs.List.{flat_map};
 ghost use Rattle.dbtg_schema.specs.Sound.{IsSound};
 ghost use Rattle.dbtg_script.specs.Printing.Texts.{units_text};
@@ -37,11 +37,11 @@ pub struct Told<'a> {
     pub causes: &'a [u8],
 }
 
-/// The moves of a run: those before the page begins, and those that it shows, with their events if `events` says so.
+/// The moves of a run. A page begins after the first `before` of them, and shows the events of the others if `events` says so.
 #[derive(Clone, Copy)]
 pub struct Steps<'a> {
     pub events: bool,
-    pub before: &'a [Move],
+    pub before: usize,
     pub moves: &'a [Move],
 }
 
@@ -328,6 +328,18 @@ fn push_run(
     push_each_move(out, setting, core, &mut shown, moves)
 }
 
+fn first_of(moves: &[Move], count: usize) -> &[Move]
+    ensures { result.now ≡ take count moves.now }
+{
+    &moves[..count.min(moves.len())]
+}
+
+fn behind_first(moves: &[Move], count: usize) -> &[Move]
+    ensures { result.now ≡ drop count moves.now }
+{
+    &moves[count.min(moves.len())..]
+}
+
 // The moves before the page begins.
 #[tactic(auto, using(crate::proofs::CoreShown::same_schema, crate::proofs::CoreShown::same_count))]
 fn pass(setting: &Setting<'_>, core: &mut Core, before: &[Move]) -> Result<(), AllocError>
@@ -356,11 +368,11 @@ fn push_whole_run(
     requires units { length statements ≡ setting.now.units }
     requires few { length statements ≤ LAST_UNIT }
     requires fit { scripts_fit setting.now.schema.now statements ≡ true }
-    ensures { OnOk result (out.new.items ≡ out.old.items ++ run_rows setting.now.events (opening_core setting.now.schema.now capacity statements) steps.now.before.now steps.now.moves.now) }
+    ensures { OnOk result (out.new.items ≡ out.old.items ++ run_rows setting.now.events (opening_core setting.now.schema.now capacity statements) (take steps.now.before steps.now.moves.now) (drop steps.now.before steps.now.moves.now)) }
 {
     let mut core = Core::new(setting.alloc, setting.schema, capacity, statements)?;
-    pass(setting, &mut core, steps.before)?;
-    push_run(out, setting, &mut core, steps.moves)
+    pass(setting, &mut core, first_of(steps.moves, steps.before))?;
+    push_run(out, setting, &mut core, behind_first(steps.moves, steps.before))
 }
 
 /// The page of the run of these moves, starting with the opening database, with a unit for each script. A step without memory ends it.
@@ -376,7 +388,7 @@ pub fn page_text(
     requires sound { IsSound schema.now }
     requires units { length statements ≤ LAST_UNIT }
     requires fit { scripts_fit schema.now statements ≡ true }
-    ensures { IfOk result (λ text. text.items ≡ page_text schema.now capacity statements (record { files = told.now.files.now; scripts = told.now.scripts.now; causes = told.now.causes.now }) steps.now.events steps.now.before.now steps.now.moves.now) }
+    ensures { IfOk result (λ text. text.items ≡ page_text schema.now capacity statements (record { files = told.now.files.now; scripts = told.now.scripts.now; causes = told.now.causes.now }) steps.now.events steps.now.before steps.now.moves.now) }
 {
     let setting = Setting {
         alloc,
