@@ -18,7 +18,7 @@ const linesOf = (text) => text.split('\n').filter((line) => line !== '');
 const typeOf = (key) => key.split(':')[0];
 const colourOf = (set) => COLOURS[names.SETS.indexOf(set) % COLOURS.length];
 const escaped = (text) => text.replaceAll('&', '&amp;').replaceAll('<', '&lt;').replaceAll('>', '&gt;');
-const trimmed = (text) => text.replace(/ +"/g, '"');
+const trimmed = (text) => text.replace(/"([^"]*?) *"/g, '"$1"');
 const fileOf = (unit) => (names.FILES[unit] || `unit ${unit}`).split('/').pop();
 const hasEvents = () => steps.some((step) => step.letter);
 
@@ -429,8 +429,9 @@ function statementsTable() {
 function midway(all, row) {
   const old = at('midway');
   if (old) old.remove();
-  if (!hasEvents() || !all.some((it) => it.open)) return;
-  const cells = columns().map((unit) => `<td>${all[unit - 1].open ? escaped(trimmed(all[unit - 1].text)) : ''}</td>`);
+  const isMidway = (it) => it.open && !it.ticket;
+  if (!hasEvents() || !all.some(isMidway)) return;
+  const cells = columns().map((unit) => `<td>${isMidway(all[unit - 1]) ? escaped(trimmed(all[unit - 1].text)) : ''}</td>`);
   const made = `<tr id='midway'><th></th>${cells.join('')}</tr>`;
   if (row) row.insertAdjacentHTML('afterend', made);
   else at('rows').tBodies[0].insertAdjacentHTML('afterbegin', made);
