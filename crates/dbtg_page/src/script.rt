@@ -13,7 +13,7 @@ const LETTERS = {
   T: 'draws its ticket', X: 'draws its ticket', l: 'links a cell', p: 'puts a cell back', v: 'leaves an area',
   Q: 'quits, and gives all back', B: 'is blocked: another unit holds what it wants', I: 'is idle',
 };
-const MOST_NAMED = 12, MOST_DRAWN = 240, CHUNK = 60;
+const MOST_NAMED = 12, MOST_DRAWN = 240, MOST_ROWS = 400, CHUNK = 60;
 const COLOURS = ['#0b7fa0', '#b5179e', '#7b57e0', '#b8660b', '#2b8a3e', '#d6404a', '#2f7fd6', '#868e00'];
 const names = { FILES: [], TYPES: [], SETS: [], AREAS: [] };
 // A step is an event, or a statement with its ticket where no events are shown.
@@ -37,7 +37,7 @@ function answerOf(line) {
 const READERS = {
   SCRIPT: (fields) => scripts.push(fields),
   CAUSES: ([text]) => linesOf(text).forEach((line) => causes.set(line.slice(0, 2), line.split('|'))),
-  STATE: ([text]) => text.split('\\n').forEach((line, place) => exchange(place, 0, [line])),
+  STATE: ([text]) => lines.push(...text.split('\\n')),
   EVENT: ([unit, letter, place, about]) => steps.push({ unit: Number(unit), letter, place: Number(place), about, ticket: tickets.length }),
   TICKET: ([line, ...changes]) => {
     const answer = answerOf(line);
@@ -62,19 +62,33 @@ function read() {
 // ---- the database and the units after a ticket: the lines that `replay` prints, and what they say
 
 const lines = [], records = new Map(), lists = new Map(), areas = new Map(), units = new Map();
-let reached = 0;
+// What a line says is kept, since most lines stay.
+const said = new Map();
+let reached = 0, learned = -1;
 
 const partsOf = (line) => line.match(/[A-Z0-9-]+=(?:[0-9]+|\"[^\"]*\")/g) || [];
 const isRecord = (line) => /^[A-Z0-9-]+:/.test(line);
-const isList = (line) => / [A-Z0-9-]+(?::[0-9.]+)?:( |$)/.test(line) && !isRecord(line);
+const isList = (line) => /^[A-Z0-9-]+ [A-Z0-9-]+(?::[0-9.]+)?:( |$)/.test(line);
 
-function learn(line, isThere) {
+function sayingOf(line) {
   const [first, second, ...rest] = line.split(' ');
-  const put = (map, name, value) => (isThere ? map.set(name, value) : map.delete(name));
-  if (isRecord(line)) put(records, first, partsOf(line));
-  else if (isList(line)) put(lists, `${first} ${second}`, { set: first, owner: second.slice(0, -1), members: rest });
-  else if (first === 'AREA') put(areas, second, rest);
-  else if (first === 'UNIT') put(units, Number(second), currentsOf(line));
+  if (isRecord(line)) return [records, first, partsOf(line)];
+  if (isList(line)) return [lists, `${first} ${second}`, { set: first, owner: second.slice(0, -1), members: rest }];
+  if (first === 'AREA') return [areas, second, rest];
+  if (first === 'UNIT') return [units, Number(second), currentsOf(line)];
+  return null;
+}
+
+// Reads the lines as they are now.
+function learn() {
+  if (learned === reached) return;
+  learned = reached;
+  for (const map of [records, lists, areas, units]) map.clear();
+  for (const line of lines) {
+    if (!said.has(line)) said.set(line, sayingOf(line));
+    const found = said.get(line);
+    if (found) found[0].set(found[1], found[2]);
+  }
 }
 
 // The line of a unit: current of run-unit, of each record type, set and area, and what is kept.
@@ -86,14 +100,6 @@ function currentsOf(line) {
     else part.push(word);
   }
   return { run: parts.RUN[0], types: parts.RECORD, sets: parts.SET, areas: parts.AREA, kept: parts.KEPT || [] };
-}
-
-// Some lines go, and others come in their place; what went is given back.
-function exchange(place, count, come) {
-  const gone = lines.splice(place, count, ...come);
-  gone.forEach((line) => learn(line, false));
-  come.forEach((line) => learn(line, true));
-  return gone;
 }
 
 const editOf = (text) => text.match(/^(\\d+)([-+~])([^]*)$/).slice(1);
@@ -122,24 +128,26 @@ function exchangesOf(changes) {
   });
 }
 
-// One ticket on: what it exchanges is kept for the way back. One ticket back.
+// One ticket on: what goes and what comes in its place is kept for the way back, and for the next time. One ticket back.
 function stepOn() {
   const ticket = tickets[reached++];
-  ticket.back = exchangesOf(ticket.changes).map(([place, count, come]) => {
-    const there = come();
-    return [place, there.length, exchange(place, count, there), there];
+  if (ticket.exchanged) ticket.exchanged.forEach(([place, gone, come]) => lines.splice(place, gone.length, ...come));
+  else ticket.exchanged = exchangesOf(ticket.changes).map(([place, count, comes]) => {
+    const come = comes();
+    return [place, lines.splice(place, count, ...come), come];
   });
   return ticket;
 }
 
 function stepBack() {
   const ticket = tickets[--reached];
-  [...ticket.back].reverse().forEach(([place, count, gone]) => exchange(place, count, gone));
+  [...ticket.exchanged].reverse().forEach(([place, gone, come]) => lines.splice(place, come.length, ...gone));
 }
 
 function reach(count) {
   while (reached < count) stepOn();
   while (reached > count) stepBack();
+  learn();
 }
 
 // ---- which records a ticket touches, and how large their boxes get
@@ -174,17 +182,18 @@ function partsShown(key, parts, old) {
 
 // Goes through the run once.
 function goThrough() {
+  learn();
   for (const [key, parts] of records) note(key, parts);
   while (reached < tickets.length) {
     const ticket = stepOn();
     if (ticket.key.includes(':')) ticket.touched.add(ticket.key);
     ticket.old = new Map();
-    for (const [, , gone, come] of ticket.back) {
+    for (const [, gone, come] of ticket.exchanged) {
       gone.forEach((line, i) => touch(ticket, line, come[i]));
       come.forEach((line, i) => touch(ticket, line, gone[i]));
       gone.filter(isRecord).forEach((line) => ticket.old.set(line.split(' ')[0], partsOf(line)));
     }
-    for (const line of ticket.back.flatMap((it) => it[3]).filter(isRecord)) {
+    for (const line of ticket.exchanged.flatMap((it) => it[2]).filter(isRecord)) {
       const key = line.split(' ')[0];
       note(key, partsShown(key, partsOf(line), ticket.old.get(key)));
     }
@@ -195,11 +204,11 @@ function goThrough() {
 
 const GAP = { x: 44, y: 66, line: 16 };
 const asked = new Set();
-let places = new Map(), extent = { width: 0, height: 0 }, drawnFor = '';
+let isShort = true, places = new Map(), extent = { width: 0, height: 0 }, drawnFor = '';
 
 // The tickets whose records are drawn: all of a short run, otherwise those around the one that is shown.
 function span() {
-  if (new Set(tickets.flatMap((ticket) => [...ticket.touched])).size <= MOST_DRAWN) return [0, tickets.length];
+  if (isShort) return [0, tickets.length];
   const from = Math.floor(Math.max(0, reached - 1) / CHUNK) * CHUNK;
   return [from, from + CHUNK];
 }
@@ -346,7 +355,7 @@ function box(key, items, marks, isRun, isChanged) {
 function picture(ticket, currents) {
   const marks = currents ? marksOf(currents) : new Map();
   const heads = names.SETS.map((set, i) => `<marker id='head${i}' viewBox='0 0 8 8' refX='7' refY='4' markerWidth='7' markerHeight='7' orient='auto'><path d='M0,0 L8,4 L0,8 z' fill='${colourOf(set)}'/></marker>`);
-  const came = new Set(ticket ? ticket.back.flatMap((it) => it[3]).filter(isRecord).map((line) => line.split(' ')[0]) : []);
+  const came = new Set(ticket ? ticket.exchanged.flatMap((it) => it[2]).filter(isRecord).map((line) => line.split(' ')[0]) : []);
   const boxes = [...places.keys()].filter((key) => records.has(key)).map((key) => {
     const parts = partsShown(key, records.get(key), came.has(key) && ticket.old.get(key));
     return box(key, parts, marks.get(key) || [], currents && currents.run === key, came.has(key));
@@ -416,19 +425,28 @@ function told(step) {
 }
 
 // One axis of time: a row for each ticket, its statement in the column of its unit.
-const columns = () => [...new Set(steps.map((step) => step.unit))].filter((unit) => unit <= scripts.length).sort((a, b) => a - b);
+let columns = [], rowsFrom = -1;
 
-function statementsTable() {
-  const shown = columns();
-  const empty = shown.map(() => '<td></td>');
-  const row = ({ number, unit, text, status, refused, cause, found }, index) => {
-    const cells = [...empty];
-    cells[shown.indexOf(unit)] = `<td>${escaped(trimmed(text))}<span class='status${refused ? ' refused' : ''}'>${status} ${escaped(refused ? cause[1] : found)}</span></td>`;
-    return `<tr data-ticket='${index + 1}'><th>${number}</th>${cells.join('')}</tr>`;
-  };
-  const heads = shown.map((unit) => `<th data-unit='${unit}'><b>${escaped(fileOf(unit))}</b><span class='waits'></span><small></small></th>`);
-  at('rows').innerHTML = `<thead><tr><th></th>${heads.join('')}</tr></thead><tbody>${tickets.map(row).join('')}</tbody>`;
-  at('rows').style.setProperty('--units', shown.length);
+function statementsHead() {
+  const heads = columns.map((unit) => `<th data-unit='${unit}'><b>${escaped(fileOf(unit))}</b><span class='waits'></span><small></small></th>`);
+  at('rows').innerHTML = `<thead><tr><th></th>${heads.join('')}</tr></thead><tbody></tbody>`;
+  at('rows').style.setProperty('--units', columns.length);
+}
+
+function statementRow({ number, unit, text, status, refused, cause, found }, index) {
+  const cells = columns.map(() => '<td></td>');
+  cells[columns.indexOf(unit)] = `<td>${escaped(trimmed(text))}<span class='status${refused ? ' refused' : ''}'>${status} ${escaped(refused ? cause[1] : found)}</span></td>`;
+  return `<tr data-ticket='${index + 1}'><th>${number}</th>${cells.join('')}</tr>`;
+}
+
+// Of many tickets those around the one that is shown have their rows.
+function statementRows() {
+  const from = Math.max(0, Math.floor((reached - MOST_ROWS / 4) / (MOST_ROWS / 2)) * (MOST_ROWS / 2));
+  if (from === rowsFrom) return;
+  rowsFrom = from;
+  const shown = tickets.slice(from, from + MOST_ROWS).map((ticket, i) => statementRow(ticket, from + i));
+  const more = (count, ticket) => (count > 0 ? `<tr data-ticket='${ticket}' class='more'><th></th><td colspan='${columns.length}'>${count} more</td></tr>` : '');
+  at('rows').tBodies[0].innerHTML = more(from, from) + shown.join('') + more(tickets.length - from - MOST_ROWS, from + MOST_ROWS + 1);
 }
 
 // The statements that are in mid-statement stand below the last ticket.
@@ -437,7 +455,7 @@ function midway(all, row) {
   if (old) old.remove();
   const isMidway = (it) => it.open && !it.ticket;
   if (!hasEvents() || !all.some(isMidway)) return;
-  const cells = columns().map((unit) => `<td>${isMidway(all[unit - 1]) ? escaped(trimmed(all[unit - 1].text)) : ''}</td>`);
+  const cells = columns.map((unit) => `<td>${isMidway(all[unit - 1]) ? escaped(trimmed(all[unit - 1].text)) : ''}</td>`);
   const made = `<tr id='midway'><th></th>${cells.join('')}</tr>`;
   if (row) row.insertAdjacentHTML('afterend', made);
   else at('rows').tBodies[0].insertAdjacentHTML('afterbegin', made);
@@ -459,8 +477,9 @@ let now = 0, picked = 0, marked = null;
 
 function showTime(step) {
   const all = placesOfUnits(hasEvents() ? now : 0);
-  if (marked) marked.classList.remove('now', 'open');
-  marked = at('rows').tBodies[0].querySelector(`[data-ticket='${reached}']`);
+  if (marked) marked.classList.remove('now');
+  statementRows();
+  marked = at('rows').tBodies[0].querySelector(`[data-ticket='${reached}']:not(.more)`);
   at('rows').classList.toggle('begun', reached > 0);
   if (marked) marked.classList.add('now');
   midway(all, marked);
@@ -473,7 +492,7 @@ function showTime(step) {
   if (marked) marked.scrollIntoView({ block: 'nearest' });
 }
 
-const chosen = (step) => picked || (step && step.unit <= scripts.length ? step.unit : columns()[0] || 1);
+const chosen = (step) => picked || (step && step.unit <= scripts.length ? step.unit : columns[0] || 1);
 
 // Brings the current record into sight.
 function scrollToCurrent(currents) {
@@ -511,7 +530,7 @@ function show(n) {
 
 // A unit that is picked stays chosen until it is picked again; otherwise it is the unit of the step.
 function pick(unit) {
-  if (!columns().includes(unit)) return;
+  if (!columns.includes(unit)) return;
   picked = picked === unit ? 0 : unit;
   show(now);
 }
@@ -547,9 +566,11 @@ function begin() {
   read();
   goThrough();
   reach(0);
+  isShort = new Set(tickets.flatMap((ticket) => [...ticket.touched])).size <= MOST_DRAWN;
   document.title = fileOf(0);
   at('title').textContent = fileOf(0);
-  statementsTable();
+  columns = [...new Set(steps.map((step) => step.unit))].filter((unit) => unit <= scripts.length).sort((a, b) => a - b);
+  statementsHead();
   for (const [id, [, ofEvents]] of Object.entries(STEPS)) {
     at(id).addEventListener('click', () => go(id));
     at(id).hidden = ofEvents && !hasEvents();
