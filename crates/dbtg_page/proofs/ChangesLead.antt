@@ -1,13 +1,12 @@
 -- The edits from old parts to new ones, made in the old ones, give the new ones.
-use Rattle.std.proofs.Common.{◌≡◌, ℕ, zero, suc, ◌<◌, ◌+◌, Bool, true, false, not, ◌||◌, nat_le, List, [], ◌∷◌, ◌++◌, Option, Some, None, length, map, get_or, drop, position, refl, sym, ap, ◌∙◌, arith, bytes_eq, cond}
+use Rattle.std.proofs.Common.{◌≡◌, ℕ, zero, suc, ◌<◌, ◌+◌, Bool, true, false, List, [], ◌∷◌, ◌++◌, Option, Some, None, length, map, get_or, drop, position, refl, sym, ap, ◌∙◌, arith, bytes_eq, cond}
 use Rattle.std.specs.Prelude.{option_and_then, option_map, unwrap_or}
-use Rattle.std.specs.List.{list_any}
 use Rattle.std.proofs.lemmas.List.{drop_all, drop_more, get_or-map, length-map, nil_from_length}
 use Rattle.std.proofs.lemmas.List.Quantifiers.{position-Some}
 use Rattle.std.proofs.lemmas.Slice.Eq.{bytes_eq-Decides}
-use Rattle.dbtg_page.specs.Changes.{ChangesLeadOn, Edit, changes, edited, edits, gone, joined, line_after, met, name_by, parts, stays, turned, word_edits}
+use Rattle.dbtg_page.specs.Changes.{ChangesLeadOn, Edit, edited, edits, gone, joined, line_after, met, name_by, parts, stays, turned, word_edits}
 use Rattle.dbtg_page.specs.declared.changes.Kind.TheVariants.{Line, Word}
-use Rattle.dbtg_page.specs.Changes.Edit.{Stays, Comes, Go, Turns}
+use Rattle.dbtg_page.specs.Changes.Edit.{Stays, Comes, Turns}
 use Rattle.dbtg_page.proofs.PartsSplit.{joined_parts}
 
 -- a part that is met stands where it is met
@@ -17,6 +16,7 @@ met_at old name later p e = by (position (λ other. bytes_eq other name) old) re
     kept : (b : Bool) (q : ℕ) → cond b (Some q) None ≡ Some p → Some q ≡ Some p
     kept true q f = f
     kept false q f = absurd cc
+
     by : (o : Option ℕ) → position (λ other. bytes_eq other name) old ≡ o
         → option_and_then (λ q. cond (stays old q later) (Some q) None) o ≡ Some p → position (λ other. bytes_eq other name) old ≡ Some p
     by None is f = absurd cc

@@ -1,5 +1,5 @@
 -- Where a name stands among the names of parts.
-use Rattle.std.proofs.Common.{◌≡◌, ◌<◌, ℕ, Bool, Bor, true, false, cond, not, List, [], ◌∷◌, ◌+◌, length, map, nat_le, nat_lt, position, Option, Some, None, get_or, refl, ap, ◌∙◌, sym, bytes_eq, arith}
+use Rattle.std.proofs.Common.{◌≡◌, ◌<◌, ℕ, Bool, Bor, false, cond, not, List, [], ◌∷◌, ◌+◌, length, map, nat_le, nat_lt, position, Option, Some, None, get_or, refl, ap, ◌∙◌, sym, bytes_eq, arith}
 use Rattle.std.specs.Prelude.{◌||◌, option_and_then}
 use Rattle.std.specs.List.{list_any, position_or_len, prefix_len}
 use Rattle.std.proofs.lemmas.Bool.Decides.{nat_tests}
@@ -7,7 +7,6 @@ use Rattle.std.proofs.lemmas.List.{length-map}
 use Rattle.std.proofs.lemmas.List.Quantifiers.{position-Some}
 use Rattle.dbtg_page.specs.declared.changes.Kind.{Kind}
 use Rattle.dbtg_page.specs.Changes.{met, name_by, names, stays}
-use Rattle.dbtg_page.proofs.ChangesLead.{met_at}
 
 module _ {X Y : Type 0} (f : X → Y) where
   before_same : (test : Y → Bool) (xs : List X) → prefix_len (λ x. not (test (f x))) xs ≡ prefix_len (λ y. not (test y)) (map f xs)

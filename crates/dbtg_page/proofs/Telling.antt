@@ -8,7 +8,7 @@ use Rattle.dbtg_page.specs.declared.changes.Kind.TheVariants.{Line, Word}
 use Rattle.dbtg_page.specs.declared.changes.Told.{Told}
 use Rattle.dbtg_page.specs.Json.{field}
 use Rattle.dbtg_page.specs.Changes.{Edit, behind_met, change_fields, edits, gone, left, line_ops, lines_left, met, name_by, names, op, ops, parts, texts, turned, word_edits, word_ops, words_left}
-use Rattle.dbtg_page.specs.Changes.Edit.{Stays, Comes, Go, Turns}
+use Rattle.dbtg_page.specs.Changes.Edit.{Stays, Comes, Turns}
 
 module _ {X : Type 0} (kind : Kind) (turn : List ℕ → List ℕ → Edit X) (wrap : List ℕ → List ℕ) (print : X → List ℕ) where
   -- by one new part
@@ -52,10 +52,10 @@ module _ {X : Type 0} (kind : Kind) (turn : List ℕ → List ℕ → Edit X) (w
         let tail = left kind turn wrap print (behind_met told p) old (drop (i + 1) new) in
         ap (λ t. t ++ tail) is ∙ append_assoc out (ops wrap print told.stay (gone p)) tail
         ∙ ap (λ t. out ++ t) (sym (
-            here ∙ ap (ops wrap print told.stay) (step (texts (drop told.at old)) (get_or new i d).now (texts (drop (i + 1) new)) (Some p) e)
-            ∙ ap (λ one. ops wrap print told.stay (gone p ++ one ∷ es)) turns
-            ∙ before_stay told.stay p es
-            ∙ ap (λ os. ops wrap print told.stay (gone p) ++ ops wrap print (cond (nat_eq p 0) (told.stay + 1) 1) (edits (name_by kind) turn os (texts (drop (i + 1) new)))) (rest p)))
+        here ∙ ap (ops wrap print told.stay) (step (texts (drop told.at old)) (get_or new i d).now (texts (drop (i + 1) new)) (Some p) e)
+        ∙ ap (λ one. ops wrap print told.stay (gone p ++ one ∷ es)) turns
+        ∙ before_stay told.stay p es
+        ∙ ap (λ os. ops wrap print told.stay (gone p) ++ ops wrap print (cond (nat_eq p 0) (told.stay + 1) 1) (edits (name_by kind) turn os (texts (drop (i + 1) new)))) (rest p)))
 
     pub turns_on : (p : ℕ) (x : X) (out more : List ℕ) → met (names kind (drop told.at old)) (name_by kind (get_or new i d).now) (names kind (drop (i + 1) new)) ≡ Some p
         → turn (get_or (texts (drop told.at old)) p []) (get_or new i d).now ≡ Turns x
@@ -69,10 +69,10 @@ module _ {X : Type 0} (kind : Kind) (turn : List ℕ → List ℕ → Edit X) (w
         ap (λ t. t ++ tail) is ∙ append_assoc out (first ++ second) tail
         ∙ ap (λ t. out ++ t) (append_assoc first second tail)
         ∙ ap (λ t. out ++ t) (sym (
-            here ∙ ap (ops wrap print told.stay) (step (texts (drop told.at old)) (get_or new i d).now (texts (drop (i + 1) new)) (Some p) e)
-            ∙ ap (λ one. ops wrap print told.stay (gone p ++ one ∷ es)) turns
-            ∙ before_turn told.stay p x es
-            ∙ ap (λ os. first ++ (second ++ ops wrap print 0 (edits (name_by kind) turn os (texts (drop (i + 1) new))))) (rest p)))
+        here ∙ ap (ops wrap print told.stay) (step (texts (drop told.at old)) (get_or new i d).now (texts (drop (i + 1) new)) (Some p) e)
+        ∙ ap (λ one. ops wrap print told.stay (gone p ++ one ∷ es)) turns
+        ∙ before_turn told.stay p x es
+        ∙ ap (λ os. first ++ (second ++ ops wrap print 0 (edits (name_by kind) turn os (texts (drop (i + 1) new))))) (rest p)))
 
   -- at the end
   pub at_end : (old new : List (Bor (List ℕ))) (i : ℕ) (told : Told) → length new ≤ i → ops wrap print told.stay (gone (length old - told.at)) ≡ left kind turn wrap print told old (drop i new)
@@ -118,6 +118,7 @@ module _ (old new : List (Bor (List ℕ))) (i : ℕ) (d : Bor (List ℕ)) (lt : 
       less : (k : ℕ) → (cond (nat_eq k 0) (told.stay + 1) 1) - 1 ≡ cond (nat_eq k 0) told.stay 0
       less zero = omega arith
       less (suc k) = rw (ne_eqb (suc k) 0 (λ h. absurd (omega (arith, h)))) refl
+
       by : (b : Bool) → bytes_eq o (get_or new i d).now ≡ b → more ++ left Line turned field (word_ops 0) then old (drop (i + 1) new) ≡ out ++ left Line turned field (word_ops 0) told old (drop i new)
       by true k =
           let s = same k in

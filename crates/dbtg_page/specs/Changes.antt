@@ -1,5 +1,5 @@
 -- What changes from one text to the next: lines that come, lines that go, and in other lines words that come and go.
-use Rattle.std.specs.Prelude.{ℕ, zero, suc, ◌≡◌, ◌+◌, Bool, not, ◌||◌, ◌&&◌, ◌==◌, true, false, nat_le, List, [], ◌∷◌, ◌++◌, Option, Some, None, decimal, drop, if◌then◌else◌, length, map, option_and_then, option_map, position, slice_index_or, unwrap_or}
+use Rattle.std.specs.Prelude.{ℕ, zero, suc, ◌≡◌, ◌+◌, Bool, not, ◌||◌, ◌&&◌, ◌==◌, false, nat_le, List, [], ◌∷◌, ◌++◌, Option, Some, None, decimal, drop, if◌then◌else◌, length, map, option_and_then, option_map, position, slice_index_or, unwrap_or}
 use Rattle.std.specs.List.{list_any}
 use Rattle.std.specs.Borrow.{Bor}
 use Rattle.std.specs.Str.{bytes_eq}

@@ -164,7 +164,12 @@ fn push_words_gone(out: &mut Vec<u8>, stay: usize, count: usize) -> Result<(), A
 }
 
 // So many lines go.
-fn push_lines_gone(alloc: Global, out: &mut Vec<u8>, stay: usize, count: usize) -> Result<(), AllocError>
+fn push_lines_gone(
+    alloc: Global,
+    out: &mut Vec<u8>,
+    stay: usize,
+    count: usize,
+) -> Result<(), AllocError>
     ensures { OnOk result (out.new.items ≡ out.old.items ++ line_ops stay (gone count)) }
 {
     if count == 0 {
@@ -175,7 +180,13 @@ fn push_lines_gone(alloc: Global, out: &mut Vec<u8>, stay: usize, count: usize) 
 }
 
 // An edit of lines, as a string of its row.
-fn push_line_op(alloc: Global, out: &mut Vec<u8>, stay: usize, sign: u8, about: &[u8]) -> Result<(), AllocError>
+fn push_line_op(
+    alloc: Global,
+    out: &mut Vec<u8>,
+    stay: usize,
+    sign: u8,
+    about: &[u8],
+) -> Result<(), AllocError>
     ensures { OnOk result (out.new.items ≡ out.old.items ++ field (op stay sign about.now)) }
 {
     let mut text = Vec::new(alloc);
@@ -191,7 +202,10 @@ fn behind_met(told: Told, gone: usize) -> Told
 {
     let at = told.at + gone + 1;
     if gone == 0 {
-        Told { stay: told.stay + 1, at }
+        Told {
+            stay: told.stay + 1,
+            at,
+        }
     } else {
         Told { stay: 1, at }
     }
@@ -218,7 +232,10 @@ fn push_word(out: &mut Vec<u8>, told: Told, both: &Both<'_>, i: usize) -> Result
     match met(Kind::Word, behind(old, told.at), new[i], behind(new, i + 1)) {
         None => {
             push_word_op(out, told.stay, b'+', new[i])?;
-            Ok(Told { stay: 0, at: told.at })
+            Ok(Told {
+                stay: 0,
+                at: told.at,
+            })
         }
         Some(count) => {
             push_words_gone(out, told.stay, count)?;
@@ -239,18 +256,35 @@ fn push_words(out: &mut Vec<u8>, both: &Both<'_>) -> Result<(), AllocError>
 
 // From the words of a line to those of another.
 #[tactic(auto, using(crate::proofs::Telling::words_of_parts))]
-fn push_word_changes(alloc: Global, out: &mut Vec<u8>, old: &[u8], new: &[u8]) -> Result<(), AllocError>
+fn push_word_changes(
+    alloc: Global,
+    out: &mut Vec<u8>,
+    old: &[u8],
+    new: &[u8],
+) -> Result<(), AllocError>
     ensures { OnOk result (out.new.items ≡ out.old.items ++ word_ops 0 (word_edits old.now new.now)) }
 {
     let before = parts_of(alloc, b' ', old)?;
     let after = parts_of(alloc, b' ', new)?;
-    push_words(out, &Both { before: before.as_slice(), after: after.as_slice() })
+    push_words(
+        out,
+        &Both {
+            before: before.as_slice(),
+            after: after.as_slice(),
+        },
+    )
 }
 
 // ---- lines
 
 // A line turns into another.
-fn push_turned(alloc: Global, out: &mut Vec<u8>, stay: usize, old: &[u8], new: &[u8]) -> Result<(), AllocError>
+fn push_turned(
+    alloc: Global,
+    out: &mut Vec<u8>,
+    stay: usize,
+    old: &[u8],
+    new: &[u8],
+) -> Result<(), AllocError>
     ensures { OnOk result (out.new.items ≡ out.old.items ++ field (op stay 126 (word_ops 0 (word_edits old.now new.now)))) }
 {
     let mut text = Vec::new(alloc);
@@ -260,7 +294,13 @@ fn push_turned(alloc: Global, out: &mut Vec<u8>, stay: usize, old: &[u8], new: &
 }
 
 // One line of a text.
-fn push_line(alloc: Global, out: &mut Vec<u8>, told: Told, both: &Both<'_>, i: usize) -> Result<Told, AllocError>
+fn push_line(
+    alloc: Global,
+    out: &mut Vec<u8>,
+    told: Told,
+    both: &Both<'_>,
+    i: usize,
+) -> Result<Told, AllocError>
     requires old { told.at ≤ length both.now.before.now }
     requires stay { told.stay ≤ told.at }
     requires new { i < length both.now.after.now }
@@ -271,17 +311,32 @@ fn push_line(alloc: Global, out: &mut Vec<u8>, told: Told, both: &Both<'_>, i: u
     match met(Kind::Line, behind(old, told.at), new[i], behind(new, i + 1)) {
         None => {
             push_line_op(alloc, out, told.stay, b'+', new[i])?;
-            Ok(Told { stay: 0, at: told.at })
+            Ok(Told {
+                stay: 0,
+                at: told.at,
+            })
         }
         Some(count) => {
             push_lines_gone(alloc, out, told.stay, count)?;
-            push_met(alloc, out, behind_met(told, count), old[told.at + count], new[i])
+            push_met(
+                alloc,
+                out,
+                behind_met(told, count),
+                old[told.at + count],
+                new[i],
+            )
         }
     }
 }
 
 // The line of the same name: it stays, or turns.
-fn push_met(alloc: Global, out: &mut Vec<u8>, then: Told, old: &[u8], new: &[u8]) -> Result<Told, AllocError>
+fn push_met(
+    alloc: Global,
+    out: &mut Vec<u8>,
+    then: Told,
+    old: &[u8],
+    new: &[u8],
+) -> Result<Told, AllocError>
     requires { 0 < then.stay }
     ensures stays { IfOk result (λ told. bytes_eq old.now new.now ≡ true → (told ≡ then) × (out.new.items ≡ out.old.items)) }
     ensures turns { IfOk result (λ told. bytes_eq old.now new.now ≡ false → (told ≡ record { stay = 0; at = then.at }) × (out.new.items ≡ out.old.items ++ field (op (then.stay - 1) 126 (word_ops 0 (word_edits old.now new.now))))) }
@@ -290,7 +345,10 @@ fn push_met(alloc: Global, out: &mut Vec<u8>, then: Told, old: &[u8], new: &[u8]
         return Ok(then);
     }
     push_turned(alloc, out, then.stay - 1, old, new)?;
-    Ok(Told { stay: 0, at: then.at })
+    Ok(Told {
+        stay: 0,
+        at: then.at,
+    })
 }
 
 fn push_lines(alloc: Global, out: &mut Vec<u8>, both: &Both<'_>) -> Result<(), AllocError>
@@ -305,12 +363,24 @@ fn push_lines(alloc: Global, out: &mut Vec<u8>, both: &Both<'_>) -> Result<(), A
 
 /// The changes from one text to another, as strings of a row.
 #[tactic(auto, using(crate::proofs::Telling::lines_of_parts))]
-pub fn push_changes(alloc: Global, out: &mut Vec<u8>, old: &[u8], new: &[u8]) -> Result<(), AllocError>
+pub fn push_changes(
+    alloc: Global,
+    out: &mut Vec<u8>,
+    old: &[u8],
+    new: &[u8],
+) -> Result<(), AllocError>
     ensures { OnOk result (out.new.items ≡ out.old.items ++ change_fields old.now new.now) }
 {
     let before = parts_of(alloc, b'\n', old)?;
     let after = parts_of(alloc, b'\n', new)?;
-    push_lines(alloc, out, &Both { before: before.as_slice(), after: after.as_slice() })
+    push_lines(
+        alloc,
+        out,
+        &Both {
+            before: before.as_slice(),
+            after: after.as_slice(),
+        },
+    )
 }
 
 /// The changes from one text to another, made in the first, give the other.

@@ -266,7 +266,13 @@ fn push_ticket(
         Mark::Ticket { .. } => {
             let answer = newest_answer(setting, core.history())?;
             let text = text_of_core(setting, core)?;
-            push_change(setting.alloc, out, answer.as_slice(), shown.as_slice(), text.as_slice())?;
+            push_change(
+                setting.alloc,
+                out,
+                answer.as_slice(),
+                shown.as_slice(),
+                text.as_slice(),
+            )?;
             *shown = text;
             Ok(())
         }
@@ -372,7 +378,12 @@ fn push_whole_run(
 {
     let mut core = Core::new(setting.alloc, setting.schema, capacity, statements)?;
     pass(setting, &mut core, first_of(steps.moves, steps.before))?;
-    push_run(out, setting, &mut core, behind_first(steps.moves, steps.before))
+    push_run(
+        out,
+        setting,
+        &mut core,
+        behind_first(steps.moves, steps.before),
+    )
 }
 
 /// The page of the run of these moves, starting with the opening database, with a unit for each script. A step without memory ends it.

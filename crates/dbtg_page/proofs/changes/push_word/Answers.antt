@@ -1,4 +1,4 @@
-use Rattle.std.proofs.Common.{◌+◌, ◌∙◌, drop, refl}
+use Rattle.std.proofs.Common.{refl}
 use Rattle.dbtg_page.specs.declared.changes.Kind.TheVariants.{Word}
 use Rattle.dbtg_page.specs.Changes.{spaced, words_left}
 use Rattle.dbtg_page.specs.Changes.Edit.{Stays}

@@ -1,5 +1,4 @@
-use Rattle.std.proofs.Common.{◌≡◌, ◌<◌, ◌∷◌, ◌∙◌, ap, drop, length, refl, arith}
-use Rattle.std.proofs.lemmas.Bool.Decides.{nat_tests}
+use Rattle.std.proofs.Common.{◌<◌, ◌∷◌, ◌∙◌, ap, drop, length, arith}
 use Rattle.dbtg_page.specs.Changes.{parts}
 use Rattle.dbtg_page.proofs.PartsSplit.{next_part, whole_is}
 use Rattle.dbtg_page.proofs.changes.split_part.Goals as goal

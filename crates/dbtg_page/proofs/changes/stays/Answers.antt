@@ -1,5 +1,4 @@
 use Rattle.std.proofs.Common.{◌<◌, arith}
-use Rattle.std.proofs.lemmas.Bool.Decides.{nat_tests}
 use Rattle.dbtg_page.proofs.Positions.{stays_far}
 use Rattle.dbtg_page.proofs.changes.stays.Goals as goal
 

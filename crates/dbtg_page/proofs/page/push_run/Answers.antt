@@ -3,7 +3,7 @@ use Rattle.std.specs.Prelude.{OnOk, codes}
 use Rattle.std.proofs.lemmas.List.{append_assoc}
 use Rattle.dbtg_step.specs.Core.Parts.{machine}
 use Rattle.dbtg_page.specs.Json.{row}
-use Rattle.dbtg_page.specs.Rows.{core_text, rows_of_moves}
+use Rattle.dbtg_page.specs.Rows.{rows_of_moves}
 use Rattle.dbtg_page.proofs.page.push_run.Goals as goal
 
 pub returns : goal.returns
