@@ -153,6 +153,10 @@ function reach(count) {
 // ---- which records a ticket touches, and how large their boxes get
 
 const all = new Map();
+// Which types own which, or are below SYSTEM, at any time of the run.
+const pairs = new Set();
+
+const notePairs = ({ owner, members }) => members.length > 0 && pairs.add(`${typeOf(owner)} ${typeOf(members[0])}`);
 
 function note(key, parts) {
   const it = all.get(key) || { key, width: 60, height: 0 };
@@ -165,6 +169,7 @@ function touch(ticket, line, other) {
   const [first, second] = line.split(' ');
   if (isRecord(line)) ticket.touched.add(first);
   if (!isList(line)) return;
+  notePairs(sayingOf(line)[2]);
   if (second !== 'SYSTEM:') ticket.touched.add(second.slice(0, -1));
   const there = new Set((other || '').split(' ').slice(2));
   line.split(' ').slice(2).forEach((member) => there.has(member) || ticket.touched.add(member));
@@ -184,6 +189,7 @@ function partsShown(key, parts, old) {
 function goThrough() {
   learn();
   for (const [key, parts] of records) note(key, parts);
+  for (const list of lists.values()) notePairs(list);
   while (reached < tickets.length) {
     const ticket = stepOn();
     if (ticket.key.includes(':')) ticket.touched.add(ticket.key);
@@ -221,10 +227,8 @@ function addOwners(keys) {
 
 function levels() {
   const level = new Map(names.TYPES.map((name) => [name, 0]));
-  const above = new Set();
-  for (const { owner, members } of lists.values()) if (members.length > 0) above.add(`${typeOf(owner)} ${typeOf(members[0])}`);
   for (let turn = 0; turn < names.TYPES.length; turn += 1) {
-    for (const pair of above) {
+    for (const pair of pairs) {
       const [owner, member] = pair.split(' ');
       if (owner !== member && owner !== 'SYSTEM') level.set(member, Math.min(names.TYPES.length, Math.max(level.get(member), level.get(owner) + 1)));
     }
@@ -254,7 +258,7 @@ function place(keys, level) {
   const room = Math.max(300, at('right').clientWidth - 70);
   [places, extent] = [new Map(), { width: 0, height: 0 }];
   let top = 12;
-  if ([...lists.values()].some(({ owner, members }) => owner === 'SYSTEM' && members.length > 0)) {
+  if ([...pairs].some((pair) => pair.startsWith('SYSTEM '))) {
     places.set('SYSTEM', { x: 16, y: top, width: 80, height: 26 });
     top += 26 + GAP.y;
   }
