@@ -1,5 +1,6 @@
 -- What commands are handed of a call.
-use Rattle.std.specs.Prelude.{Bool, ◌&&◌, nat_le, not, option_map, true, false, if◌then◌else◌}
+use Rattle.std.specs.Borrow.{Bor}
+use Rattle.std.specs.Prelude.{ℕ, List, Bool, ◌&&◌, nat_le, not, option_map, true, false, if◌then◌else◌}
 use Rattle.dbtg_command.specs.declared.call.Call.{Call}
 use Rattle.dbtg_command.specs.declared.wished.Wished.{Wished}
 use Rattle.dbtg_command.specs.declared.command.Named.{Named}
@@ -17,13 +18,13 @@ use Rattle.dbtg.specs.declared.timeline.Form.TheVariants as form
 abbrev pub explains_refusals : Call → Bool
 explains_refusals call = call.explains && not call.no_explain
 
--- how a picture is drawn, by the command and what it is given
-abbrev pub drawn : Named → Call → Form
-drawn named.Page call = form.Page
-drawn _ call = if call.svg then form.Svg (explains_refusals call) else form.Text (explains_refusals call)
+-- how a picture is drawn, by the command and what it is given; a page names its files
+abbrev pub drawn : Named → Bor (List (List ℕ)) → Call → Form
+drawn named.Page files call = form.Page files
+drawn _ files call = if call.svg then form.Svg (explains_refusals call) else form.Text (explains_refusals call)
 
-abbrev pub picture_form : Call → Form
-picture_form call = drawn call.named call
+abbrev pub picture_form : Bor (List (List ℕ)) → Call → Form
+picture_form files call = drawn call.named files call
 
 -- how answers are printed
 abbrev pub answer_form : Call → AnswerForm
@@ -40,4 +41,4 @@ wish_of wished = record { unit = if nat_le wished.unit LAST_UNIT then wished.uni
 
 -- what `explore` is asked for
 abbrev pub exploring : Call → Exploring
-exploring call = record { capacity = call.capacity; around = around call; brief = call.brief; limit = call.limit; wish = option_map wish_of call.wish }
+exploring call = record { capacity = call.capacity; around = around call; brief = call.brief; statuses = call.replies; limit = call.limit; wish = option_map wish_of call.wish }

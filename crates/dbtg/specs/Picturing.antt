@@ -30,11 +30,18 @@ abbrev pub events_shown : Bool → Lists → ℕ → List (List Statement) → L
 events_shown false lists capacity scripts moves = events_of_run lists capacity scripts moves
 events_shown true lists capacity scripts moves = map (noted (said_of_run lists capacity scripts moves)) (events_of_run lists capacity scripts moves)
 
--- the run of these moves: as plain text, as SVG, or as a page
-abbrev pub picture : Form → Lists → ℕ → List (List Statement) → List (List ℕ) → List Move → List ℕ
-picture (Text explained) lists capacity scripts texts moves = timeline_text (map statement_lines texts) (events_shown explained lists capacity scripts moves)
-picture (Svg explained) lists capacity scripts texts moves = timeline_svg (map statement_lines texts) (events_shown explained lists capacity scripts moves)
-picture Page lists capacity scripts texts moves = page_text lists capacity scripts (map statement_lines texts) CAUSES.now moves
+-- the run of these moves: as plain text, as SVG, or as a page, which begins after those before
+abbrev pub picture : Form → Lists → ℕ → List (List Statement) → List (List ℕ) → Bool → ℕ → List Move → List ℕ
+picture (Text explained) lists capacity scripts texts events before moves = timeline_text (map statement_lines texts) (events_shown explained lists capacity scripts moves)
+picture (Svg explained) lists capacity scripts texts events before moves = timeline_svg (map statement_lines texts) (events_shown explained lists capacity scripts moves)
+picture (Page files) lists capacity scripts texts events before moves =
+    page_text lists capacity scripts (record { files = files.now; scripts = map statement_lines texts; causes = CAUSES.now }) events before moves
+
+-- the events of a page are those of moves that are given; without these it shows statements alone
+abbrev pub has_events : Order (List ℕ) → Bool
+has_events Serial = false
+has_events (Moves text) = true
+has_events (Turns text) = false
 
 -- these moves say the order, or its turns stand for them; if one script is made first, its moves or turns come before them
 abbrev pub AreInOrder : Bool → Lists → ℕ → List (List Statement) → Order (List ℕ) → List Move → Type 0
@@ -42,18 +49,24 @@ AreInOrder first lists capacity scripts Serial moves = StandFor lists capacity s
 AreInOrder first lists capacity scripts (Moves text) moves = (before : List Move) × AreFirstMoves first lists capacity scripts before × (moves ≡ before ++ moves_in text)
 AreInOrder first lists capacity scripts (Turns text) moves = StandFor lists capacity scripts (first_turns first scripts ++ turns_in text) moves
 
+-- so many moves make the script that is made first
+abbrev pub AreBefore : Bool → Lists → ℕ → List (List Statement) → ℕ → Type 0
+AreBefore first lists capacity scripts count = (before : List Move) × AreFirstMoves first lists capacity scripts before × (count ≡ length before)
+
 -- the text shows the run of such moves
-pub record IsPictured (lists : Lists) (capacity : ℕ) (scripts : List (List Statement)) (texts : List (List ℕ)) (form : Form) (Are : List Move → Type 0) (out : List ℕ) : Type 0 where
+pub record IsPictured (lists : Lists) (capacity : ℕ) (scripts : List (List Statement)) (texts : List (List ℕ)) (form : Form) (events : Bool) (first : Bool) (Are : List Move → Type 0) (out : List ℕ) : Type 0 where
   pub moves : List Move
   pub are : Are moves
-  pub is_text : out ≡ picture form lists capacity scripts texts moves
+  pub before : ℕ
+  pub are_before : AreBefore first lists capacity scripts before
+  pub is_text : out ≡ picture form lists capacity scripts texts events before moves
 
 -- 1 to 8 scripts, nothing is refused, and the text shows the run of what the texts say
 pub record IsTimeline (first : Bool) (text : List ℕ) (scripts : List (List ℕ)) (order : Order (List ℕ)) (capacity : ℕ) (form : Form) (out : List ℕ) : Type 0 where
   pub count : is_count (length scripts) ≡ true
   pub texts : AcceptsTexts text scripts
   pub order_too : AcceptsOrder order
-  pub pictured : IsPictured (schema_in text) capacity (map (script (schema_in text)) scripts) scripts form (AreInOrder first (schema_in text) capacity (map (script (schema_in text)) scripts) order) out
+  pub pictured : IsPictured (schema_in text) capacity (map (script (schema_in text)) scripts) scripts form (has_events order) first (AreInOrder first (schema_in text) capacity (map (script (schema_in text)) scripts) order) out
 
 -- what `timeline` and `page` print of texts that are held
 abbrev pub TimelineHeld : (TextPlace → List ℕ → Type 0) → ℕ → OrderKind → Bool → ℕ → Form → List ℕ → Type 0

@@ -28,6 +28,7 @@ use dbtg_running::{
     run_scripts_on_threads,
 };
 use dbtg_schema::Schema;
+use dbtg_script::push_number;
 use dbtg_session::Session;
 use dbtg_shell::{Broken, converse};
 use ended::{Ended, Status};
@@ -38,7 +39,7 @@ use std::process::ExitCode;
 use std::sync::Wait;
 use std::thread::Threads;
 use std::{env, io};
-use timeline::timeline;
+use timeline::{names_of_files, timeline};
 use writing::{tell_arguments, tell_fault, tell_unwritten, tell_words, write_ended};
 
 // What `check` prints of programs, or of scripts.
@@ -131,9 +132,25 @@ fn replayed(alloc: Global, files: &Files<HostRuntime>, call: &Call) -> Result<En
     of_run(alloc, files, call, text)
 }
 
+// A page of more bytes opens slowly, and so is told of.
+const LARGE_PAGE: usize = 50_000_000;
+
+fn tell_size(told: &mut Vec<u8>, size: usize) -> Result<(), AllocError> {
+    told.extend_from_slice(b"the page has ")?;
+    push_number(told, size as u64 / 1_000_000)?;
+    told.extend_from_slice(b" MB\n")
+}
+
 fn pictured(alloc: Global, files: &Files<HostRuntime>, call: &Call) -> Result<Ended, Fault> {
-    let text = timeline(alloc, files, call.capacity, picture_form(call), call.first)?;
-    of_run(alloc, files, call, text)
+    let names = names_of_files(alloc, call.schema, call.scripts.as_slice())?;
+    let form = picture_form(call, names.as_slice());
+    let text = timeline(alloc, files, call.capacity, &form, call.first)?;
+    let size = text.len();
+    let mut ended = of_run(alloc, files, call, text)?;
+    if size > LARGE_PAGE && matches!(call.named, Named::Page) {
+        tell_size(&mut ended.told, size)?;
+    }
+    Ok(ended)
 }
 
 fn run_on_threads<R: Threads + Wait + Sync>(

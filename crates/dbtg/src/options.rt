@@ -10,6 +10,7 @@ use dbtg_exploring::Exploring;
 use dbtg_going::Around;
 use dbtg_replay::replay::AnswerForm;
 use dbtg_running::RunOptions;
+use dbtg_schema::Row;
 use dbtg_unit::LAST_UNIT;
 
 /// Are refusals explained? What goes to standard output is the same on a terminal.
@@ -19,13 +20,13 @@ pub fn explains_refusals(call: &Call) -> bool
     call.explains && !call.no_explain
 }
 
-/// How a picture is drawn.
-pub fn picture_form(call: &Call) -> Form
-    ensures { result ≡ picture_form call.now }
+/// How a picture is drawn. A page has the names of these files.
+pub fn picture_form<'a>(call: &Call, files: &'a [Row<u8>]) -> Form<'a>
+    ensures { result ≡ picture_form files call.now }
 {
     let explained = explains_refusals(call);
     match call.named {
-        Named::Page => Form::Page,
+        Named::Page => Form::Page { files },
         _ if call.svg => Form::Svg { explained },
         _ => Form::Text { explained },
     }

@@ -1,5 +1,5 @@
 -- What a core shows, by its parts and by the machine that it is.
-use Rattle.std.proofs.Common.{◌≡◌, ℕ, List, ◌∷◌, ◌++◌, length, map, ap, sym, ◌∙◌}
+use Rattle.std.proofs.Common.{◌≡◌, ℕ, Bool, List, ◌∷◌, ◌++◌, length, map, ap, sym, ◌∙◌}
 use Rattle.std.proofs.lemmas.List.{append_assoc, length-map}
 use Rattle.std.proofs.lemmas.List.FromFn.{length-range_with_len}
 use Rattle.std.specs.List.{range_with_len}
@@ -16,7 +16,8 @@ use Rattle.dbtg_step.specs.Core.Parts.{CoreParts, CoreState, machine, state_from
 use Rattle.dbtg_step.specs.Machine.Headline.{entry_of}
 use Rattle.dbtg_timeline.proofs.Public.{history_shown}
 use Rattle.dbtg_timeline.specs.Watching.{opening_core}
-use Rattle.dbtg_page.specs.Rows.{core_row, move_rows, newest_answer, rows_of_moves, sequential, state_row}
+use Rattle.dbtg_timeline.specs.Events.{event_of_move}
+use Rattle.dbtg_page.specs.Rows.{core_text, move_rows, newest_answer, rows_of_moves, run_rows, sequential, shown_behind, state_text}
 
 -- the database and the units to which its history leads
 pub sequential_shown : (c : CoreParts) → state_now c ≡ sequential (machine c)
@@ -47,21 +48,27 @@ module _ (core : CoreParts) (schema : Lists) (capacity : ℕ) (scripts : List (L
       sym (opened core) ∙ ap (λ (c : CoreState). length c.opening.units) begun
       ∙ length-map (range_with_len 1 (length scripts)) (opening_unit schema) ∙ length-range_with_len 1 (length scripts)
 
--- the row of what its history leads to, and that of a ticket
-pub row_shown : (c : CoreParts) (answer : List ℕ) → state_row c.schema answer (image_of c.schema c.capacity (state_now c).database) (state_now c).units ≡ core_row (machine c) answer
-row_shown c answer = ap (λ (s : State). state_row c.schema answer (image_of c.schema c.capacity s.database) s.units) (sequential_shown c)
+-- the text of what its history leads to, and its newest answer
+pub text_shown : (c : CoreParts) → state_text c.schema (image_of c.schema c.capacity (state_now c).database) (state_now c).units ≡ core_text (machine c)
+unfolding core_text
+text_shown c = ap (λ (s : State). state_text c.schema (image_of c.schema c.capacity s.database) s.units) (sequential_shown c)
 
-pub ticket_shown : (c : CoreParts) (schema : Lists) (answer : List ℕ) → c.schema ≡ schema → answer ≡ newest_answer schema c.history
-    → state_row c.schema answer (image_of c.schema c.capacity (state_now c).database) (state_now c).units ≡ core_row (machine c) (newest_answer c.schema (map entry_of (machine c).state.history))
-ticket_shown c schema answer same is =
-    row_shown c answer
-    ∙ ap (core_row (machine c)) (is ∙ ap (λ (s : Lists). newest_answer s c.history) (sym same) ∙ ap (newest_answer c.schema) (history_shown c))
+pub answer_shown : (c : CoreParts) (schema : Lists) → c.schema ≡ schema → newest_answer schema c.history ≡ newest_answer c.schema (map entry_of (machine c).state.history)
+answer_shown c schema same = ap (λ (s : Lists). newest_answer s c.history) (sym same) ∙ ap (newest_answer c.schema) (history_shown c)
 
 -- one more move: its rows come before those of the rest
-pub move_shown : (out more : List ℕ) (old new : CoreState) (m : Move) (ms rest : List Move) (whole : List ℕ) → ms ≡ m ∷ rest → new ≡ after_move old m
-    → more ≡ out ++ move_rows old m → out ++ rows_of_moves old ms ≡ whole → more ++ rows_of_moves new rest ≡ whole
-move_shown out more old new m ms rest whole split moved pushed before =
-    ap (λ (t : List ℕ). t ++ rows_of_moves new rest) pushed
-    ∙ append_assoc out (move_rows old m) (rows_of_moves new rest)
-    ∙ ap (λ (c : CoreState). out ++ (move_rows old m ++ rows_of_moves c rest)) moved
-    ∙ ap (λ (xs : List Move). out ++ rows_of_moves old xs) (sym split) ∙ before
+pub move_shown : (events : Bool) (shown then : List ℕ) (out more : List ℕ) (old new : CoreState) (m : Move) (ms rest : List Move) (whole : List ℕ) → ms ≡ m ∷ rest → new ≡ after_move old m
+    → then ≡ shown_behind (after_move old m) shown (event_of_move old m).mark
+    → more ≡ out ++ move_rows events shown old m → out ++ rows_of_moves events shown old ms ≡ whole → more ++ rows_of_moves events then new rest ≡ whole
+move_shown events shown then out more old new m ms rest whole split moved shows pushed before =
+    ap (λ (t : List ℕ). t ++ rows_of_moves events then new rest) pushed
+    ∙ append_assoc out (move_rows events shown old m) (rows_of_moves events then new rest)
+    ∙ ap (λ (c : CoreState). out ++ (move_rows events shown old m ++ rows_of_moves events then c rest)) moved
+    ∙ ap (λ (t : List ℕ). out ++ (move_rows events shown old m ++ rows_of_moves events t (after_move old m) rest)) shows
+    ∙ ap (λ (xs : List Move). out ++ rows_of_moves events shown old xs) (sym split) ∙ before
+
+-- one move more before the page begins
+pub passed : (events : Bool) (old new start : CoreState) (m : Move) (ms rest before : List Move) → ms ≡ m ∷ rest → new ≡ after_move old m
+    → ((moves : List Move) → run_rows events old ms moves ≡ run_rows events start before moves) → (moves : List Move) → run_rows events new rest moves ≡ run_rows events start before moves
+passed events old new start m ms rest before split moved so_far moves =
+    ap (λ (c : CoreState). run_rows events c rest moves) moved ∙ ap (λ (xs : List Move). run_rows events old xs moves) (sym split) ∙ so_far moves

@@ -1,7 +1,7 @@
--- The page of a run: what surrounds its data, and their rows: one for the names of each part of the schema, one for the
--- table of causes, one for the statements of each script, one for the opening database, and one for each event; after that of a ticket
--- there is one for what the ticket leads to.
-use Rattle.std.specs.Prelude.{ℕ, ◌-◌, List, [], ◌∷◌, ◌++◌, codes, decimal, length, map, option_and_then, option_map, slice_get, unwrap_or}
+-- The page of a run: what surrounds its data, and their rows: one for the names of files and of each part of the schema, one for the
+-- table of causes, one for the statements of each script, one for the database where the page begins, one for each event if events are
+-- shown, and one for each ticket, with what it changes.
+use Rattle.std.specs.Prelude.{ℕ, Bool, true, false, ◌-◌, List, [], ◌∷◌, ◌++◌, codes, decimal, drop, length, map, option_and_then, option_map, slice_get, take, unwrap_or}
 use Rattle.std.specs.List.{flat_map}
 use Rattle.dbtg_schema.specs.Lists.{Lists}
 use Rattle.dbtg_unit.specs.Database.State.Image.{Image, image_of}
@@ -25,15 +25,22 @@ use Rattle.dbtg_timeline.specs.Waiting.{area_name, cell_text}
 use Rattle.dbtg_timeline.specs.Watching.{opening_core}
 use Rattle.dbtg_page.specs.declared.markup.TheConstants.{MARKUP}
 use Rattle.dbtg_page.specs.declared.script.TheConstants.{SCRIPT}
-use Rattle.dbtg_page.specs.Json.{row}
+use Rattle.dbtg_page.specs.Json.{field, quoted, row}
+use Rattle.dbtg_page.specs.Changes.{change_fields}
 
 -- ---- before the run
 
--- the names of record types, sets and areas, the causes of refusals, and the statements of each script
-unfoldable pub front_rows : Lists → List ℕ → List (List (List ℕ)) → List ℕ
-front_rows schema causes scripts =
-    row (codes "TYPES") (map (λ t. t.name) schema.types) ++ row (codes "SETS") (map (λ s. s.name) schema.sets)
-    ++ row (codes "AREAS") (map (λ a. a.name) schema.areas) ++ row (codes "CAUSES") (causes ∷ []) ++ flat_map (row (codes "SCRIPT")) scripts
+-- the names of the files of schema and scripts, the text of each statement by its script, and what each cause of a refusal means
+pub record Titles : Type 0 where
+  pub files : List (List ℕ)
+  pub scripts : List (List (List ℕ))
+  pub causes : List ℕ
+
+-- the files, the names of record types, sets and areas, the causes of refusals, and the statements of each script
+unfoldable pub front_rows : Lists → Titles → List ℕ
+front_rows schema titles =
+    row (codes "FILES") titles.files ++ row (codes "TYPES") (map (λ t. t.name) schema.types) ++ row (codes "SETS") (map (λ s. s.name) schema.sets)
+    ++ row (codes "AREAS") (map (λ a. a.name) schema.areas) ++ row (codes "CAUSES") (titles.causes ∷ []) ++ flat_map (row (codes "SCRIPT")) titles.scripts
 
 -- ---- the run
 
@@ -41,14 +48,13 @@ front_rows schema causes scripts =
 abbrev pub sequential : CoreState → State
 sequential c = replay c.schema c.capacity (opening_state c.schema (length c.state.units)) (map entry_of c.state.history)
 
--- an answer, the database and the units, as `replay` prints them
-unfoldable pub state_row : Lists → List ℕ → Image → List unit.Unit → List ℕ
-state_row schema answer image units =
-    row (codes "STATE") (answer ∷ image_text schema image.records image.lists image.next image.usage ∷ units_text schema units ∷ [])
+-- the database and the units, as `replay` prints them
+abbrev pub state_text : Lists → Image → List unit.Unit → List ℕ
+state_text schema image units = image_text schema image.records image.lists image.next image.usage ++ units_text schema units
 
--- the same for a core
-abbrev pub core_row : CoreState → List ℕ → List ℕ
-core_row c answer = state_row c.schema answer (image_of c.schema c.capacity (sequential c).database) (sequential c).units
+-- those to which the history of a core leads
+unfoldable pub core_text : CoreState → List ℕ
+core_text c = state_text c.schema (image_of c.schema c.capacity (sequential c).database) (sequential c).units
 
 -- the line of the newest answer
 abbrev pub newest_answer : Lists → List Entry → List ℕ
@@ -71,27 +77,42 @@ about_event c u _ wait = wait
 unfoldable pub event_row : CoreState → Event → List ℕ
 event_row c e = row (codes "EVENT") (decimal e.unit ∷ (letter e.mark ∷ []) ∷ decimal e.place ∷ about_event c e.unit e.mark e.below ∷ [])
 
--- after a ticket, its answer and what it leads to
-abbrev pub ticket_row : CoreState → Mark → List ℕ
-ticket_row c (Ticket ticket status) = core_row c (newest_answer c.schema (map entry_of c.state.history))
-ticket_row c _ = []
+-- a ticket: its answer, and what it changes in the text that was shown before
+unfoldable pub change_row : List ℕ → List ℕ → List ℕ → List ℕ
+change_row answer old new = 91 ∷ quoted (codes "TICKET") ++ field answer ++ change_fields old new ++ codes "],\n"
+
+-- the row of a ticket
+abbrev pub ticket_row : CoreState → List ℕ → Mark → List ℕ
+ticket_row c shown (Ticket ticket status) = change_row (newest_answer c.schema (map entry_of c.state.history)) shown (core_text c)
+ticket_row c shown _ = []
+
+-- the text that is shown after an event
+abbrev pub shown_behind : CoreState → List ℕ → Mark → List ℕ
+shown_behind c shown (Ticket ticket status) = core_text c
+shown_behind c shown _ = shown
+
+-- the row of an event, if events are shown
+abbrev pub event_rows : Bool → CoreState → Event → List ℕ
+event_rows true c e = event_row c e
+event_rows false c e = []
 
 -- the rows of a move
-abbrev pub move_rows : CoreState → Move → List ℕ
-move_rows c m = event_row (after_move c m) (event_of_move c m) ++ ticket_row (after_move c m) (event_of_move c m).mark
+abbrev pub move_rows : Bool → List ℕ → CoreState → Move → List ℕ
+move_rows events shown c m = event_rows events (after_move c m) (event_of_move c m) ++ ticket_row (after_move c m) shown (event_of_move c m).mark
 
 -- the rows of moves, one after another
-abbrev pub rows_of_moves : CoreState → List Move → List ℕ
-rows_of_moves c [] = []
-rows_of_moves c (m ∷ ms) = move_rows c m ++ rows_of_moves (after_move c m) ms
+abbrev pub rows_of_moves : Bool → List ℕ → CoreState → List Move → List ℕ
+rows_of_moves events shown c [] = []
+rows_of_moves events shown c (m ∷ ms) = move_rows events shown c m ++ rows_of_moves events (shown_behind (after_move c m) shown (event_of_move c m).mark) (after_move c m) ms
 
--- the opening database, and the moves
-abbrev pub run_rows : CoreState → List Move → List ℕ
-run_rows c moves = core_row c [] ++ rows_of_moves c moves
+-- after moves that are not shown, the database there, and then the other moves
+abbrev pub run_rows : Bool → CoreState → List Move → List Move → List ℕ
+run_rows events c [] moves = row (codes "STATE") (core_text c ∷ []) ++ rows_of_moves events (core_text c) c moves
+run_rows events c (b ∷ bs) moves = run_rows events (after_move c b) bs moves
 
 -- ---- the whole
 
--- the page of the run of these moves; scripts has the text of each statement
-unfoldable pub page_text : Lists → ℕ → List (List Statement) → List (List (List ℕ)) → List ℕ → List Move → List ℕ
-page_text schema capacity statements scripts causes moves =
-    MARKUP.now ++ front_rows schema causes scripts ++ run_rows (opening_core schema capacity statements) moves ++ SCRIPT.now
+-- the page of the run of these moves, which begins after so many of them
+unfoldable pub page_text : Lists → ℕ → List (List Statement) → Titles → Bool → ℕ → List Move → List ℕ
+page_text schema capacity statements titles events before moves =
+    MARKUP.now ++ front_rows schema titles ++ run_rows events (opening_core schema capacity statements) (take before moves) (drop before moves) ++ SCRIPT.now

@@ -97,20 +97,12 @@ pub fn push_row(out: &mut Vec<u8>, kind: &[u8], fields: &[Row<u8>]) -> Result<()
     push_end(out)
 }
 
-/// A row of this kind that goes on with three strings.
+/// A row of this kind that goes on with one string.
 #[tactic(auto, unfolding(crate::specs::Json::row))]
-pub fn push_row_of_three(
-    out: &mut Vec<u8>,
-    kind: &[u8],
-    first: &[u8],
-    second: &[u8],
-    third: &[u8],
-) -> Result<(), AllocError>
-    ensures { OnOk result (out.new.items ≡ out.old.items ++ row kind.now (first.now ∷ second.now ∷ third.now ∷ [])) }
+pub fn push_row_of_one(out: &mut Vec<u8>, kind: &[u8], text: &[u8]) -> Result<(), AllocError>
+    ensures { OnOk result (out.new.items ≡ out.old.items ++ row kind.now (text.now ∷ [])) }
 {
     push_kind(out, kind)?;
-    push_field(out, first)?;
-    push_field(out, second)?;
-    push_field(out, third)?;
+    push_field(out, text)?;
     push_end(out)
 }

@@ -1,5 +1,5 @@
 //! The page of a run. The core is stepped move by move; each ticket is followed by what it leads to.
-ghost use Rattle.std.specs.Prelude.{◌≡◌, ◌++◌, ◌∷◌, ◌≤◌, [], true, length, map, if◌then◌else◌, IfOk, OnOk, codes};
+ghost use Rattle.std.specs.Prelude.{List, ◌≡◌, ◌++◌, ◌∷◌, ◌≤◌, [], true, drop, length, map, take, if◌then◌else◌, IfOk, OnOk, codes};
 ghost use Rattle.std.specs.List.{flat_map};
 ghost use Rattle.dbtg_schema.specs.Sound.{IsSound};
 ghost use Rattle.dbtg_script.specs.Printing.Texts.{units_text};
@@ -10,27 +10,39 @@ ghost use Rattle.dbtg_step.specs.Laws.{scripts_fit};
 ghost use Rattle.dbtg_step.specs.Machine.SequentialDatabase.{unit_at};
 ghost use Rattle.std.specs.Option.{option_to_list};
 ghost use Rattle.dbtg_unit.specs.Database.State.Image.{image_of};
+ghost use Rattle.dbtg_unit.specs.declared.moves.Move.{Move};
+ghost use Rattle.dbtg_timeline.specs.Events.{event_of_move};
 ghost use Rattle.dbtg_timeline.specs.Watching.{opening_core};
 ghost use Rattle.dbtg_page.specs.Json.{row};
-ghost use Rattle.dbtg_page.specs.Rows.{about_event, core_row, event_row, front_rows, move_rows, newest_answer, newest_area, newest_cell, page_text, rows_of_moves, run_rows, state_row, ticket_row};
+ghost use Rattle.dbtg_page.specs.Rows.{about_event, change_row, core_text, event_row, event_rows, front_rows, move_rows, newest_answer, newest_area, newest_cell, page_text, rows_of_moves, run_rows, shown_behind, ticket_row};
 
-use crate::json::{push_end, push_field, push_kind, push_row, push_row_of_three};
+use crate::changes::push_changes;
+use crate::json::{push_end, push_field, push_kind, push_row, push_row_of_one};
 use crate::markup::MARKUP;
 use crate::script::SCRIPT;
 use dbtg_schema::{Area, RecordType, Row, Schema, SetType};
 use dbtg_script::{image_text, push_answer, push_unit};
-use dbtg_step::Core;
+use dbtg_step::{Core, make_move};
 use dbtg_timeline::{Event, Mark, area_name, letter, push_cell, watch_move};
-use dbtg_unit::{Entry, Image, LAST_UNIT, Move, Statement};
+use dbtg_unit::{Entry, LAST_UNIT, Move, Statement};
 use itoa::Buffer;
 use std::alloc::{AllocError, Global};
 
-/// What a page shows in addition to a run: the text of each statement, by its script and its place there, and the meaning of each cause of
-/// a refusal, one per line.
+/// What a page shows in addition to a run: the names of the files, first that of the schema and then those of the scripts; the text of each
+/// statement, by its script and its place there; and the meaning of each cause of a refusal, one per line.
 #[derive(Clone, Copy)]
 pub struct Told<'a> {
+    pub files: &'a [Row<u8>],
     pub scripts: &'a [Row<Row<u8>>],
     pub causes: &'a [u8],
+}
+
+/// The moves of a run. A page begins after the first `before` of them, and shows the events of the others if `events` says so.
+#[derive(Clone, Copy)]
+pub struct Steps<'a> {
+    pub events: bool,
+    pub before: usize,
+    pub moves: &'a [Move],
 }
 
 /// What does not change during a run.
@@ -39,6 +51,7 @@ struct Setting<'a> {
     alloc: Global,
     schema: &'a Schema,
     units: u8,
+    events: bool,
 }
 
 // ---- before the run
@@ -85,23 +98,15 @@ fn push_scripts(out: &mut Vec<u8>, scripts: &[Row<Row<u8>>]) -> Result<(), Alloc
     Ok(())
 }
 
-#[tactic(auto, unfolding(crate::specs::Json::row))]
-fn push_causes(out: &mut Vec<u8>, causes: &[u8]) -> Result<(), AllocError>
-    ensures { OnOk result (out.new.items ≡ out.old.items ++ row (codes "CAUSES") (causes.now ∷ [])) }
-{
-    push_kind(out, b"CAUSES")?;
-    push_field(out, causes)?;
-    push_end(out)
-}
-
 #[tactic(auto, unfolding(crate::specs::Rows::front_rows))]
 fn push_front(out: &mut Vec<u8>, schema: &Schema, told: &Told<'_>) -> Result<(), AllocError>
-    ensures { OnOk result (out.new.items ≡ out.old.items ++ front_rows schema.now told.now.causes.now told.now.scripts.now) }
+    ensures { OnOk result (out.new.items ≡ out.old.items ++ front_rows schema.now (record { files = told.now.files.now; scripts = told.now.scripts.now; causes = told.now.causes.now })) }
 {
+    push_row(out, b"FILES", told.files)?;
     push_types(out, schema.types())?;
     push_sets(out, schema.sets())?;
     push_areas(out, schema.areas())?;
-    push_causes(out, told.causes)?;
+    push_row_of_one(out, b"CAUSES", told.causes)?;
     push_scripts(out, told.scripts)
 }
 
@@ -143,22 +148,35 @@ fn newest_answer(setting: &Setting<'_>, history: &[Entry]) -> Result<Vec<u8>, Al
     Ok(text)
 }
 
-// What the history of a core leads to, after this answer.
-#[tactic(auto, unfolding(crate::specs::Rows::state_row))]
-fn push_state(
-    out: &mut Vec<u8>,
-    setting: &Setting<'_>,
-    core: &Core,
-    answer: &[u8],
-) -> Result<(), AllocError>
+// The database and the units to which the history of a core leads.
+#[tactic(auto, using(crate::proofs::CoreShown::text_shown))]
+fn text_of_core(setting: &Setting<'_>, core: &Core) -> Result<Vec<u8>, AllocError>
     requires schema { core.now.schema ≡ setting.now.schema.now }
     requires units { length core.now.runners ≡ setting.now.units }
-    ensures { OnOk result (out.new.items ≡ out.old.items ++ state_row core.now.schema answer.now (image_of core.now.schema core.now.capacity (state_now core.now).database) (state_now core.now).units) }
+    ensures { IfOk result (λ text. text.items ≡ core_text (machine core.now)) }
 {
     let image = core.image(setting.alloc)?;
-    let database = image_text(setting.alloc, setting.schema, &image)?;
+    let mut text = image_text(setting.alloc, setting.schema, &image)?;
     let units = units_of(setting, core)?;
-    push_row_of_three(out, b"STATE", answer, database.as_slice(), units.as_slice())
+    text.extend_from_slice(units.as_slice())?;
+    Ok(text)
+}
+
+// A ticket: its answer, and what it changes.
+#[tactic(auto, unfolding(crate::specs::Rows::change_row))]
+fn push_change(
+    alloc: Global,
+    out: &mut Vec<u8>,
+    answer: &[u8],
+    old: &[u8],
+    new: &[u8],
+) -> Result<(), AllocError>
+    ensures { OnOk result (out.new.items ≡ out.old.items ++ change_row answer.now old.now new.now) }
+{
+    push_kind(out, b"TICKET")?;
+    push_field(out, answer)?;
+    push_changes(alloc, out, old, new)?;
+    push_end(out)
 }
 
 // The area or the cell that a unit took last.
@@ -214,22 +232,49 @@ fn push_event(
     push_end(out)
 }
 
-// After a ticket, what it leads to.
-#[tactic(auto, using(crate::proofs::CoreShown::ticket_shown))]
+// The row of an event, if events are shown.
+fn push_shown_event(
+    out: &mut Vec<u8>,
+    setting: &Setting<'_>,
+    core: &Core,
+    event: &Event,
+) -> Result<(), AllocError>
+    ensures { OnOk result (out.new.items ≡ out.old.items ++ event_rows setting.now.events (machine core.now) event.now) }
+{
+    if setting.events {
+        push_event(setting.alloc, out, core, event)
+    } else {
+        Ok(())
+    }
+}
+
+// After a ticket, what it changes in the text that was shown before.
+#[tactic(auto, using(crate::proofs::CoreShown::answer_shown))]
 fn push_ticket(
     out: &mut Vec<u8>,
     setting: &Setting<'_>,
     core: &Core,
+    shown: &mut Vec<u8>,
     mark: Mark,
 ) -> Result<(), AllocError>
     requires schema { core.now.schema ≡ setting.now.schema.now }
     requires units { length core.now.runners ≡ setting.now.units }
-    ensures { OnOk result (out.new.items ≡ out.old.items ++ ticket_row (machine core.now) mark) }
+    ensures text { OnOk result (out.new.items ≡ out.old.items ++ ticket_row (machine core.now) shown.old.items mark) }
+    ensures shown { OnOk result (shown.new.items ≡ shown_behind (machine core.now) shown.old.items mark) }
 {
     match mark {
         Mark::Ticket { .. } => {
             let answer = newest_answer(setting, core.history())?;
-            push_state(out, setting, core, answer.as_slice())
+            let text = text_of_core(setting, core)?;
+            push_change(
+                setting.alloc,
+                out,
+                answer.as_slice(),
+                shown.as_slice(),
+                text.as_slice(),
+            )?;
+            *shown = text;
+            Ok(())
         }
         _ => Ok(()),
     }
@@ -241,16 +286,18 @@ fn push_move(
     out: &mut Vec<u8>,
     setting: &Setting<'_>,
     core: &mut Core,
+    shown: &mut Vec<u8>,
     one: Move,
 ) -> Result<(), AllocError>
     requires schema { core.old.schema ≡ setting.now.schema.now }
     requires units { length core.old.runners ≡ setting.now.units }
     ensures core { OnOk result (machine core.new ≡ after_move (machine core.old) one) }
-    ensures text { OnOk result (out.new.items ≡ out.old.items ++ move_rows (machine core.old) one) }
+    ensures text { OnOk result (out.new.items ≡ out.old.items ++ move_rows setting.now.events shown.old.items (machine core.old) one) }
+    ensures shown { OnOk result (shown.new.items ≡ shown_behind (after_move (machine core.old) one) shown.old.items (event_of_move (machine core.old) one).mark) }
 {
     let event = watch_move(setting.alloc, core, one)?;
-    push_event(setting.alloc, out, core, &event)?;
-    push_ticket(out, setting, core, event.mark)
+    push_shown_event(out, setting, core, &event)?;
+    push_ticket(out, setting, core, shown, event.mark)
 }
 
 #[tactic(auto, using(crate::proofs::CoreShown::same_schema, crate::proofs::CoreShown::same_count))]
@@ -258,19 +305,20 @@ fn push_each_move(
     out: &mut Vec<u8>,
     setting: &Setting<'_>,
     core: &mut Core,
+    shown: &mut Vec<u8>,
     moves: &[Move],
 ) -> Result<(), AllocError>
     requires schema { core.old.schema ≡ setting.now.schema.now }
     requires units { length core.old.runners ≡ setting.now.units }
-    ensures { OnOk result (out.new.items ≡ out.old.items ++ rows_of_moves (machine core.old) moves.now) }
+    ensures { OnOk result (out.new.items ≡ out.old.items ++ rows_of_moves setting.now.events shown.old.items (machine core.old) moves.now) }
 {
     for one in moves {
-        push_move(out, setting, core, *one)?;
+        push_move(out, setting, core, shown, *one)?;
     }
     Ok(())
 }
 
-#[tactic(auto, using(crate::proofs::CoreShown::row_shown))]
+// The database where the page begins, and these moves.
 fn push_run(
     out: &mut Vec<u8>,
     setting: &Setting<'_>,
@@ -279,10 +327,38 @@ fn push_run(
 ) -> Result<(), AllocError>
     requires schema { core.old.schema ≡ setting.now.schema.now }
     requires units { length core.old.runners ≡ setting.now.units }
-    ensures { OnOk result (out.new.items ≡ out.old.items ++ run_rows (machine core.old) moves.now) }
+    ensures { OnOk result (out.new.items ≡ out.old.items ++ run_rows setting.now.events (machine core.old) [] moves.now) }
 {
-    push_state(out, setting, core, b"")?;
-    push_each_move(out, setting, core, moves)
+    let mut shown = text_of_core(setting, core)?;
+    push_row_of_one(out, b"STATE", shown.as_slice())?;
+    push_each_move(out, setting, core, &mut shown, moves)
+}
+
+fn first_of(moves: &[Move], count: usize) -> &[Move]
+    ensures { result.now ≡ take count moves.now }
+{
+    &moves[..count.min(moves.len())]
+}
+
+fn behind_first(moves: &[Move], count: usize) -> &[Move]
+    ensures { result.now ≡ drop count moves.now }
+{
+    &moves[count.min(moves.len())..]
+}
+
+// The moves before the page begins.
+#[tactic(auto, using(crate::proofs::CoreShown::same_schema, crate::proofs::CoreShown::same_count))]
+fn pass(setting: &Setting<'_>, core: &mut Core, before: &[Move]) -> Result<(), AllocError>
+    requires schema { core.old.schema ≡ setting.now.schema.now }
+    requires units { length core.old.runners ≡ setting.now.units }
+    ensures run { OnOk result ((moves : List Move) → run_rows setting.now.events (machine core.new) [] moves ≡ run_rows setting.now.events (machine core.old) before.now moves) }
+    ensures schema { OnOk result (core.new.schema ≡ setting.now.schema.now) }
+    ensures units { OnOk result (length core.new.runners ≡ setting.now.units) }
+{
+    for one in before {
+        make_move(core, *one)?;
+    }
+    Ok(())
 }
 
 // The run of these moves, starting with the opening database.
@@ -292,16 +368,22 @@ fn push_whole_run(
     setting: &Setting<'_>,
     capacity: u16,
     statements: Row<Row<Statement>>,
-    moves: &[Move],
+    steps: &Steps<'_>,
 ) -> Result<(), AllocError>
     requires sound { IsSound setting.now.schema.now }
     requires units { length statements ≡ setting.now.units }
     requires few { length statements ≤ LAST_UNIT }
     requires fit { scripts_fit setting.now.schema.now statements ≡ true }
-    ensures { OnOk result (out.new.items ≡ out.old.items ++ run_rows (opening_core setting.now.schema.now capacity statements) moves.now) }
+    ensures { OnOk result (out.new.items ≡ out.old.items ++ run_rows setting.now.events (opening_core setting.now.schema.now capacity statements) (take steps.now.before steps.now.moves.now) (drop steps.now.before steps.now.moves.now)) }
 {
     let mut core = Core::new(setting.alloc, setting.schema, capacity, statements)?;
-    push_run(out, setting, &mut core, moves)
+    pass(setting, &mut core, first_of(steps.moves, steps.before))?;
+    push_run(
+        out,
+        setting,
+        &mut core,
+        behind_first(steps.moves, steps.before),
+    )
 }
 
 /// The page of the run of these moves, starting with the opening database, with a unit for each script. A step without memory ends it.
@@ -312,21 +394,22 @@ pub fn page_text(
     capacity: u16,
     statements: Row<Row<Statement>>,
     told: &Told<'_>,
-    moves: &[Move],
+    steps: &Steps<'_>,
 ) -> Result<Vec<u8>, AllocError>
     requires sound { IsSound schema.now }
     requires units { length statements ≤ LAST_UNIT }
     requires fit { scripts_fit schema.now statements ≡ true }
-    ensures { IfOk result (λ text. text.items ≡ page_text schema.now capacity statements told.now.scripts.now told.now.causes.now moves.now) }
+    ensures { IfOk result (λ text. text.items ≡ page_text schema.now capacity statements (record { files = told.now.files.now; scripts = told.now.scripts.now; causes = told.now.causes.now }) steps.now.events steps.now.before steps.now.moves.now) }
 {
     let setting = Setting {
         alloc,
         schema,
         units: statements.len() as u8,
+        events: steps.events,
     };
     let mut out = Vec::from_slice(alloc, MARKUP.as_bytes())?;
     push_front(&mut out, schema, told)?;
-    push_whole_run(&mut out, &setting, capacity, statements, moves)?;
+    push_whole_run(&mut out, &setting, capacity, statements, steps)?;
     out.extend_from_slice(SCRIPT.as_bytes())?;
     Ok(out)
 }

@@ -1,4 +1,4 @@
-//! What follows a page's data: the end of their list, and the script that draws them.
+//! What follows a page's data: the end of their list, and the script that draws them. tests/tools/make-page-script makes this file from page.js.
 
 pub static SCRIPT: &str = "\
 []]
@@ -13,26 +13,82 @@ const LETTERS = {
   T: 'draws its ticket', X: 'draws its ticket', l: 'links a cell', p: 'puts a cell back', v: 'leaves an area',
   Q: 'quits, and gives all back', B: 'is blocked: another unit holds what it wants', I: 'is idle',
 };
-const MOST_NAMED = 12;
+const MOST_NAMED = 12, MOST_DRAWN = 240, MOST_ROWS = 400, CHUNK = 60;
 const COLOURS = ['#0b7fa0', '#b5179e', '#7b57e0', '#b8660b', '#2b8a3e', '#d6404a', '#2f7fd6', '#868e00'];
-const names = { TYPES: [], SETS: [], AREAS: [] };
-const scripts = [], events = [], states = [], causes = new Map();
+const names = { FILES: [], TYPES: [], SETS: [], AREAS: [] };
+// A step is an event, or a statement with its ticket where no events are shown.
+const scripts = [], steps = [], tickets = [], causes = new Map();
 
 const at = (id) => document.getElementById(id);
 const linesOf = (text) => text.split('\\n').filter((line) => line !== '');
 const typeOf = (key) => key.split(':')[0];
 const colourOf = (set) => COLOURS[names.SETS.indexOf(set) % COLOURS.length];
+const escaped = (text) => text.replaceAll('&', '&amp;').replaceAll('<', '&lt;').replaceAll('>', '&gt;');
+const trimmed = (text) => text.replace(/\"([^\"]*?) *\"/g, '\"$1\"');
+const fileOf = (unit) => (names.FILES[unit] || `unit ${unit}`).split('/').pop();
+const hasEvents = () => steps.some((step) => step.letter);
 
-// The image as `replay` prints it: records with their items, the lists of sets, and who has each area open.
-function imageOf(text) {
-  const image = { records: new Map(), lists: [], areas: [] };
-  for (const line of linesOf(text)) {
-    const [first, second, ...rest] = line.split(' ');
-    if (first.includes(':')) image.records.set(first, line.slice(first.length).match(/[A-Z0-9-]+=(?:[0-9]+|\"[^\"]*\")/g) || []);
-    else if (first === 'AREA') image.areas.push({ name: second, users: rest });
-    else if (first !== 'NEXT') image.lists.push({ set: first, owner: second.slice(0, -1), members: rest });
+// The line of an answer: ticket, unit and status, then the key and the items that were found.
+function answerOf(line) {
+  const [number, unit, status, ...found] = line.trim().split(' ');
+  return { line, number: Number(number), unit: Number(unit), status, key: found[0] || '', found: trimmed(found.join(' ')), refused: status !== '0000', cause: causes.get(status.slice(2)) };
+}
+
+const READERS = {
+  SCRIPT: (fields) => scripts.push(fields),
+  CAUSES: ([text]) => linesOf(text).forEach((line) => causes.set(line.slice(0, 2), line.split('|'))),
+  STATE: ([text]) => lines.push(...text.split('\\n')),
+  EVENT: ([unit, letter, place, about]) => steps.push({ unit: Number(unit), letter, place: Number(place), about, ticket: tickets.length }),
+  TICKET: ([line, ...changes]) => {
+    const answer = answerOf(line);
+    tickets.push({ ...answer, changes, touched: new Set(), boxes: [] });
+    const last = steps[steps.length - 1];
+    const step = last && last.letter && !last.answer ? last : { unit: answer.unit, place: -1, about: '' };
+    if (step !== last) steps.push(step);
+    Object.assign(step, { answer, ticket: tickets.length });
+    tickets[tickets.length - 1].step = steps.length;
+  },
+};
+
+function read() {
+  for (const [kind, ...fields] of JSON.parse(at('run').textContent)) {
+    if (kind in names) names[kind] = fields;
+    else if (kind) READERS[kind](fields);
   }
-  return image;
+  const made = scripts.map(() => 0);
+  for (const ticket of tickets) ticket.text = (scripts[ticket.unit - 1] || [])[made[ticket.unit - 1]++] || '-';
+}
+
+// ---- the database and the units after a ticket: the lines that `replay` prints, and what they say
+
+const lines = [], records = new Map(), lists = new Map(), areas = new Map(), units = new Map();
+// What a line says is kept, since most lines stay.
+const said = new Map();
+let reached = 0, learned = -1;
+
+const partsOf = (line) => line.match(/[A-Z0-9-]+=(?:[0-9]+|\"[^\"]*\")/g) || [];
+const isRecord = (line) => /^[A-Z0-9-]+:/.test(line);
+const isList = (line) => /^[A-Z0-9-]+ [A-Z0-9-]+(?::[0-9.]+)?:( |$)/.test(line);
+
+function sayingOf(line) {
+  const [first, second, ...rest] = line.split(' ');
+  if (isRecord(line)) return [records, first, partsOf(line)];
+  if (isList(line)) return [lists, `${first} ${second}`, { set: first, owner: second.slice(0, -1), members: rest }];
+  if (first === 'AREA') return [areas, second, rest];
+  if (first === 'UNIT') return [units, Number(second), currentsOf(line)];
+  return null;
+}
+
+// Reads the lines as they are now.
+function learn() {
+  if (learned === reached) return;
+  learned = reached;
+  for (const map of [records, lists, areas, units]) map.clear();
+  for (const line of lines) {
+    if (!said.has(line)) said.set(line, sayingOf(line));
+    const found = said.get(line);
+    if (found) found[0].set(found[1], found[2]);
+  }
 }
 
 // The line of a unit: current of run-unit, of each record type, set and area, and what is kept.
@@ -46,67 +102,133 @@ function currentsOf(line) {
   return { run: parts.RUN[0], types: parts.RECORD, sets: parts.SET, areas: parts.AREA, kept: parts.KEPT || [] };
 }
 
-// The line of an answer: ticket, unit and status, then the key and the items that were found.
-function answerOf(line) {
-  const [ticket, , status, ...found] = line.trim().split(' ');
-  return { ticket, status, found: found.join(' '), refused: status !== '0000', cause: causes.get(status.slice(2)) };
+const editOf = (text) => text.match(/^(\\d+)([-+~])([^]*)$/).slice(1);
+
+// The words of a line after its changes: after so many that stay, +WORD comes, -N go.
+function wordsAfter(line, changes) {
+  const words = line.split(' ');
+  let place = 0;
+  for (const [stay, sign, about] of changes.split(' ').filter(Boolean).map(editOf)) {
+    place += Number(stay);
+    if (sign === '+') words.splice(place++, 0, about);
+    else words.splice(place, Number(about));
+  }
+  return words.join(' ');
 }
 
-const statementOf = (event) => (scripts[event.unit - 1] || [])[event.place] || '-';
+// What a ticket exchanges: the place, how many lines go, and those that come. After so many lines that stay, +LINE comes, -N go, ~ turns.
+function exchangesOf(changes) {
+  let place = 0;
+  return changes.map((change) => {
+    const [stay, sign, about] = editOf(change);
+    place += Number(stay);
+    const here = place;
+    if (sign !== '-') place += 1;
+    return sign === '-' ? [here, Number(about), () => []] : sign === '+' ? [here, 0, () => [about]] : [here, 1, () => [wordsAfter(lines[here], about)]];
+  });
+}
 
-function read() {
-  for (const [kind, ...fields] of JSON.parse(at('run').textContent)) {
-    if (kind in names) names[kind] = fields;
-    else if (kind === 'SCRIPT') scripts.push(fields);
-    else if (kind === 'CAUSES') linesOf(fields[0]).forEach((line) => causes.set(line.slice(0, 2), line.split('|')));
-    else if (kind === 'STATE') {
-      const [answer, image, units] = fields;
-      if (events.length > 0) events[events.length - 1].answer = answerOf(answer);
-      states.push({ after: events.length, line: answer, text: image, units, image: imageOf(image), currents: linesOf(units).map(currentsOf) });
-    } else if (kind === 'EVENT') events.push({ unit: Number(fields[0]), letter: fields[1], place: Number(fields[2]), about: fields[3] });
+// One ticket on: what goes and what comes in its place is kept for the way back, and for the next time. One ticket back.
+function stepOn() {
+  const ticket = tickets[reached++];
+  if (ticket.exchanged) ticket.exchanged.forEach(([place, gone, come]) => lines.splice(place, gone.length, ...come));
+  else ticket.exchanged = exchangesOf(ticket.changes).map(([place, count, comes]) => {
+    const come = comes();
+    return [place, lines.splice(place, count, ...come), come];
+  });
+  return ticket;
+}
+
+function stepBack() {
+  const ticket = tickets[--reached];
+  [...ticket.exchanged].reverse().forEach(([place, gone, come]) => lines.splice(place, come.length, ...gone));
+}
+
+function reach(count) {
+  while (reached < count) stepOn();
+  while (reached > count) stepBack();
+  learn();
+}
+
+// ---- which records a ticket touches, and how large their boxes get
+
+const all = new Map();
+// Which types own which, or are below SYSTEM, at any time of the run.
+const pairs = new Set();
+
+const notePairs = ({ owner, members }) => members.length > 0 && pairs.add(`${typeOf(owner)} ${typeOf(members[0])}`);
+
+function note(key, parts) {
+  const it = all.get(key) || { key, width: 60, height: 0 };
+  it.width = Math.max(it.width, ...[key, ...parts].map((text) => trimmed(text).length * 7.3 + 18));
+  it.height = Math.max(it.height, (parts.length + 1) * GAP.line + 10);
+  all.set(key, it);
+}
+
+function touch(ticket, line, other) {
+  const [first, second] = line.split(' ');
+  if (isRecord(line)) ticket.touched.add(first);
+  if (!isList(line)) return;
+  notePairs(sayingOf(line)[2]);
+  if (second !== 'SYSTEM:') ticket.touched.add(second.slice(0, -1));
+  const there = new Set((other || '').split(' ').slice(2));
+  line.split(' ').slice(2).forEach((member) => there.has(member) || ticket.touched.add(member));
+}
+
+// What stands in a record's box: its items, and the old value too where a ticket changed it.
+function partsShown(key, parts, old) {
+  if (!old) return parts;
+  const before = new Map(old.map((part) => [part.split('=')[0], part.slice(part.indexOf('=') + 1)]));
+  return parts.map((part) => {
+    const [name, value] = [part.split('=')[0], part.slice(part.indexOf('=') + 1)];
+    return before.has(name) && before.get(name) !== value ? `${name} ${before.get(name)} \\u2192 ${value}` : part;
+  });
+}
+
+// Goes through the run once.
+function goThrough() {
+  learn();
+  for (const [key, parts] of records) note(key, parts);
+  for (const list of lists.values()) notePairs(list);
+  while (reached < tickets.length) {
+    const ticket = stepOn();
+    if (ticket.key.includes(':')) ticket.touched.add(ticket.key);
+    ticket.old = new Map();
+    for (const [, gone, come] of ticket.exchanged) {
+      gone.forEach((line, i) => touch(ticket, line, come[i]));
+      come.forEach((line, i) => touch(ticket, line, gone[i]));
+      gone.filter(isRecord).forEach((line) => ticket.old.set(line.split(' ')[0], partsOf(line)));
+    }
+    for (const line of ticket.exchanged.flatMap((it) => it[2]).filter(isRecord)) {
+      const key = line.split(' ')[0];
+      note(key, partsShown(key, partsOf(line), ticket.old.get(key)));
+    }
   }
 }
 
-// ---- where the units are after a number of events
-
-function stateAfter(n) {
-  let found = 0;
-  while (found + 1 < states.length && states[found + 1].after <= n) found += 1;
-  return found;
-}
-
-function unitsAfter(n) {
-  const units = scripts.map(() => ({ answers: [], areas: [], cells: [], open: false, ticket: false, waits: '' }));
-  for (const { unit, letter, answer, about } of events.slice(0, n)) {
-    const it = units[unit - 1];
-    if (!it) continue;
-    it.waits = letter === 'B' ? about : '';
-    if (letter === 'b') Object.assign(it, { open: true, ticket: false });
-    if (letter === 'a') it.areas.push(about);
-    if (letter === 'c') it.cells.push(about);
-    if (letter === 'p' || letter === 'r') it.cells.pop();
-    if (letter === 'v') it.areas.pop();
-    if (letter === 'Q') Object.assign(it, { areas: [], cells: [], open: false });
-    if (answer) it.ticket = it.answers.push(answer) > 0;
-    if (it.ticket && it.areas.length + it.cells.length === 0) it.open = false;
-  }
-  return units;
-}
-
-// ---- where the records stand: owners above members, each record in one place along the whole run
+// ---- which records are drawn, and where: owners above members, each in one place as long as the same records are drawn
 
 const GAP = { x: 44, y: 66, line: 16 };
-const places = new Map();
-let extent = { width: 0, height: 0 };
+const asked = new Set();
+let isShort = true, places = new Map(), extent = { width: 0, height: 0 }, drawnFor = '';
+
+// The tickets whose records are drawn: all of a short run, otherwise those around the one that is shown.
+function span() {
+  if (isShort) return [0, tickets.length];
+  const from = Math.floor(Math.max(0, reached - 1) / CHUNK) * CHUNK;
+  return [from, from + CHUNK];
+}
+
+function addOwners(keys) {
+  for (let turn = 0; turn < names.TYPES.length; turn += 1) {
+    for (const { owner, members } of lists.values()) if (owner !== 'SYSTEM' && !keys.has(owner) && members.some((member) => keys.has(member))) keys.add(owner);
+  }
+}
 
 function levels() {
   const level = new Map(names.TYPES.map((name) => [name, 0]));
-  const above = new Set();
-  for (const { image } of states) {
-    for (const { owner, members } of image.lists) members.forEach((member) => above.add(typeOf(owner) + ' ' + typeOf(member)));
-  }
   for (let turn = 0; turn < names.TYPES.length; turn += 1) {
-    for (const pair of above) {
+    for (const pair of pairs) {
       const [owner, member] = pair.split(' ');
       if (owner !== member && owner !== 'SYSTEM') level.set(member, Math.min(names.TYPES.length, Math.max(level.get(member), level.get(owner) + 1)));
     }
@@ -114,46 +236,39 @@ function levels() {
   return level;
 }
 
-// All records of the run in the order in which they came, with the most that stands in their boxes, and the first owner of each.
-function recordsOfRun() {
-  const records = new Map();
-  for (const { image } of states) {
-    for (const [key, items] of image.records) {
-      const it = records.get(key) || { key, width: 0, height: 0, owner: '', rank: 0 };
-      it.width = Math.max(it.width, ...[key, ...items].map((text) => text.length * 7.3 + 18));
-      it.height = (items.length + 1) * GAP.line + 10;
-      records.set(key, it);
-    }
-    for (const { owner, members } of image.lists) {
-      members.forEach((member, rank) => {
-        const it = records.get(member);
-        if (it && it.owner === '' && owner !== 'SYSTEM') Object.assign(it, { owner, rank });
-      });
-    }
-  }
-  return [...records.values()];
+// Looks at the database at the end of the span too, so that places hold for all of it.
+function choose() {
+  const [from, to] = span();
+  const wanted = `${from} ${[...asked].join()} ${at('right').clientWidth}`;
+  if (wanted === drawnFor) return;
+  drawnFor = wanted;
+  const here = reached;
+  const keys = new Set(tickets.slice(from, to).flatMap((ticket) => [...ticket.touched]));
+  for (const key of all.keys()) if (asked.has(typeOf(key))) keys.add(key);
+  addOwners(keys);
+  reach(Math.min(to, tickets.length));
+  addOwners(keys);
+  place(keys, levels());
+  reach(here);
 }
 
-function placeRecords(room) {
-  const level = levels();
-  const records = recordsOfRun();
-  const rows = [...new Set(level.values())].sort((a, b) => a - b);
-  const hasSystem = states.some(({ image }) => image.lists.some((list) => list.owner === 'SYSTEM'));
+function place(keys, level) {
+  const owners = new Map();
+  for (const { owner, members } of lists.values()) members.forEach((member, rank) => keys.has(member) && !owners.has(member) && owner !== 'SYSTEM' && owners.set(member, { owner, rank }));
+  const room = Math.max(300, at('right').clientWidth - 70);
+  [places, extent] = [new Map(), { width: 0, height: 0 }];
   let top = 12;
-  if (hasSystem) {
+  if ([...pairs].some((pair) => pair.startsWith('SYSTEM '))) {
     places.set('SYSTEM', { x: 16, y: top, width: 80, height: 26 });
     top += 26 + GAP.y;
   }
-  for (const row of rows) {
-    const centre = (it) => (places.has(it.owner) ? places.get(it.owner).x + places.get(it.owner).width / 2 : 0);
-    const here = records.filter((it) => level.get(typeOf(it.key)) === row);
+  const centre = ({ owner }) => (places.has(owner) ? places.get(owner).x + places.get(owner).width / 2 : 0);
+  for (const row of [...new Set(level.values())].sort((a, b) => a - b)) {
+    const here = [...all.values()].filter(({ key }) => keys.has(key) && level.get(typeOf(key)) === row).map((it) => ({ ...it, ...(owners.get(it.key) || { owner: '', rank: 0 }) }));
     here.sort((a, b) => centre(a) - centre(b) || a.rank - b.rank);
     let left = 16, tallest = 0;
     for (const it of here) {
-      if (left > 16 && left + it.width > room) {
-        top += tallest + GAP.y;
-        [left, tallest] = [16, 0];
-      }
+      if (left > 16 && left + it.width > room) [top, left, tallest] = [top + tallest + GAP.y, 16, 0];
       places.set(it.key, { x: left, y: top, width: it.width, height: it.height });
       extent.width = Math.max(extent.width, left + it.width + 40);
       left += it.width + GAP.x;
@@ -166,7 +281,7 @@ function placeRecords(room) {
 
 // ---- drawing
 
-const escaped = (text) => text.replaceAll('&', '&amp;').replaceAll('<', '&lt;').replaceAll('>', '&gt;');
+const hidden = new Set();
 const word = (kind, x, y, text, rest = '') => `<text class='${kind}' x='${x}' y='${y}' ${rest}>${escaped(text)}</text>`;
 
 // From one box to another: straight to the next in a row, otherwise bent from below or above.
@@ -195,19 +310,21 @@ function nameOf(set, from, to, shift) {
   return word('name', a + (b - a) * bend + 4, from.y + from.height + Math.max(30, down * fall), set, `style='fill:${colourOf(set)}'`);
 }
 
-// A list as a ring: the owner, the members in their order, and back to the owner.
+// A list as a ring: the owner, the members in their order, and back to the owner. Where members are not drawn, the way is dotted.
 function ring({ set, owner, members }) {
-  if (members.length === 0 || hidden.has(set)) return '';
+  const drawn = members.map((key, place) => ({ key, place })).filter(({ key }) => places.has(key));
+  if (drawn.length === 0 || hidden.has(set) || !places.has(owner)) return '';
   const number = names.SETS.indexOf(set);
   const shift = (number - (names.SETS.length - 1) / 2) * Math.min(12, 64 / names.SETS.length);
-  const stops = [owner, ...members, owner].map((key) => places.get(key));
+  const stops = [{ key: owner, place: -1 }, ...drawn, { key: owner, place: members.length }];
   const parts = stops.slice(1).map((to, i) => {
-    const kind = i === members.length ? 'ring back' : 'ring';
-    const bend = i === members.length ? shift + 6 : shift;
-    return `<path class='${kind}' d='${path(stops[i], to, bend)}' stroke='${colourOf(set)}' marker-end='url(#head${number})'/>`;
+    const left = to.place - stops[i].place - 1;
+    const kind = `ring${i === drawn.length ? ' back' : ''}${left > 0 ? ' gap' : ''}`;
+    const bend = i === drawn.length ? shift + 6 : shift;
+    const title = left > 0 ? `<title>${left} more</title>` : '';
+    return `<path class='${kind}' d='${path(places.get(stops[i].key), places.get(to.key), bend)}' stroke='${colourOf(set)}' marker-end='url(#head${number})'>${title}</path>`;
   });
-  const label = nameOf(set, stops[0], stops[1], shift);
-  return `<g class='list'>${parts.join('')}${label}</g>`;
+  return `<g class='list'>${parts.join('')}${nameOf(set, places.get(owner), places.get(drawn[0].key), shift)}</g>`;
 }
 
 // What of a unit is current at a record.
@@ -227,7 +344,7 @@ function marksOf(currents) {
 
 function box(key, items, marks, isRun, isChanged) {
   const it = places.get(key);
-  const lines = [key, ...items].map((text, i) => word(i === 0 ? 'key' : 'item', it.x + 8, it.y + 17 + i * GAP.line, text));
+  const texts = [key, ...items].map((text, i) => word(i === 0 ? 'key' : 'item', it.x + 8, it.y + 17 + i * GAP.line, trimmed(text)));
   let [left, below] = [it.x, it.y + it.height + 12];
   const under = marks.map(([text, colour]) => {
     const width = text.length * 8 + 8;
@@ -236,32 +353,58 @@ function box(key, items, marks, isRun, isChanged) {
     return word('mark', left - width, below, text, `style='fill:${colour}'`);
   });
   const kind = `box${isRun ? ' run' : ''}${isChanged ? ' changed' : ''}`;
-  return `<g class='record'><rect class='${kind}' x='${it.x}' y='${it.y}' width='${it.width}' height='${it.height}' rx='4'/>${lines.join('')}${under.join('')}</g>`;
+  return `<g class='record'><rect class='${kind}' x='${it.x}' y='${it.y}' width='${it.width}' height='${it.height}' rx='4'/>${texts.join('')}${under.join('')}</g>`;
 }
 
-function picture(state, before, currents) {
-  const { records, lists } = state.image;
+function picture(ticket, currents) {
   const marks = currents ? marksOf(currents) : new Map();
   const heads = names.SETS.map((set, i) => `<marker id='head${i}' viewBox='0 0 8 8' refX='7' refY='4' markerWidth='7' markerHeight='7' orient='auto'><path d='M0,0 L8,4 L0,8 z' fill='${colourOf(set)}'/></marker>`);
-  const boxes = [...records].map(([key, items]) => {
-    const isChanged = before && String(before.image.records.get(key)) !== String(items);
-    return box(key, items, marks.get(key) || [], currents && currents.run === key, isChanged);
+  const came = new Set(ticket ? ticket.exchanged.flatMap((it) => it[2]).filter(isRecord).map((line) => line.split(' ')[0]) : []);
+  const boxes = [...places.keys()].filter((key) => records.has(key)).map((key) => {
+    const parts = partsShown(key, records.get(key), came.has(key) && ticket.old.get(key));
+    return box(key, parts, marks.get(key) || [], currents && currents.run === key, came.has(key));
   });
   if (places.has('SYSTEM')) boxes.push(box('SYSTEM', [], marks.get('SYSTEM') || [], false, false));
-  return `<svg width='${extent.width}' height='${extent.height}'><defs>${heads.join('')}</defs>${lists.map((list) => ring(list)).join('')}${boxes.join('')}</svg>`;
+  return `<svg width='${extent.width}' height='${extent.height}'><defs>${heads.join('')}</defs>${[...lists.values()].map(ring).join('')}${boxes.join('')}</svg>`;
 }
 
-// ---- words
+// The records that are not drawn, counted by type.
+function moreRecords() {
+  const left = new Map();
+  for (const key of records.keys()) if (!places.has(key)) left.set(typeOf(key), (left.get(typeOf(key)) || 0) + 1);
+  return names.TYPES.filter((name) => left.has(name)).map((name) => `<button data-type='${name}'>${name}: ${left.get(name)} more</button>`).join('');
+}
 
-function told(n) {
-  if (n === 0) return '<p>The opening database. Step on with the arrow keys: right and left by event, down and up by ticket.</p>';
-  const { unit, letter, answer, about } = events[n - 1];
-  const first = `<b>Unit ${unit}</b> ${LETTERS[letter]} &middot; <code>${escaped(statementOf(events[n - 1]))}</code>`;
-  if (!answer) return `<p>${first}</p>${about && `<p>It ${letter === 'B' ? '' : 'takes '}${escaped(about)}.</p>`}`;
-  const [, name, meaning, next] = answer.cause || ['', '', '', ''];
-  const status = `<span class='status${answer.refused ? ' refused' : ''}' style='display:inline'>${answer.status}</span>`;
-  if (!answer.refused) return `<p>${first}</p><p>Ticket ${answer.ticket}: ${status} done ${escaped(answer.found)}</p>`;
-  return `<p>${first}</p><p>Ticket ${answer.ticket}: ${status} refused, <b>${escaped(name)}</b>. ${escaped(meaning)} <i>${escaped(next)}</i></p>`;
+// ---- where the units are after a number of events
+
+function placesOfUnits(count) {
+  const all = scripts.map(() => ({ made: 0, areas: [], cells: [], open: false, ticket: false, waits: '', text: '' }));
+  for (const { unit, letter, answer, about, place } of steps.slice(0, count)) {
+    const it = all[unit - 1];
+    if (!it) continue;
+    it.waits = letter === 'B' ? about : '';
+    if (letter === 'b') Object.assign(it, { open: true, ticket: false });
+    if (letter === 'a') it.areas.push(about);
+    if (letter === 'c') it.cells.push(about);
+    if (letter === 'p' || letter === 'r') it.cells.pop();
+    if (letter === 'v') it.areas.pop();
+    if (letter === 'Q') Object.assign(it, { areas: [], cells: [], open: false });
+    if (answer) [it.ticket, it.made] = [true, it.made + 1];
+    if (it.ticket && it.areas.length + it.cells.length === 0) it.open = false;
+    it.text = scripts[unit - 1][place] || '-';
+  }
+  return all;
+}
+
+// What a unit waits for, and who holds it now.
+function waitOf(all, unit) {
+  const it = all[unit - 1];
+  const found = it.waits.match(/^waits for (.+?)( exclusively)?, held/);
+  if (!found) return '';
+  const [, name, alone] = found;
+  const isAlone = (other) => alone || name.includes('(') || other.text.startsWith('DELETE');
+  const holders = all.map((other, i) => [other, i + 1]).filter(([other, number]) => number !== unit && [...other.areas, ...other.cells].includes(name) && isAlone(other)).map((pair) => pair[1]);
+  return holders.length > 0 ? `waits for ${name}, held by ${holders.map(fileOf).join(', ')}` : `waited for ${name}, free now`;
 }
 
 // What a unit holds, in the order of taking; of many the last ones.
@@ -271,101 +414,192 @@ function holding({ areas, cells }) {
   return `holds ${[...areas, ...left, ...cells.slice(-MOST_NAMED)].join(', ')}`;
 }
 
-function lane(it, number, chosen, event) {
-  const holds = escaped(holding(it));
-  const statements = scripts[number - 1].map((text, place) => {
-    const answer = it.answers[place];
-    const kinds = [answer && 'made', it.open && place === it.answers.length - (it.ticket ? 1 : 0) && 'open', event && event.unit === number && event.place === place && 'now'];
-    const status = answer ? `<span class='status${answer.refused ? ' refused' : ''}'>${answer.ticket}: ${answer.status} ${escaped(answer.refused ? answer.cause[1] : answer.found)}</span>` : '';
-    return `<li class='${kinds.filter(Boolean).join(' ')}'>${escaped(text)}${status}</li>`;
-  });
-  const waits = it.waits && ` <span class='waits'>${escaped(it.waits)}</span>`;
-  return `<section class='lane'><h2 class='${number === chosen ? 'chosen' : ''}' data-unit='${number}'>Unit ${number}${waits}<small>${holds}</small></h2><ol>${statements.join('')}</ol></section>`;
+// ---- words
+
+function told(step) {
+  if (!step) return '<p>The database at the start. Step on with the arrow keys.</p>';
+  const { unit, letter, about, answer } = step;
+  const text = answer ? tickets[step.ticket - 1].text : (scripts[unit - 1] || [])[step.place] || '-';
+  const first = `<b>${escaped(fileOf(unit))}</b> ${letter ? LETTERS[letter] : ''} <code>${escaped(trimmed(text))}</code>`;
+  if (!answer) return `<p>${first}</p>${about && `<p>It ${letter === 'B' ? '' : 'takes '}${escaped(about)}.</p>`}`;
+  const [, name, meaning, next] = answer.cause || ['', '', '', ''];
+  const status = `<span class='status${answer.refused ? ' refused' : ''}'>${answer.status}</span>`;
+  if (!answer.refused) return `<p>${first}</p><p>Ticket ${answer.number}: ${status} done ${escaped(answer.found)}</p>`;
+  return `<p>${first}</p><p>Ticket ${answer.number}: ${status} refused, <b>${escaped(name)}</b>. ${escaped(meaning)} <i>${escaped(next)}</i></p>`;
 }
 
-function currentTable(number, { run, types, sets, areas, kept }, records) {
+// One axis of time: a row for each ticket, its statement in the column of its unit.
+let columns = [], rowsFrom = -1;
+
+function statementsHead() {
+  const heads = columns.map((unit) => `<th data-unit='${unit}'><b>${escaped(fileOf(unit))}</b><span class='waits'></span><small></small></th>`);
+  at('rows').innerHTML = `<thead><tr><th></th>${heads.join('')}</tr></thead><tbody></tbody>`;
+  at('rows').style.setProperty('--units', columns.length);
+}
+
+function statementRow({ number, unit, text, status, refused, cause, found }, index) {
+  const cells = columns.map(() => '<td></td>');
+  cells[columns.indexOf(unit)] = `<td>${escaped(trimmed(text))}<span class='status${refused ? ' refused' : ''}'>${status} ${escaped(refused ? cause[1] : found)}</span></td>`;
+  return `<tr data-ticket='${index + 1}'><th>${number}</th>${cells.join('')}</tr>`;
+}
+
+// Of many tickets those around the one that is shown have their rows.
+function statementRows() {
+  const from = Math.max(0, Math.floor((reached - MOST_ROWS / 4) / (MOST_ROWS / 2)) * (MOST_ROWS / 2));
+  if (from === rowsFrom) return;
+  rowsFrom = from;
+  const shown = tickets.slice(from, from + MOST_ROWS).map((ticket, i) => statementRow(ticket, from + i));
+  const more = (count, ticket) => (count > 0 ? `<tr data-ticket='${ticket}' class='more'><th></th><td colspan='${columns.length}'>${count} more</td></tr>` : '');
+  at('rows').tBodies[0].innerHTML = more(from, from) + shown.join('') + more(tickets.length - from - MOST_ROWS, from + MOST_ROWS + 1);
+}
+
+// The statements that are in mid-statement stand below the last ticket.
+function midway(all, row) {
+  const old = at('midway');
+  if (old) old.remove();
+  const isMidway = (it) => it.open && !it.ticket;
+  if (!hasEvents() || !all.some(isMidway)) return;
+  const cells = columns.map((unit) => `<td>${isMidway(all[unit - 1]) ? escaped(trimmed(all[unit - 1].text)) : ''}</td>`);
+  const made = `<tr id='midway'><th></th>${cells.join('')}</tr>`;
+  if (row) row.insertAdjacentHTML('afterend', made);
+  else at('rows').tBodies[0].insertAdjacentHTML('afterbegin', made);
+}
+
+function currentTable(number, { run, types, sets, areas, kept }) {
   const live = (key) => (key.includes(':') && !records.has(key) ? `${key} (deleted)` : key);
   const shown = (place) => place.split('/').map((key) => escaped(live(key))).join(' / ');
   const row = (head, values) => `<tr><th>${head}</th><td>${values.join('<br>')}</td></tr>`;
   const named = (list, keys) => keys.map((key, i) => `${list[i]}: ${shown(key)}`);
   const rows = [row('run-unit', [shown(run)]), row('record types', named(names.TYPES, types)), row('sets (owner / at)', named(names.SETS, sets)), row('areas', named(names.AREAS, areas))];
   if (kept.length > 0) rows.push(row('kept (record / version)', kept.map(escaped)));
-  return `<h2>What is current for unit ${number}</h2><table>${rows.join('')}</table>`;
+  return `<h2>What is current for ${escaped(fileOf(number))}</h2><table>${rows.join('')}</table>`;
 }
 
 // ---- stepping
 
-let now = 0, picked = 0;
-const hidden = new Set();
+let now = 0, picked = 0, marked = null;
 
-function show(n) {
-  now = Math.max(0, Math.min(n, events.length));
-  const event = events[now - 1];
-  const index = stateAfter(now);
-  const state = states[index];
-  const chosen = picked || (event && event.unit <= scripts.length ? event.unit : 1);
-  const isTicket = event && event.answer;
-  const line = (it, i) => lane(it, i + 1, chosen, event);
-  at('slider').value = now;
-  at('place').textContent = `event ${now} of ${events.length}`;
-  at('told').innerHTML = told(now);
-  at('lanes').innerHTML = unitsAfter(now).map(line).join('');
-  at('current').innerHTML = currentTable(chosen, state.currents[chosen - 1], state.image.records);
-  at('areas').innerHTML = state.image.areas.map(({ name, users }) => `Area <b>${name}</b> ${users.length > 0 ? `open by ${users.join(', ')}` : 'closed'}`).join(' &middot; ');
-  setButtons();
-  at('picture').innerHTML = picture(state, isTicket && states[index - 1], state.currents[chosen - 1]);
-  at('printed').textContent = states.slice(0, index + 1).map((it) => it.line).join('') + '--\\n' + state.text + state.units;
-  for (const id of ['first', 'ticket-back', 'event-back']) at(id).disabled = now === 0;
-  for (const id of ['last', 'ticket-on', 'event-on']) at(id).disabled = now === events.length;
-  document.querySelectorAll('.lane h2').forEach((head) => head.addEventListener('click', () => pick(Number(head.dataset.unit))));
-  const here = document.querySelector('li.now');
-  if (here) here.scrollIntoView({ block: 'nearest' });
+function showTime(step) {
+  const all = placesOfUnits(hasEvents() ? now : 0);
+  if (marked) marked.classList.remove('now');
+  statementRows();
+  marked = at('rows').tBodies[0].querySelector(`[data-ticket='${reached}']:not(.more)`);
+  at('rows').classList.toggle('begun', reached > 0);
+  if (marked) marked.classList.add('now');
+  midway(all, marked);
+  document.querySelectorAll('#rows [data-unit]').forEach((head) => {
+    const unit = Number(head.dataset.unit);
+    head.classList.toggle('chosen', unit === chosen(step));
+    head.querySelector('.waits').textContent = hasEvents() ? waitOf(all, unit) : '';
+    head.querySelector('small').textContent = hasEvents() ? holding(all[unit - 1]) : '';
+  });
+  if (marked) marked.scrollIntoView({ block: 'nearest' });
 }
 
-// A unit that is picked stays chosen until it is picked again; otherwise it is the unit of the event.
+const chosen = (step) => picked || (step && step.unit <= scripts.length ? step.unit : columns[0] || 1);
+
+// Brings the current record into sight.
+function scrollToCurrent(currents) {
+  const it = currents && records.has(currents.run) && places.get(currents.run);
+  if (!it) return;
+  const [view, top] = [at('right'), at('picture').offsetTop - at('right').offsetTop];
+  const [low, high] = [top + it.y, top + it.y + it.height + 40];
+  if (low < view.scrollTop || high > view.scrollTop + view.clientHeight) view.scrollTop = Math.max(0, (low + high - view.clientHeight) / 2);
+  if (it.x < view.scrollLeft || it.x + it.width > view.scrollLeft + view.clientWidth) view.scrollLeft = Math.max(0, it.x - 20);
+}
+
+function printed() {
+  if (at('details').open) at('printed').textContent = tickets.slice(0, reached).map((it) => it.line).join('') + '--\\n' + lines.join('\\n');
+}
+
+function show(n) {
+  now = Math.max(0, Math.min(n, steps.length));
+  const step = steps[now - 1];
+  reach(step ? step.ticket : 0);
+  choose();
+  const currents = units.get(chosen(step));
+  at('slider').value = now;
+  at('place').textContent = `${hasEvents() ? 'event' : 'statement'} ${now} of ${steps.length}`;
+  at('told').innerHTML = told(step);
+  showTime(step);
+  at('current').innerHTML = currents ? currentTable(chosen(step), currents) : '';
+  at('areas').innerHTML = [...areas].map(([name, users]) => `Area <b>${name}</b> ${users.length > 0 ? `open by ${users.map((user) => user.replace(/^\\d+/, (unit) => fileOf(Number(unit)))).join(', ')}` : 'closed'}`).join(' &middot; ');
+  at('sets').innerHTML = names.SETS.map((set) => `<button class='${hidden.has(set) ? 'hidden' : ''}' data-set='${set}' style='border-color:${colourOf(set)}'>${set}</button>`).join('');
+  at('more').innerHTML = moreRecords();
+  at('picture').innerHTML = picture(step && step.answer && tickets[step.ticket - 1], currents);
+  printed();
+  for (const [id, [, , next]] of Object.entries(STEPS)) at(id).disabled = next() === null;
+  scrollToCurrent(currents);
+}
+
+// A unit that is picked stays chosen until it is picked again; otherwise it is the unit of the step.
 function pick(unit) {
-  if (unit > scripts.length) return;
+  if (!columns.includes(unit)) return;
   picked = picked === unit ? 0 : unit;
   show(now);
 }
 
-// A set whose rings are hidden is drawn again when it is picked again.
-function hide(set) {
-  if (!hidden.delete(set)) hidden.add(set);
-  show(now);
-}
-
-function setButtons() {
-  const kind = (set) => (hidden.has(set) ? 'hidden' : '');
-  at('sets').innerHTML = names.SETS.map((set) => `<button class='${kind(set)}' data-set='${set}' style='border-color:${colourOf(set)}'>${set}</button>`).join('');
-  document.querySelectorAll('#sets button').forEach((it) => it.addEventListener('click', () => hide(it.dataset.set)));
-}
-
-function ticket(forward) {
-  const stops = states.map((state) => state.after);
-  const next = forward ? stops.find((stop) => stop > now) : stops.findLast((stop) => stop < now);
-  show(next === undefined ? (forward ? events.length : 0) : next);
-}
-
-const STEPS = {
-  first: ['Home', () => show(0)], 'ticket-back': ['ArrowUp', () => ticket(false)], 'event-back': ['ArrowLeft', () => show(now - 1)],
-  'event-on': ['ArrowRight', () => show(now + 1)], 'ticket-on': ['ArrowDown', () => ticket(true)], last: ['End', () => show(events.length)],
+// The next step of this kind, on or back; null if there is none.
+const nextOf = (test) => {
+  const found = steps.findIndex((step, i) => i >= now && test(step));
+  return found < 0 ? null : found + 1;
 };
+const on = () => (now < steps.length ? now + 1 : null);
+const back = () => (now > 0 ? now - 1 : null);
+const ticketOn = () => nextOf((step) => step.answer) || (now < steps.length ? steps.length : null);
+const ticketBack = () => (now === 0 ? null : steps.slice(0, now - 1).findLastIndex((step) => step.answer) + 1);
+
+// The button of each step: its keys, and where it goes.
+const STEPS = {
+  first: [['Home'], false, () => (now > 0 ? 0 : null)],
+  'ticket-back': [['ArrowUp'], false, ticketBack],
+  'event-back': [['ArrowLeft'], true, back],
+  'event-on': [['ArrowRight'], true, on],
+  'ticket-on': [['ArrowDown'], false, ticketOn],
+  last: [['End'], false, () => (now < steps.length ? steps.length : null)],
+  refusal: [['r'], false, () => nextOf((step) => step.answer && step.answer.refused)],
+  wait: [['w'], true, () => nextOf((step) => step.letter === 'B')],
+};
+
+function go(id) {
+  const next = STEPS[id][2]();
+  if (next !== null) show(next);
+}
 
 function begin() {
   read();
-  placeRecords(Math.max(480, at('right').clientWidth - 70));
-  at('slider').max = events.length;
+  goThrough();
+  reach(0);
+  isShort = new Set(tickets.flatMap((ticket) => [...ticket.touched])).size <= MOST_DRAWN;
+  document.title = fileOf(0);
+  at('title').textContent = fileOf(0);
+  columns = [...new Set(steps.map((step) => step.unit))].filter((unit) => unit <= scripts.length).sort((a, b) => a - b);
+  statementsHead();
+  for (const [id, [, ofEvents]] of Object.entries(STEPS)) {
+    at(id).addEventListener('click', () => go(id));
+    at(id).hidden = ofEvents && !hasEvents();
+  }
+  at('slider').max = steps.length;
   at('slider').addEventListener('input', () => show(Number(at('slider').value)));
-  for (const [id, [, step]] of Object.entries(STEPS)) at(id).addEventListener('click', step);
-  document.addEventListener('keydown', (pressed) => {
-    const found = Object.values(STEPS).find(([key]) => key === pressed.key);
-    if (pressed.key >= '1' && pressed.key <= '8') pick(Number(pressed.key));
-    if (found) {
-      pressed.preventDefault();
-      found[1]();
-    }
+  at('details').addEventListener('toggle', printed);
+  document.addEventListener('click', ({ target }) => {
+    const found = target.closest('[data-unit], [data-set], [data-type], [data-ticket]');
+    if (!found) return;
+    const { unit, set, type, ticket } = found.dataset;
+    if (ticket) return void show(tickets[ticket - 1].step);
+    if (unit) return void pick(Number(unit));
+    if (type) asked.add(type);
+    if (set && !hidden.delete(set)) hidden.add(set);
+    show(now);
   });
+  document.addEventListener('keydown', (pressed) => {
+    const found = Object.keys(STEPS).find((id) => STEPS[id][0].includes(pressed.key));
+    if (pressed.key >= '1' && pressed.key <= '8') pick(Number(pressed.key));
+    if (!found) return;
+    pressed.preventDefault();
+    go(found);
+  });
+  addEventListener('resize', () => show(now));
   show(Number(location.hash.slice(1)) || 0);
 }
 
