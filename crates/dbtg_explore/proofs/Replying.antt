@@ -1,6 +1,6 @@
 -- All statuses that statements get, by what a search has noted.
 -- m is a meeting, u a unit, o, p and q are orders, h is a history, r a reply.
-use Rattle.std.proofs.Common.{◌≡◌, refl, sym, ◌∙◌, ap, subst, ℕ, ◌+◌, ◌-◌, ◌<◌, ◌≤◌, Bool, true, false, ◌&&◌, List, [], ◌∷◌, ◌++◌, length, get_or, Option, None, Some, arith, inl, inr}
+use Rattle.std.proofs.Common.{◌≡◌, refl, sym, ◌∙◌, ap, subst, ℕ, ◌-◌, ◌≤◌, true, ◌&&◌, List, [], ◌∷◌, ◌++◌, length, get_or, Option, None, Some, arith}
 use Rattle.std.specs.Prelude.{Contains, is_some, not, option_and_then, option_map, unwrap_or}
 use Rattle.std.specs.List.Sorted.{IsStrictlySortedBy}
 use Rattle.std.proofs.lemmas.Bool.{true≢false}
@@ -13,11 +13,10 @@ use Rattle.dbtg_unit.specs.declared.unit.Entry.{Entry}
 use Rattle.dbtg_unit.specs.Database.Statements.Codes.{status_code}
 use Rattle.dbtg_explore.specs.declared.replies.Reply.{Reply}
 use Rattle.dbtg_explore.specs.declared.search.Search as given
-use Rattle.dbtg_explore.specs.Inside.Replies.{HasReplies, reply_of, status_due}
+use Rattle.dbtg_explore.specs.Inside.Replies.{reply_of, status_due}
 use Rattle.dbtg_explore.specs.Inside.Steps.{IsAt, can_follow}
-use Rattle.dbtg_explore.specs.Laws.{answer_of}
 use Rattle.dbtg_explore.specs.Orders.{IsOrder, Meeting, beginning, can_turn, due_of, history_of, waits}
-use Rattle.dbtg_explore.specs.Replies.{AreReplies, Comes, MakesLast, line_due, reply_cmp, status_of}
+use Rattle.dbtg_explore.specs.Replies.{AreReplies, Comes, reply_cmp, status_of}
 use Rattle.dbtg_explore.specs.States.{essence_of, state_of}
 use Rattle.dbtg_explore.proofs.Alike.{IsDueOf, answer_alike, can_turn_alike, due_alike, due_there}
 use Rattle.dbtg_explore.proofs.Judging.{IsMade, line_alike, made_there, makes_same}

@@ -3,7 +3,6 @@
 use Rattle.std.specs.Prelude.{ℕ, ◌≡◌, ◌==◌, ◌&&◌, Bool, true, false, not, List, [], ◌∷◌, ◌++◌, Option, Some, None, Contains, if◌then◌else◌}
 use Rattle.std.specs.List.{list_any}
 use Rattle.dbtg_schema.specs.Lookups.{some_and}
-use Rattle.dbtg_program.specs.declared.program.Program.{Program}
 use Rattle.dbtg_program.specs.declared.program.Sentence.{Sentence}
 use Rattle.dbtg_program.specs.declared.program.Sentence.TheVariants.{Filled, Statement}
 use Rattle.dbtg_step.specs.Machine.SequentialDatabase.{unit_at}

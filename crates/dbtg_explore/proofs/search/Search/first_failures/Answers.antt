@@ -1,4 +1,4 @@
-use Rattle.std.proofs.Common.{◌≡◌, ◌∙◌, ◌++◌, ◌∷◌, [], List, get_or, subst, sym, take}
+use Rattle.std.proofs.Common.{◌++◌, ◌∷◌, [], List, get_or, subst, sym, take}
 use Rattle.std.proofs.lemmas.List.{take_more}
 use Rattle.dbtg_program.specs.declared.program.End.TheVariants.{Stop}
 use Rattle.dbtg_explore.specs.declared.explored.Failure.{Failure}

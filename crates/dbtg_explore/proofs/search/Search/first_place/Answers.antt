@@ -1,7 +1,7 @@
-use Rattle.std.proofs.Common.{◌≡◌, ◌∙◌, ◌<◌, ◌≤◌, ℕ, [], length, get_or, subst, sym, true, false, arith}
+use Rattle.std.proofs.Common.{◌∙◌, ◌<◌, [], length, get_or, sym, arith}
 use Rattle.std.proofs.lemmas.Bool.{false≢true}
 use Rattle.dbtg_explore.specs.Orders.{history_of}
-use Rattle.dbtg_explore.proofs.FirstFailures.{IsAhead, ahead_first, ahead_next, first_here}
+use Rattle.dbtg_explore.proofs.FirstFailures.{ahead_first, ahead_next, first_here}
 use Rattle.dbtg_explore.proofs.Numbered.{numbered_low, state_at}
 use Rattle.dbtg_explore.proofs.Said.{fails_is}
 use Rattle.dbtg_explore.proofs.Visiting.{fails_unit}

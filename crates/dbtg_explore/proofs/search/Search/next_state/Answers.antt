@@ -1,4 +1,4 @@
-use Rattle.std.proofs.Common.{◌∙◌, ◌++◌, ◌∷◌, [], List, ap, refl, get_or}
+use Rattle.std.proofs.Common.{◌∙◌, [], List, ap, refl, get_or}
 use Rattle.dbtg_interned.specs.Arrays.{elements}
 use Rattle.dbtg_states.specs.declared.transitions.Look.{Look}
 use Rattle.dbtg_states.specs.Transitions.{written}

@@ -1,4 +1,4 @@
-use Rattle.std.proofs.Common.{◌∙◌, ◌<◌, ◌++◌, ◌∷◌, [], ℕ, List, ap, refl, subst, sym, length, get_or}
+use Rattle.std.proofs.Common.{◌∙◌, ◌<◌, ◌++◌, ◌∷◌, [], ℕ, List, refl, subst, sym, length, get_or}
 use Rattle.dbtg_explore.specs.declared.replies.Reply.{Reply}
 use Rattle.dbtg_explore.specs.Inside.Found.{FoundOrders, IsEntered}
 use Rattle.dbtg_explore.specs.Inside.Replies.{TakesReply}
