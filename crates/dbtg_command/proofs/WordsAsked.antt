@@ -1,9 +1,9 @@
 -- Worked rows: what the words ask the program for.
-use Rattle.std.proofs.Common.{◌≡◌, ℕ, true, false, List, [], ◌∷◌, ◌++◌, Option, Some, None, refl}
+use Rattle.std.proofs.Common.{◌≡◌, ℕ, true, false, List, [], ◌∷◌, Option, Some, None, refl}
 use Rattle.std.specs.Prelude.{codes, option_and_then, option_map}
 use Rattle.clap.proofs.OnLiterals.{clap_on_literals}
 use Rattle.clap.specs.Simple.{subcommand_of}
-use Rattle.clap.specs.Walk.{Row, all_of, one_of}
+use Rattle.clap.specs.Walk.{all_of, one_of}
 use Rattle.dbtg_command.specs.Commands.{program}
 use Rattle.dbtg_command.specs.Wishing.{wish_in}
 

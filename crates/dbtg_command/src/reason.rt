@@ -2,6 +2,8 @@
 ghost use Rattle.std.specs.Char.{is_ascii_alphabetic};
 ghost use Rattle.std.specs.List.{prefix_len};
 ghost use Rattle.std.specs.Prelude.{◌≡◌, ◌≤◌, [], IfOk, MatchOption, length, map, string_bytes};
+ghost use Rattle.dbtg_explain.specs.FaultyWord.{line_at};
+ghost use Rattle.dbtg_explain.specs.Misfits.{said_of_word};
 ghost use Rattle.dbtg_explain.specs.declared.topic.Kind.TheVariants as text_kind;
 ghost use Rattle.dbtg_command.specs.Reasons.{HasNoReason, IsNotRead, IsNotReadTo, IsReason, IsReasonLine, IsToldIn, IsToldOfOrder, IsScriptNotRead, IsUnreadLine, SaysOfFile, SaysOfLine, SaysOfSchema, SaysOfScript, begins_statement, first_letters, order_path, other_kind, place_of, script_path, told_at, IsToldOfProgram, IsToldOfTrace, SaysOfTrace, no_unit, said_in_text, said_of_unit};
 ghost use Rattle.dbtg_command.specs.Sources.{order_map};
@@ -223,6 +225,18 @@ fn nothing_said(alloc: Global, fault: &Fault) -> Result<Vec<u8>, AllocError>
     }
 }
 
+fn said_of_line(
+    alloc: Global,
+    schema: &Schema,
+    text: &[u8],
+    line: u64,
+    number: u8,
+) -> Result<Vec<u8>, AllocError>
+    ensures { IfOk result (λ said. said.items ≡ said_of_word schema.now number (line_at line text.now)) }
+{
+    said_of_word(alloc, schema, line_at(text, line), number)
+}
+
 /// What is said of the word of a line that is at fault, in a text of this kind.
 fn said_in_text(
     alloc: Global,
@@ -237,7 +251,7 @@ fn said_in_text(
     match kind {
         Kind::Program => said_of_program_word(alloc, schema, text, line, number),
         Kind::Schema | Kind::Script | Kind::Moves | Kind::Turns | Kind::Trace => {
-            said_of_word(alloc, schema, line_at(text, line), number)
+            said_of_line(alloc, schema, text, line, number)
         }
     }
 }

@@ -1,4 +1,4 @@
-use Rattle.std.proofs.Common.{ℕ, List, inl, map}
+use Rattle.std.proofs.Common.{inl, map}
 use Rattle.std.proofs.lemmas.Result.{IfOk-weaker}
 use Rattle.dbtg_command.specs.Reasons.{SaysOfLine}
 use Rattle.dbtg_command.specs.Sources.{order_map}
