@@ -63,7 +63,7 @@ DB-REC-NOT-FOUND|; here STATUS = 0326
 88|; there is none here: compare with the value
 VALUE|; leave it out: a counter begins with 0, or with the empty text
 COMP|; leave it out
-COMP-3|; leave it out
+COMP-3|; leave it out: a number is 9(n)
 *|; a note has its star at the beginning of its line, and a schema has no notes
 --|; a note begins with a star, and a schema has no notes
 #|; a note begins with a star, and a schema has no notes";
