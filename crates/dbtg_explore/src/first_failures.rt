@@ -35,11 +35,13 @@ impl Search {
         requires there { (o : List ℕ) × Contains self.now.found.orders o × FailsIn (state_of meeting.now o) failure }
         ensures { IsFirstPlace meeting.now self.now.found.orders failure result }
     {
-        let mut place = 0;
-        while !has_failed(&self.numbers, self.found.number(place), failure) {
-            place += 1;
+        for place in 0..self.found.len() {
+            if has_failed(&self.numbers, self.found.number(place), failure) {
+                return place;
+            }
         }
-        place
+        // Not met: some order leads to it.
+        self.found.len()
     }
 
     // The failure with its first turns.

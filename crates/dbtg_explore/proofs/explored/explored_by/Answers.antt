@@ -1,10 +1,20 @@
+use Rattle.std.proofs.Common.{ℕ, List, subst, sym}
+use Rattle.std.specs.Prelude.{Contains}
 use Rattle.std.proofs.lemmas.Result.{err_from_is_err_and}
+use Rattle.dbtg_explore.specs.declared.explored.Failure.{Failure}
+use Rattle.dbtg_explore.specs.Inside.Ends.{FailsIn}
+use Rattle.dbtg_explore.specs.Inside.Failures.{AreFirst}
+use Rattle.dbtg_explore.specs.States.{state_of}
 use Rattle.dbtg_explore.proofs.Visiting.{fail_there, is_explored}
 use Rattle.dbtg_explore.proofs.explored.explored_by.Goals as goal
 
 pub returns-clause-explored : goal.returns-clause-explored
 returns-clause-explored g c =
-    is_explored c.args.meeting.now c.args.limit c.in_ok-search.search c.in_ok-search.ends c.in_ok-search.ensures.through _ c.len-states.ensures c.in_ok-results.ensures c.in_ok-failures.ensures (c.in_ok-endless.ensures c.args.meeting.now c.in_ok-search.ensures.through.visited.at)
+    let m = c.args.meeting.now in
+    let s = c.in_ok-search.search in
+    let through = c.in_ok-search.ensures.through in
+    let first = subst (λ (fs : List Failure). AreFirst m s.found.orders fs c.in_ok-failures.failures) c.as_slice.ensures.value c.in_ok-failures.ensures in
+    is_explored m c.args.limit s c.in_ok-search.ends through _ c.len-states.ensures c.in_ok-results.ensures first (c.in_ok-endless.ensures m through.visited.at)
 
 pub endless_in-requires : goal.endless_in-requires
 endless_in-requires g c = (c.args.meeting.now, c.in_ok-search.ensures.through.visited.at)
@@ -21,4 +31,8 @@ pub first_failures-requires-clause-at : goal.first_failures-requires-clause-at
 first_failures-requires-clause-at g c = c.in_ok-search.ensures.through.visited.at
 
 pub first_failures-requires-clause-there : goal.first_failures-requires-clause-there
-first_failures-requires-clause-there g c = fail_there c.args.meeting.now c.args.limit c.in_ok-search.search c.in_ok-search.ends c.in_ok-search.ensures.through
+first_failures-requires-clause-there g c =
+    let m = c.args.meeting.now in
+    let s = c.in_ok-search.search in
+    subst (λ (fs : List Failure). (f : Failure) → Contains fs f → (o : List ℕ) × Contains s.found.orders o × FailsIn (state_of m o) f) (sym {A = List Failure} c.as_slice.ensures.value)
+    (fail_there m c.args.limit s c.in_ok-search.ends c.in_ok-search.ensures.through)
