@@ -1,4 +1,4 @@
-use Rattle.std.proofs.Common.{◌≡◌, ◌<◌, ◌≤◌, ◌∙◌, [], arith, get_or, length, sym}
+use Rattle.std.proofs.Common.{◌∙◌, [], arith, get_or, sym}
 use Rattle.dbtg_explore.specs.Orders.{history_of}
 use Rattle.dbtg_explore.proofs.FirstFailures.{ahead_first, ahead_next, failing_unit, is_first}
 use Rattle.dbtg_explore.proofs.Numbered.{numbered_low, state_at}
