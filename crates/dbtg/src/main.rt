@@ -70,17 +70,9 @@ fn begins_with_file(call: &Call) -> bool {
     call.first && call.schema != "-" && call.scripts.last().is_some_and(|path| *path != "-")
 }
 
-// Which statements of the script that is made first were refused. Nothing is told if the files have changed since the run, which is no
-// fault.
-fn told_of_first(
-    alloc: Global,
-    files: &Files<HostRuntime>,
-    call: &Call,
-) -> Result<Vec<u8>, AllocError> {
-    if !begins_with_file(call) {
-        return Ok(Vec::new(alloc));
-    }
-    match refusals_of_first(alloc, files, call.capacity) {
+// What is told beside a run of files. Nothing is told if they have changed since the run, which is no fault.
+fn told_of_files(alloc: Global, told: Result<Vec<u8>, Fault>) -> Result<Vec<u8>, AllocError> {
+    match told {
         Ok(told) => Ok(told),
         Err(Fault::Memory) => Err(AllocError),
         Err(_) => Ok(Vec::new(alloc)),
@@ -97,22 +89,6 @@ fn reads_files(call: &Call) -> bool {
     order != "-" && call.schema != "-" && call.scripts.iter().all(|path| *path != "-")
 }
 
-// Which turns made nothing. Nothing is told if the files have changed since the run, which is no fault.
-fn told_of_turns(
-    alloc: Global,
-    files: &Files<HostRuntime>,
-    call: &Call,
-) -> Result<Vec<u8>, AllocError> {
-    if !reads_files(call) {
-        return Ok(Vec::new(alloc));
-    }
-    match idle_turns(alloc, files, call.first) {
-        Ok(told) => Ok(told),
-        Err(Fault::Memory) => Err(AllocError),
-        Err(_) => Ok(Vec::new(alloc)),
-    }
-}
-
 // The text of a run of scripts; beside it, which statements of the script that is made first were refused, and which turns made nothing.
 fn of_run(
     alloc: Global,
@@ -121,9 +97,13 @@ fn of_run(
     text: Vec<u8>,
 ) -> Result<Ended, Fault> {
     let mut ended = Ended::of_text(alloc, text);
-    ended.told = told_of_first(alloc, files, call)?;
-    let idle = told_of_turns(alloc, files, call)?;
-    ended.told.extend_from_slice(idle.as_slice())?;
+    if begins_with_file(call) {
+        ended.told = told_of_files(alloc, refusals_of_first(alloc, files, call.capacity))?;
+    }
+    if reads_files(call) {
+        let idle = told_of_files(alloc, idle_turns(alloc, files, call.first))?;
+        ended.told.extend_from_slice(idle.as_slice())?;
+    }
     Ok(ended)
 }
 

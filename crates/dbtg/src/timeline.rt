@@ -133,7 +133,11 @@ fn picture_of_moves(
         }
         Form::Page { files } => {
             let causes = CAUSES.as_bytes();
-            let told = Told { files, scripts, causes };
+            let told = Told {
+                files,
+                scripts,
+                causes,
+            };
             page_text(alloc, schema, capacity, statements, &told, steps)
         }
     }
