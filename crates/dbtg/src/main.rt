@@ -79,6 +79,18 @@ fn told_of_files(alloc: Global, told: Result<Vec<u8>, Fault>) -> Result<Vec<u8>,
     }
 }
 
+// Which statements of the script that is made first were refused.
+fn told_of_first(
+    alloc: Global,
+    files: &Files<HostRuntime>,
+    call: &Call,
+) -> Result<Vec<u8>, AllocError> {
+    if !begins_with_file(call) {
+        return Ok(Vec::new(alloc));
+    }
+    told_of_files(alloc, refusals_of_first(alloc, files, call.capacity))
+}
+
 // Can all that a run of scripts reads be read again?
 fn reads_files(call: &Call) -> bool {
     let order = match call.order {
@@ -97,9 +109,7 @@ fn of_run(
     text: Vec<u8>,
 ) -> Result<Ended, Fault> {
     let mut ended = Ended::of_text(alloc, text);
-    if begins_with_file(call) {
-        ended.told = told_of_files(alloc, refusals_of_first(alloc, files, call.capacity))?;
-    }
+    ended.told = told_of_first(alloc, files, call)?;
     if reads_files(call) {
         let idle = told_of_files(alloc, idle_turns(alloc, files, call.first))?;
         ended.told.extend_from_slice(idle.as_slice())?;
