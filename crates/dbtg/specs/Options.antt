@@ -2,12 +2,8 @@
 use Rattle.std.specs.Borrow.{Bor}
 use Rattle.std.specs.Prelude.{ℕ, List, Bool, ◌&&◌, nat_le, not, option_map, true, false, if◌then◌else◌}
 use Rattle.dbtg_command.specs.declared.call.Call.{Call}
-use Rattle.dbtg_command.specs.declared.wished.Wished.{Wished}
 use Rattle.dbtg_command.specs.declared.command.Named.{Named}
 use Rattle.dbtg_command.specs.declared.command.Named.TheVariants as named
-use Rattle.dbtg_unit.specs.declared.limits.TheConstants.{LAST_UNIT}
-use Rattle.dbtg_explore.specs.declared.wishes.Wish.{Wish}
-use Rattle.dbtg_exploring.specs.declared.setting.Exploring.{Exploring}
 use Rattle.dbtg_going.specs.declared.around.Around.{Around}
 use Rattle.dbtg_replay.specs.declared.replay.AnswerForm.{AnswerForm}
 use Rattle.dbtg_replay.specs.declared.replay.AnswerForm.TheVariants as answer

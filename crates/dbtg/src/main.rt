@@ -22,7 +22,7 @@ use dbtg_command::{
 use dbtg_explain::{explained, status_topic};
 use dbtg_exploring::{Said, explore_programs};
 use dbtg_replay::replay::{check_count, replay};
-use dbtg_replay::{idle_turns, moves_for_turns, refusals_of_first};
+use dbtg_replay::{moves_for_turns, refusals_of_first};
 use dbtg_running::{
     PrintedOnThreads, PrintedScripts, check_programs, run, run_programs_on_threads,
     run_scripts_on_threads,
@@ -91,17 +91,7 @@ fn told_of_first(
     told_of_files(alloc, refusals_of_first(alloc, files, call.capacity))
 }
 
-// Can all that a run of scripts reads be read again?
-fn reads_files(call: &Call) -> bool {
-    let order = match call.order {
-        Order::Serial => "",
-        Order::Moves(path) => path,
-        Order::Turns(path) => path,
-    };
-    order != "-" && call.schema != "-" && call.scripts.iter().all(|path| *path != "-")
-}
-
-// The text of a run of scripts; beside it, which statements of the script that is made first were refused, and which turns made nothing.
+// The text of a run of scripts; beside it, which statements of the script that is made first were refused.
 fn of_run(
     alloc: Global,
     files: &Files<HostRuntime>,
@@ -110,10 +100,6 @@ fn of_run(
 ) -> Result<Ended, Fault> {
     let mut ended = Ended::of_text(alloc, text);
     ended.told = told_of_first(alloc, files, call)?;
-    if reads_files(call) {
-        let idle = told_of_files(alloc, idle_turns(alloc, files, call.first))?;
-        ended.told.extend_from_slice(idle.as_slice())?;
-    }
     Ok(ended)
 }
 
@@ -231,7 +217,7 @@ fn moves_of_turns(alloc: Global, files: &Files<HostRuntime>, call: &Call) -> Res
         paths: &paths,
     };
     let text = moves_for_turns(alloc, &files, call.capacity)?;
-    of_run(alloc, &files, call, text)
+    Ok(Ended::of_text(alloc, text))
 }
 
 fn verdict(alloc: Global, files: &Files<HostRuntime>, call: &Call) -> Result<Verdict, Fault>

@@ -1,7 +1,7 @@
 //! What each command is handed of a call.
 
 ghost use Rattle.std.specs.Prelude.{◌≡◌, ◌&&◌, not};
-ghost use Rattle.dbtg.specs.Options.{answer_form, around, explains_refusals, exploring, picture_form, wish_of};
+ghost use Rattle.dbtg.specs.Options.{answer_form, around, explains_refusals, picture_form};
 
 use crate::timeline::Form;
 use dbtg_command::{Call, Named, Wished};
@@ -69,9 +69,7 @@ pub fn run_options(call: &Call) -> RunOptions
 }
 
 // A wish, as `explore` takes it. A unit past the last is as one that is not there.
-fn wish_of(wished: Wished) -> Wish
-    ensures { result ≡ wish_of wished }
-{
+fn wish_of(wished: Wished) -> Wish {
     Wish {
         unit: wished.unit.min(LAST_UNIT as u64) as u8,
         line: wished.line,
@@ -81,9 +79,7 @@ fn wish_of(wished: Wished) -> Wish
 }
 
 /// What `explore` is asked for.
-pub fn exploring(call: &Call) -> Exploring
-    ensures { result ≡ exploring call.now }
-{
+pub fn exploring(call: &Call) -> Exploring {
     Exploring {
         capacity: call.capacity,
         around: around(call),

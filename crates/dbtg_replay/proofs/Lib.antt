@@ -9,5 +9,4 @@ mod MovesOfTurns
 mod MadeAgain
 mod Printed
 mod ReadBack
-mod EachUnit
 pub mod Public
