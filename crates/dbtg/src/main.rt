@@ -70,16 +70,8 @@ fn begins_with_file(call: &Call) -> bool {
     call.first && call.schema != "-" && call.scripts.last().is_some_and(|path| *path != "-")
 }
 
-// What is told beside a run of files. Nothing is told if they have changed since the run, which is no fault.
-fn told_of_files(alloc: Global, told: Result<Vec<u8>, Fault>) -> Result<Vec<u8>, AllocError> {
-    match told {
-        Ok(told) => Ok(told),
-        Err(Fault::Memory) => Err(AllocError),
-        Err(_) => Ok(Vec::new(alloc)),
-    }
-}
-
-// Which statements of the script that is made first were refused.
+// Which statements of the script that is made first were refused. Nothing is told if the files have changed since the run, which is no
+// fault.
 fn told_of_first(
     alloc: Global,
     files: &Files<HostRuntime>,
@@ -88,7 +80,11 @@ fn told_of_first(
     if !begins_with_file(call) {
         return Ok(Vec::new(alloc));
     }
-    told_of_files(alloc, refusals_of_first(alloc, files, call.capacity))
+    match refusals_of_first(alloc, files, call.capacity) {
+        Ok(told) => Ok(told),
+        Err(Fault::Memory) => Err(AllocError),
+        Err(_) => Ok(Vec::new(alloc)),
+    }
 }
 
 // The text of a run of scripts; beside it, which statements of the script that is made first were refused.
