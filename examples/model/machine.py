@@ -1,4 +1,5 @@
 """Units side by side and what is printed of them: docs/profile/events.md, scripts.md, printed-texts.md."""
+import os
 import itertools
 import re
 
@@ -176,6 +177,11 @@ class Machine:
 def read(path):
     with open(path, encoding="ascii") as file:
         return file.read()
+
+
+def read_order(folder, word):
+    """Moves or turns: the text of the file of this name, or the word itself where there is no such file."""
+    return read(f"{folder}/{word}") if os.path.exists(f"{folder}/{word}") else word
 
 
 def words_in(folder, args="args"):

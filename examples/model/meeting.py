@@ -177,6 +177,10 @@ class Explored:
     def head(self):
         return f"states {len(self.orders)}, results {len(self.results)}\n"
 
+    def replies(self):
+        """What each turn is answered that can be had in some state."""
+        return {self.meeting.replies([*order, unit])[-1] for state, order in self.orders.items() for unit in self.units[state]}
+
     def first_broken(self, option, statement, status):
         """The first turns that break a wish for the status of the statement in a line, if any do."""
         unit, line = map(int, statement.split("."))
@@ -212,8 +216,8 @@ ENDLESS = re.compile(r"(?m)^endless turns(.*) then (.*)\n")
 def explore(folder, words, wanted):
     """What `explore` with these words prints; with a wish, only where it is known. There is no promise which turns go round in a line `endless`: the line is that of the text
     that is wanted, if its turns lead to the first way round, and go round for ever."""
-    options, _, (schema, *texts) = asked(folder, words)
-    turns = machine.turns_in(machine.read(f"{folder}/{options['--turns']}")) if "--turns" in options else []
+    options, flags, (schema, *texts) = asked(folder, words)
+    turns = machine.turns_in(machine.read_order(folder, options['--turns'])) if "--turns" in options else []
     meeting = Meeting(schema, int(options.get("--capacity", "100")), texts, "--first" in options, "--then" in options, turns)
     states = Explored(meeting, int(options.get("--limit", "100000")))
     for option in {"--never", "--always"} & set(options):
@@ -224,4 +228,6 @@ def explore(folder, words, wanted):
     if first is not None:
         holds = told and machine.turns_in(told[1])[len(turns):] == first and round_holds(meeting, first, machine.turns_in(told[2]))
         line = told[0] if holds else "endless\n"
+    if "--statuses" in flags:
+        return f"states {len(states.orders)}\n" + line + failures_text(states.failures, turns) + statuses_text(meeting, states.replies())
     return states.head() + line + failures_text(states.failures, turns) + states.results_text()

@@ -200,7 +200,7 @@ def running_of(folder, words):
     if "--first" in options:
         running.to_the_end(others + 1)
     if "--turns" in options:
-        for unit in machine.turns_in(machine.read(f"{folder}/{options['--turns']}")):
+        for unit in machine.turns_in(machine.read_order(folder, options['--turns'])):
             if unit != last or "--then" not in options:
                 running.turn(unit)
     else:

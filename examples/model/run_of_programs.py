@@ -1,7 +1,7 @@
 """Programs without faults, and what `run` prints of them: docs/profile/programs.md."""
 import re
 
-from machine import CODES, Machine, printed, read, turns_in
+from machine import CODES, Machine, printed, read, read_order, turns_in
 from schema import Schema
 from script_faults import has_statement
 
@@ -236,7 +236,7 @@ def run(folder, words):
     if "--first" in options:
         runs.to_the_end(others + 1)
     if "--turns" in options:
-        for number in turns_in(read(f"{folder}/{options['--turns']}")):
+        for number in turns_in(read_order(folder, options['--turns'])):
             if not ("--then" in options and number == count):
                 runs.turn(number)
     else:
