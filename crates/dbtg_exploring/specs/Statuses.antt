@@ -1,6 +1,6 @@
 -- What `explore --statuses` prints: the statements of programs, each with the statuses that it gets.
 -- program is a program, text its text, u its unit, n the number of a line, rs are the replies that come.
-use Rattle.std.specs.Prelude.{ℕ, ◌==◌, ◌+◌, ◌-◌, ◌&&◌, Bool, true, false, List, [], ◌∷◌, ◌++◌, codes, decimal, drop, flat_map, length, replicate, if◌then◌else◌}
+use Rattle.std.specs.Prelude.{ℕ, ◌==◌, ◌+◌, ◌-◌, ◌&&◌, Bool, true, false, List, [], ◌∷◌, ◌++◌, codes, decimal, drop, flat_map, length, option_map, replicate, slice_get, unwrap_or, if◌then◌else◌}
 use Rattle.std.specs.Char.{is_ascii_whitespace}
 use Rattle.std.specs.List.{list_any, prefix_len}
 use Rattle.dbtg_explain.specs.FaultyWord.{line_at}
@@ -27,9 +27,13 @@ written text n = unindented (trimmed (line_at n text))
 abbrev pub is_to : ℕ → ℕ → Reply → Bool
 is_to u n r = r.unit == u && r.line == n
 
+-- the status of such a reply
+abbrev pub status_text : ℕ → ℕ → Reply → List ℕ
+status_text u n r = if is_to u n r then 32 ∷ four_digits r.status else []
+
 -- its statuses, or that no order makes it
 abbrev pub statuses_text : List Reply → ℕ → ℕ → List ℕ
-statuses_text rs u n = if list_any (is_to u n) rs then flat_map (λ r. if is_to u n r then 32 ∷ four_digits r.status else []) rs else codes " never made"
+statuses_text rs u n = if list_any (is_to u n) rs then flat_map (status_text u n) rs else codes " never made"
 
 -- a number at the right end of a column
 abbrev pub right_number : ℕ → ℕ → List ℕ
@@ -42,9 +46,7 @@ row_text width text rs u line =
 
 -- as wide as the number of the last line
 abbrev pub width_of : List Line → ℕ
-width_of [] = 0
-width_of (line ∷ []) = length (decimal line.number)
-width_of (line ∷ next ∷ lines) = width_of (next ∷ lines)
+width_of lines = unwrap_or (option_map (λ line. length (decimal line.number)) (slice_get lines (length lines - 1))) 0
 
 -- a program that meets the others: its number, and the rows of its statements
 abbrev pub program_rows : Around → ℕ → List Reply → ℕ → Program → List ℕ → List ℕ

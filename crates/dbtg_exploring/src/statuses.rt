@@ -1,10 +1,8 @@
 //! The text of the statements of programs, each with the statuses that it gets.
 
-ghost use Rattle.dbtg_explain.specs.FaultyWord.{line_at};
-ghost use Rattle.dbtg_exploring.specs.Statuses.{is_to, listing_text, program_rows, programs_rows, right_number, row_text, statuses_text, unindented, width_of, written};
-ghost use Rattle.dbtg_script.specs.Printing.Texts.{four_digits};
+ghost use Rattle.dbtg_exploring.specs.Statuses.{is_to, listing_text, program_rows, programs_rows, right_number, row_text, status_text, statuses_text, unindented, width_of, written};
 ghost use Rattle.std.specs.List.{list_any};
-ghost use Rattle.std.specs.Prelude.{◌≡◌, ◌≤◌, ◌++◌, ◌∷◌, [], IfOk, OnOk, decimal, flat_map, length, replicate, if◌then◌else◌};
+ghost use Rattle.std.specs.Prelude.{◌≡◌, ◌≤◌, ◌++◌, IfOk, OnOk, decimal, flat_map, length, replicate};
 
 use crate::setting::Setting;
 use crate::text::{push_each_failure, push_endless};
@@ -46,6 +44,17 @@ fn is_answered(replies: &[Reply], unit: u8, line: u64) -> bool
     replies.iter().any(|reply| is_to(unit, line, *reply))
 }
 
+// The status of a reply to the statement in a line.
+fn push_one_status(out: &mut Vec<u8>, reply: Reply, unit: u8, line: u64) -> Result<(), AllocError>
+    ensures { OnOk result (out.new.items ≡ out.old.items ++ status_text unit line reply) }
+{
+    if !is_to(unit, line, reply) {
+        return Ok(());
+    }
+    out.push(b' ')?;
+    push_status(out, reply.status)
+}
+
 // The statuses of the statement in a line.
 fn push_each_status(
     out: &mut Vec<u8>,
@@ -53,13 +62,10 @@ fn push_each_status(
     unit: u8,
     line: u64,
 ) -> Result<(), AllocError>
-    ensures { OnOk result (out.new.items ≡ out.old.items ++ flat_map (λ r. if is_to unit line r then 32 ∷ four_digits r.status else []) replies.now) }
+    ensures { OnOk result (out.new.items ≡ out.old.items ++ flat_map (status_text unit line) replies.now) }
 {
     for reply in replies {
-        if is_to(unit, line, *reply) {
-            out.push(b' ')?;
-            push_status(out, reply.status)?;
-        }
+        push_one_status(out, *reply, unit, line)?;
     }
     Ok(())
 }
@@ -134,13 +140,13 @@ struct Rows<'a> {
 impl<'a> Rows<'a> {
     // The row of a line, if it holds a statement.
     fn push_row(
-        self,
+        &self,
         alloc: Global,
         out: &mut Vec<u8>,
         width: usize,
         line: &Line,
     ) -> Result<(), AllocError>
-        ensures { OnOk result (out.new.items ≡ out.old.items ++ row_text width self.text.now self.replies.now self.unit line.now) }
+        ensures { OnOk result (out.new.items ≡ out.old.items ++ row_text width self.now.text.now self.now.replies.now self.now.unit line.now) }
     {
         if !is_statement(&line.sentence) {
             return Ok(());
@@ -156,8 +162,8 @@ impl<'a> Rows<'a> {
     }
 
     // The rows of all lines.
-    fn push_rows(self, alloc: Global, out: &mut Vec<u8>, lines: &[Line]) -> Result<(), AllocError>
-        ensures { OnOk result (out.new.items ≡ out.old.items ++ flat_map (row_text (width_of lines.now) self.text.now self.replies.now self.unit) lines.now) }
+    fn push_rows(&self, alloc: Global, out: &mut Vec<u8>, lines: &[Line]) -> Result<(), AllocError>
+        ensures { OnOk result (out.new.items ≡ out.old.items ++ flat_map (row_text (width_of lines.now) self.now.text.now self.now.replies.now self.now.unit) lines.now) }
     {
         let width = width_of(alloc, lines)?;
         for line in lines {
@@ -173,11 +179,11 @@ impl<'a> Setting<'a> {
         &self,
         alloc: Global,
         out: &mut Vec<u8>,
-        rows: Rows,
+        rows: &Rows,
         program: &Program,
     ) -> Result<(), AllocError>
         requires { length self.now.programs.now ≤ LAST_UNIT }
-        ensures { OnOk result (out.new.items ≡ out.old.items ++ program_rows self.now.asked.around (length self.now.programs.now) rows.replies.now rows.unit program.now rows.text.now) }
+        ensures { OnOk result (out.new.items ≡ out.old.items ++ program_rows self.now.asked.around (length self.now.programs.now) rows.now.replies.now rows.now.unit program.now rows.now.text.now) }
     {
         if !is_met(self.asked.around, self.programs.len() as u8, rows.unit) {
             return Ok(());
@@ -207,7 +213,7 @@ impl<'a> Setting<'a> {
                 unit: i as u8 + 1,
                 replies,
             };
-            self.push_program(alloc, out, rows, program)?;
+            self.push_program(alloc, out, &rows, program)?;
         }
         Ok(())
     }
