@@ -1,6 +1,6 @@
 -- What commands are handed of a call.
 use Rattle.std.specs.Borrow.{Bor}
-use Rattle.std.specs.Prelude.{ℕ, List, Bool, ◌&&◌, nat_le, not, option_map, true, false, if◌then◌else◌}
+use Rattle.std.specs.Prelude.{ℕ, List, Bool, ◌&&◌, not, true, false, if◌then◌else◌}
 use Rattle.dbtg_command.specs.declared.call.Call.{Call}
 use Rattle.dbtg_command.specs.declared.command.Named.{Named}
 use Rattle.dbtg_command.specs.declared.command.Named.TheVariants as named
@@ -30,11 +30,3 @@ answer_form call =
 -- which programs run before and after all others
 abbrev pub around : Call → Around
 around call = record { first = call.first; last = call.last }
-
--- a wish, as `explore` takes it; a unit past the last is as one that is not there
-abbrev pub wish_of : Wished → Wish
-wish_of wished = record { unit = if nat_le wished.unit LAST_UNIT then wished.unit else LAST_UNIT; line = wished.line; status = wished.status; never = wished.never }
-
--- what `explore` is asked for
-abbrev pub exploring : Call → Exploring
-exploring call = record { capacity = call.capacity; around = around call; brief = call.brief; statuses = call.replies; limit = call.limit; wish = option_map wish_of call.wish }

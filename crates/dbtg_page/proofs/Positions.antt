@@ -6,7 +6,8 @@ use Rattle.std.proofs.lemmas.Bool.Decides.{nat_tests}
 use Rattle.std.proofs.lemmas.List.{length-map}
 use Rattle.std.proofs.lemmas.List.Quantifiers.{position-Some}
 use Rattle.dbtg_page.specs.declared.changes.Kind.{Kind}
-use Rattle.dbtg_page.specs.Changes.{met, name_by, names, stays}
+use Rattle.dbtg_page.specs.Changes.{met, name_by, stays}
+use Rattle.dbtg_page.specs.Inside.Changes.{names}
 
 module _ {X Y : Type 0} (f : X → Y) where
   before_same : (test : Y → Bool) (xs : List X) → prefix_len (λ x. not (test (f x))) xs ≡ prefix_len (λ y. not (test y)) (map f xs)

@@ -7,7 +7,8 @@ use Rattle.dbtg_page.specs.declared.changes.Kind.{Kind}
 use Rattle.dbtg_page.specs.declared.changes.Kind.TheVariants.{Line, Word}
 use Rattle.dbtg_page.specs.declared.changes.Told.{Told}
 use Rattle.dbtg_page.specs.Json.{field}
-use Rattle.dbtg_page.specs.Changes.{Edit, behind_met, change_fields, edits, gone, left, line_ops, lines_left, met, name_by, names, op, ops, parts, texts, turned, word_edits, word_ops, words_left}
+use Rattle.dbtg_page.specs.Changes.{Edit, change_fields, edits, gone, line_ops, met, name_by, op, ops, parts, turned, word_edits, word_ops}
+use Rattle.dbtg_page.specs.Inside.Changes.{behind_met, left, lines_left, names, texts, words_left}
 use Rattle.dbtg_page.specs.Changes.Edit.{Stays, Comes, Turns}
 
 module _ {X : Type 0} (kind : Kind) (turn : List ℕ → List ℕ → Edit X) (wrap : List ℕ → List ℕ) (print : X → List ℕ) where

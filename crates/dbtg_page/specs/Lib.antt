@@ -1,3 +1,4 @@
 pub mod Changes
 pub mod Json
 pub mod Rows
+pub mod Inside

@@ -3,7 +3,8 @@ ghost use Rattle.std.specs.Prelude.{◌≡◌, ◌++◌, ◌+◌, ◌∷◌, ◌
 ghost use Rattle.std.specs.List.{list_any};
 ghost use Rattle.std.specs.Str.{bytes_eq};
 ghost use Rattle.dbtg_page.specs.Json.{field};
-ghost use Rattle.dbtg_page.specs.Changes.{ChangesLeadOn, change_fields, edits, gone, line_ops, lines_left, met, name_by, name_of, names, behind_met, op, parts, spaced, stays, turned, word_edits, word_ops, words_left};
+ghost use Rattle.dbtg_page.specs.Changes.{ChangesLeadOn, change_fields, edits, gone, line_ops, met, name_by, name_of, op, parts, spaced, stays, turned, word_edits, word_ops};
+ghost use Rattle.dbtg_page.specs.Inside.Changes.{lines_left, names, behind_met, words_left};
 
 use crate::json::push_field;
 use itoa::Buffer;

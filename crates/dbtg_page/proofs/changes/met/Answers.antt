@@ -1,5 +1,6 @@
 use Rattle.std.proofs.Common.{◌∙◌, false, sym, true}
-use Rattle.dbtg_page.specs.Changes.{name_by, names}
+use Rattle.dbtg_page.specs.Changes.{name_by}
+use Rattle.dbtg_page.specs.Inside.Changes.{names}
 use Rattle.dbtg_page.proofs.Positions.{met_none, met_some, placed}
 use Rattle.dbtg_page.proofs.changes.met.Goals as goal
 

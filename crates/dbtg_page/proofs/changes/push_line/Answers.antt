@@ -1,7 +1,8 @@
 use Rattle.std.proofs.Common.{◌<◌, ap, drop, length, arith}
 use Rattle.dbtg_page.specs.declared.changes.Kind.TheVariants.{Line}
 use Rattle.dbtg_page.specs.Json.{field}
-use Rattle.dbtg_page.specs.Changes.{lines_left, turned, word_ops}
+use Rattle.dbtg_page.specs.Changes.{turned, word_ops}
+use Rattle.dbtg_page.specs.Inside.Changes.{lines_left}
 use Rattle.dbtg_page.proofs.Telling.{both_ok, comes, line_met, met_moved, old_at}
 use Rattle.dbtg_page.proofs.changes.push_line.Goals as goal
 

@@ -2,7 +2,8 @@ use Rattle.std.proofs.Common.{◌≡◌, ◌++◌, ◌∙◌, ℕ, List, ap, sub
 use Rattle.std.specs.Prelude.{OnOk}
 use Rattle.dbtg_page.specs.declared.changes.Kind.TheVariants.{Line}
 use Rattle.dbtg_page.specs.Json.{field}
-use Rattle.dbtg_page.specs.Changes.{lines_left, turned, word_ops}
+use Rattle.dbtg_page.specs.Changes.{turned, word_ops}
+use Rattle.dbtg_page.specs.Inside.Changes.{lines_left}
 use Rattle.dbtg_page.proofs.Telling.{at_end}
 use Rattle.dbtg_page.proofs.changes.push_lines.Goals as goal
 

@@ -1,5 +1,5 @@
 use Rattle.std.proofs.Common.{◌≡◌, ◌≤◌, ◌++◌, drop, length}
-use Rattle.dbtg_page.specs.Changes.{lines_left}
+use Rattle.dbtg_page.specs.Inside.Changes.{lines_left}
 use Rattle.dbtg_page.proofs.changes.push_lines.Given as goal
 
 abbrev pub invariant-loop-i : goal.invariant-loop-i

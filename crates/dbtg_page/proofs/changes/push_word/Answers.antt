@@ -1,6 +1,7 @@
 use Rattle.std.proofs.Common.{refl}
 use Rattle.dbtg_page.specs.declared.changes.Kind.TheVariants.{Word}
-use Rattle.dbtg_page.specs.Changes.{spaced, words_left}
+use Rattle.dbtg_page.specs.Changes.{spaced}
+use Rattle.dbtg_page.specs.Inside.Changes.{words_left}
 use Rattle.dbtg_page.specs.Changes.Edit.{Stays}
 use Rattle.dbtg_page.proofs.Telling.{comes, met_moved, stays_on}
 use Rattle.dbtg_page.proofs.changes.push_word.Goals as goal

@@ -1,7 +1,8 @@
 use Rattle.std.proofs.Common.{◌≡◌, ◌++◌, ◌∙◌, ℕ, List, ap, subst}
 use Rattle.std.specs.Prelude.{OnOk}
 use Rattle.dbtg_page.specs.declared.changes.Kind.TheVariants.{Word}
-use Rattle.dbtg_page.specs.Changes.{spaced, words_left}
+use Rattle.dbtg_page.specs.Changes.{spaced}
+use Rattle.dbtg_page.specs.Inside.Changes.{words_left}
 use Rattle.dbtg_page.specs.Changes.Edit.{Stays}
 use Rattle.dbtg_page.proofs.Telling.{at_end}
 use Rattle.dbtg_page.proofs.changes.push_words.Goals as goal

@@ -1,5 +1,5 @@
 use Rattle.std.proofs.Common.{◌≡◌, ◌≤◌, ◌++◌, drop, length}
-use Rattle.dbtg_page.specs.Changes.{words_left}
+use Rattle.dbtg_page.specs.Inside.Changes.{words_left}
 use Rattle.dbtg_page.proofs.changes.push_words.Given as goal
 
 abbrev pub invariant-loop-i : goal.invariant-loop-i
