@@ -4,7 +4,8 @@ use Rattle.std.specs.Borrow.{Bor}
 use Rattle.dbtg_page.specs.declared.changes.Kind.{Kind}
 use Rattle.dbtg_page.specs.declared.changes.Kind.TheVariants.{Line, Word}
 use Rattle.dbtg_page.specs.declared.changes.Told.{Told}
-use Rattle.dbtg_page.specs.Changes.{Edit, Stays, edits, name_by, ops, spaced, turned, word_ops}
+use Rattle.dbtg_page.specs.Changes.{Edit, edits, name_by, ops, spaced, turned, word_ops}
+use Rattle.dbtg_page.specs.Changes.Edit.{Stays}
 use Rattle.dbtg_page.specs.Json.{field}
 
 -- these parts, and their names
