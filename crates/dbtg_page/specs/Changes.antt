@@ -1,11 +1,11 @@
 -- What changes from one text to the next: lines that come, lines that go, and in other lines words that come and go.
-use Rattle.std.specs.Prelude.{ℕ, zero, suc, ◌≡◌, ◌+◌, Bool, not, ◌||◌, ◌&&◌, ◌==◌, false, nat_le, List, [], ◌∷◌, ◌++◌, Option, Some, None, decimal, drop, if◌then◌else◌, length, map, option_and_then, option_map, position, slice_index_or, unwrap_or}
+use Rattle.std.specs.Prelude.{ℕ, zero, suc, ◌≡◌, ◌+◌, Bool, not, ◌||◌, ◌&&◌, ◌==◌, false, nat_le, List, []}
+use Rattle.std.specs.Prelude.{◌∷◌, ◌++◌, Option, Some, None, decimal, drop}
+use Rattle.std.specs.Prelude.{if◌then◌else◌, length, map, option_and_then, option_map, position, slice_index_or, unwrap_or}
 use Rattle.std.specs.List.{list_any}
-use Rattle.std.specs.Borrow.{Bor}
 use Rattle.std.specs.Str.{bytes_eq}
 use Rattle.dbtg_page.specs.declared.changes.Kind.{Kind}
 use Rattle.dbtg_page.specs.declared.changes.Kind.TheVariants.{Line, Word}
-use Rattle.dbtg_page.specs.declared.changes.Told.{Told}
 use Rattle.dbtg_page.specs.Json.{field}
 
 -- ---- the lines of a text, and the words of a line
@@ -69,13 +69,6 @@ edits name turn old (n ∷ ns) =
 abbrev pub name_by : Kind → List ℕ → List ℕ
 name_by Line part = name_of part
 name_by Word part = part
-
--- these parts, and their names
-abbrev pub texts : List (Bor (List ℕ)) → List (List ℕ)
-texts parts = map (λ p. p.now) parts
-
-abbrev pub names : Kind → List (Bor (List ℕ)) → List (List ℕ)
-names kind parts = map (name_by kind) (texts parts)
 
 -- from the words of a line to those of another: a member comes or goes at its place in its list, a current at its place in its unit
 abbrev pub word_edits : List ℕ → List ℕ → List (Edit ⊥)
@@ -142,19 +135,3 @@ line_ops stay es = ops field (word_ops 0) stay es
 -- the changes from one text to another as strings of a row
 unfoldable pub change_fields : List ℕ → List ℕ → List ℕ
 change_fields old new = line_ops 0 (changes old new)
-
--- ---- as far as it is told
-
--- how many stay since the last edit, and how many old parts are told, behind one that stays, before which so many go
-abbrev pub behind_met : Told → ℕ → Told
-behind_met told gone = record { stay = if gone == 0 then told.stay + 1 else 1; at = told.at + gone + 1 }
-
--- what is left to tell: of a list's parts, of words, and of lines
-abbrev pub left : {X : Type 0} → Kind → (List ℕ → List ℕ → Edit X) → (List ℕ → List ℕ) → (X → List ℕ) → Told → List (Bor (List ℕ)) → List (Bor (List ℕ)) → List ℕ
-left kind turn wrap print told old new = ops wrap print told.stay (edits (name_by kind) turn (texts (drop told.at old)) (texts new))
-
-unfoldable pub words_left : Told → List (Bor (List ℕ)) → List (Bor (List ℕ)) → List ℕ
-words_left told old new = left Word (λ old new. Stays) spaced (λ x. absurd x) told old new
-
-unfoldable pub lines_left : Told → List (Bor (List ℕ)) → List (Bor (List ℕ)) → List ℕ
-lines_left told old new = left Line turned field (word_ops 0) told old new
