@@ -13,7 +13,7 @@ use Rattle.dbtg_command.specs.declared.order.OrderKind.TheVariants as kind
 use Rattle.dbtg.specs.declared.timeline.Form.{Form}
 use Rattle.dbtg_replay.specs.Ordering.{AreFirstMoves, StandFor, first_turns, serial_turns}
 use Rattle.dbtg.specs.Picturing.{AreInOrder, IsPictured, TimelineHeld, has_events, picture}
-use Rattle.dbtg_command.specs.Refusals.{AcceptsOrder, is_count, turns_in}
+use Rattle.dbtg_command.specs.Refusals.{AcceptsOrder, is_count}
 use Rattle.dbtg_command.specs.Sources.{HoldsOrder, ReadMoves, ReadSchema, ReadScripts, ReadTurns, kind_of}
 use Rattle.dbtg_command.proofs.Public.{all_accepted, read_texts}
 

@@ -1,5 +1,5 @@
 -- What commands are handed of a call.
-use Rattle.std.specs.Prelude.{ℕ, ◌≡◌, List, Bool, ◌&&◌, not, true, false, if◌then◌else◌}
+use Rattle.std.specs.Prelude.{ℕ, ◌≡◌, List, Bool, ◌&&◌, not, if◌then◌else◌}
 use Rattle.dbtg_command.specs.declared.call.Call.{Call}
 use Rattle.dbtg_command.specs.declared.command.Named.{Named}
 use Rattle.dbtg_command.specs.declared.command.Named.TheVariants as named
