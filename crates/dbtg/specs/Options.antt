@@ -1,6 +1,5 @@
 -- What commands are handed of a call.
-use Rattle.std.specs.Borrow.{Bor}
-use Rattle.std.specs.Prelude.{ℕ, List, Bool, ◌&&◌, not, true, false, if◌then◌else◌}
+use Rattle.std.specs.Prelude.{ℕ, ◌≡◌, List, Bool, ◌&&◌, not, if◌then◌else◌}
 use Rattle.dbtg_command.specs.declared.call.Call.{Call}
 use Rattle.dbtg_command.specs.declared.command.Named.{Named}
 use Rattle.dbtg_command.specs.declared.command.Named.TheVariants as named
@@ -14,13 +13,14 @@ use Rattle.dbtg.specs.declared.timeline.Form.TheVariants as form
 abbrev pub explains_refusals : Call → Bool
 explains_refusals call = call.explains && not call.no_explain
 
--- how a picture is drawn, by the command and what it is given; a page names its files
-abbrev pub drawn : Named → Bor (List (List ℕ)) → Call → Form
-drawn named.Page files call = form.Page files
-drawn _ files call = if call.svg then form.Svg (explains_refusals call) else form.Text (explains_refusals call)
+-- how a picture is drawn, by the command and what it is given; a page names these files
+abbrev pub IsDrawn : Named → List (List ℕ) → Call → Form → Type 0
+IsDrawn named.Page files call (form.Page its) = its.now ≡ files
+IsDrawn named.Page files call _ = ⊥
+IsDrawn _ files call drawn = drawn ≡ (if call.svg then form.Svg (explains_refusals call) else form.Text (explains_refusals call))
 
-abbrev pub picture_form : Bor (List (List ℕ)) → Call → Form
-picture_form files call = drawn call.named files call
+abbrev pub IsPictureForm : List (List ℕ) → Call → Form → Type 0
+IsPictureForm files call drawn = IsDrawn call.named files call drawn
 
 -- how answers are printed
 abbrev pub answer_form : Call → AnswerForm

@@ -32,8 +32,10 @@ events_shown true lists capacity scripts moves = map (noted (said_of_run lists c
 
 -- the run of these moves: as plain text, as SVG, or as a page, which begins after those before
 abbrev pub picture : Form → Lists → ℕ → List (List Statement) → List (List ℕ) → Bool → ℕ → List Move → List ℕ
-picture (Text explained) lists capacity scripts texts events before moves = timeline_text (map statement_lines texts) (events_shown explained lists capacity scripts moves)
-picture (Svg explained) lists capacity scripts texts events before moves = timeline_svg (map statement_lines texts) (events_shown explained lists capacity scripts moves)
+picture (Text explained) lists capacity scripts texts events before moves = timeline_text (map statement_lines texts)
+    (events_shown explained lists capacity scripts moves)
+picture (Svg explained) lists capacity scripts texts events before moves = timeline_svg (map statement_lines texts)
+    (events_shown explained lists capacity scripts moves)
 picture (Page files) lists capacity scripts texts events before moves =
     page_text lists capacity scripts (record { files = files.now; scripts = map statement_lines texts; causes = CAUSES.now }) events before moves
 
@@ -54,7 +56,8 @@ abbrev pub AreBefore : Bool → Lists → ℕ → List (List Statement) → ℕ 
 AreBefore first lists capacity scripts count = (before : List Move) × AreFirstMoves first lists capacity scripts before × (count ≡ length before)
 
 -- the text shows the run of such moves
-pub record IsPictured (lists : Lists) (capacity : ℕ) (scripts : List (List Statement)) (texts : List (List ℕ)) (form : Form) (events : Bool) (first : Bool) (Are : List Move → Type 0) (out : List ℕ) : Type 0 where
+pub record IsPictured (lists : Lists) (capacity : ℕ) (scripts : List (List Statement)) (texts : List (List ℕ)) (form : Form)
+    (events first : Bool) (Are : List Move → Type 0) (out : List ℕ) : Type 0 where
   pub moves : List Move
   pub are : Are moves
   pub before : ℕ
@@ -66,7 +69,8 @@ pub record IsTimeline (first : Bool) (text : List ℕ) (scripts : List (List ℕ
   pub count : is_count (length scripts) ≡ true
   pub texts : AcceptsTexts text scripts
   pub order_too : AcceptsOrder order
-  pub pictured : IsPictured (schema_in text) capacity (map (script (schema_in text)) scripts) scripts form (has_events order) first (AreInOrder first (schema_in text) capacity (map (script (schema_in text)) scripts) order) out
+  pub pictured : IsPictured (schema_in text) capacity (map (script (schema_in text)) scripts) scripts form (has_events order) first (AreInOrder first
+      (schema_in text) capacity (map (script (schema_in text)) scripts) order) out
 
 -- what `timeline` and `page` print of texts that are held
 abbrev pub TimelineHeld : (TextPlace → List ℕ → Type 0) → ℕ → OrderKind → Bool → ℕ → Form → List ℕ → Type 0

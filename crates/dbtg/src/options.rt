@@ -1,7 +1,7 @@
 //! What each command is handed of a call.
 
 ghost use Rattle.std.specs.Prelude.{◌≡◌, ◌&&◌, not};
-ghost use Rattle.dbtg.specs.Options.{answer_form, around, explains_refusals, picture_form};
+ghost use Rattle.dbtg.specs.Options.{IsPictureForm, answer_form, around, explains_refusals};
 
 use crate::timeline::Form;
 use dbtg_command::{Call, Named, Wished};
@@ -22,7 +22,7 @@ pub fn explains_refusals(call: &Call) -> bool
 
 /// How a picture is drawn. A page has the names of these files.
 pub fn picture_form<'a>(call: &Call, files: &'a [Row<u8>]) -> Form<'a>
-    ensures { result ≡ picture_form files call.now }
+    ensures { IsPictureForm files.now call.now result }
 {
     let explained = explains_refusals(call);
     match call.named {

@@ -116,7 +116,8 @@ fn picture_of_moves(
     requires sound { IsSound schema.now }
     requires units { length scripts.statements ≤ LAST_UNIT }
     requires fit { scripts_fit schema.now scripts.statements ≡ true }
-    ensures { IfOk result (λ out. out.items ≡ picture form.now schema.now capacity scripts.statements scripts.texts steps.now.events steps.now.before steps.now.moves.now) }
+    ensures { IfOk result (λ out. out.items
+        ≡ picture form.now schema.now capacity scripts.statements scripts.texts steps.now.events steps.now.before steps.now.moves.now) }
 {
     let Scripts { statements, texts } = scripts;
     let lines = texts_of_statements(alloc, texts.as_slice())?;
@@ -173,7 +174,8 @@ fn picture_of_turns(
     requires sound { IsSound schema.now }
     requires units { length scripts.statements ≤ LAST_UNIT }
     requires fit { scripts_fit schema.now scripts.statements ≡ true }
-    ensures { IfOk result (λ out. IsPictured schema.now capacity scripts.statements scripts.texts form.now false turns.now.first (StandFor schema.now capacity scripts.statements (first_turns turns.now.first scripts.statements ++ turns.now.given.now)) out.items) }
+    ensures { IfOk result (λ out. IsPictured schema.now capacity scripts.statements scripts.texts form.now false turns.now.first
+        (StandFor schema.now capacity scripts.statements (first_turns turns.now.first scripts.statements ++ turns.now.given.now)) out.items) }
 {
     let statements = scripts.statements.as_slice();
     let all = turns_behind_first(alloc, turns.first, statements, turns.given)?;

@@ -53,11 +53,13 @@ pub text_shown : (c : CoreParts) → state_text c.schema (image_of c.schema c.ca
 unfolding core_text
 text_shown c = ap (λ (s : State). state_text c.schema (image_of c.schema c.capacity s.database) s.units) (sequential_shown c)
 
-pub answer_shown : (c : CoreParts) (schema : Lists) → c.schema ≡ schema → newest_answer schema c.history ≡ newest_answer c.schema (map entry_of (machine c).state.history)
+pub answer_shown : (c : CoreParts) (schema : Lists) → c.schema ≡ schema → newest_answer schema c.history
+    ≡ newest_answer c.schema (map entry_of (machine c).state.history)
 answer_shown c schema same = ap (λ (s : Lists). newest_answer s c.history) (sym same) ∙ ap (newest_answer c.schema) (history_shown c)
 
 -- one more move: its rows come before those of the rest
-pub move_shown : (events : Bool) (shown then : List ℕ) (out more : List ℕ) (old new : CoreState) (m : Move) (ms rest : List Move) (whole : List ℕ) → ms ≡ m ∷ rest → new ≡ after_move old m
+pub move_shown : (events : Bool) (shown then : List ℕ) (out more : List ℕ) (old new : CoreState) (m : Move) (ms rest : List Move) (whole : List ℕ) → ms
+    ≡ m ∷ rest → new ≡ after_move old m
     → then ≡ shown_behind (after_move old m) shown (event_of_move old m).mark
     → more ≡ out ++ move_rows events shown old m → out ++ rows_of_moves events shown old ms ≡ whole → more ++ rows_of_moves events then new rest ≡ whole
 move_shown events shown then out more old new m ms rest whole split moved shows pushed before =
@@ -69,6 +71,7 @@ move_shown events shown then out more old new m ms rest whole split moved shows 
 
 -- one move more before the page begins
 pub passed : (events : Bool) (old new start : CoreState) (m : Move) (ms rest before : List Move) → ms ≡ m ∷ rest → new ≡ after_move old m
-    → ((moves : List Move) → run_rows events old ms moves ≡ run_rows events start before moves) → (moves : List Move) → run_rows events new rest moves ≡ run_rows events start before moves
+    → ((moves : List Move) → run_rows events old ms moves ≡ run_rows events start before moves) → (moves : List Move) → run_rows events new rest moves
+    ≡ run_rows events start before moves
 passed events old new start m ms rest before split moved so_far moves =
     ap (λ (c : CoreState). run_rows events c rest moves) moved ∙ ap (λ (xs : List Move). run_rows events old xs moves) (sym split) ∙ so_far moves

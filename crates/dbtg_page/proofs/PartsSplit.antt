@@ -22,10 +22,12 @@ module _ (mark : ℕ) where
   whole_is (b ∷ bs) each = starts b bs (each 0 (omega arith)) ∙ ap (onto_part b) (whole_is bs (λ k h. each (suc k) (omega arith)))
 
   -- what stands before the first mark is a part
-  pub part_is : (n : ℕ) (t : List ℕ) → n < length t → ((k : ℕ) → k < n → get_or t k 0 ≡ mark → ⊥) → get_or t n 0 ≡ mark → parts mark t ≡ take n t ∷ parts mark (drop 1 (drop n t))
+  pub part_is : (n : ℕ) (t : List ℕ) → n < length t → ((k : ℕ) → k < n → get_or t k 0 ≡ mark → ⊥) → get_or t n 0 ≡ mark → parts mark t
+      ≡ take n t ∷ parts mark (drop 1 (drop n t))
   part_is n [] lt each is = absurd (omega arith)
   part_is zero (b ∷ bs) lt each is = ends b bs is
-  part_is (suc n) (b ∷ bs) lt each is = starts b bs (each 0 (omega arith)) ∙ ap (onto_part b) (part_is n bs (omega arith) (λ k h. each (suc k) (omega arith)) is)
+  part_is (suc n) (b ∷ bs) lt each is = starts b bs (each 0 (omega arith)) ∙ ap (onto_part b) (part_is n bs (omega arith) (λ k h. each (suc k)
+      (omega arith)) is)
 
   -- ---- joined again
 
@@ -60,6 +62,7 @@ module _ (mark : ℕ) where
           ap (joined mark) (ends b bs e) ∙ join_none (parts mark bs) (some_parts bs) ∙ ap (λ t. mark ∷ t) again ∙ ap (λ c. c ∷ bs) (sym e)
       by again false h = ap (joined mark) (starts b bs (eqb-false b mark h)) ∙ join_onto b (parts mark bs) (some_parts bs) ∙ ap (λ t. b ∷ t) again
 
-  pub next_part : (n : ℕ) (text part tail : List ℕ) → n < length text → ((k : ℕ) → k < n → get_or text k 0 ≡ mark → ⊥) → get_or text n 0 ≡ mark → part ≡ take n text → tail ≡ drop n text
+  pub next_part : (n : ℕ) (text part tail : List ℕ) → n < length text → ((k : ℕ) → k < n → get_or text k 0 ≡ mark → ⊥) → get_or text n 0 ≡ mark → part
+      ≡ take n text → tail ≡ drop n text
       → parts mark text ≡ part ∷ parts mark (drop 1 tail)
   next_part n text part tail lt each is p t = rw (p, t) (part_is n text lt each is)

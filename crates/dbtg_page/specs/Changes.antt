@@ -1,11 +1,11 @@
 -- What changes from one text to the next: lines that come, lines that go, and in other lines words that come and go.
-use Rattle.std.specs.Prelude.{ℕ, zero, suc, ◌≡◌, ◌+◌, Bool, not, ◌||◌, ◌&&◌, ◌==◌, false, nat_le, List, [], ◌∷◌, ◌++◌, Option, Some, None, decimal, drop, if◌then◌else◌, length, map, option_and_then, option_map, position, slice_index_or, unwrap_or}
+use Rattle.std.specs.Prelude.{ℕ, zero, suc, ◌≡◌, ◌+◌, Bool, not, ◌||◌, ◌&&◌, ◌==◌, false, nat_le, List, []}
+use Rattle.std.specs.Prelude.{◌∷◌, ◌++◌, Option, Some, None, decimal, drop}
+use Rattle.std.specs.Prelude.{if◌then◌else◌, length, map, option_and_then, option_map, position, slice_index_or, unwrap_or}
 use Rattle.std.specs.List.{list_any}
-use Rattle.std.specs.Borrow.{Bor}
 use Rattle.std.specs.Str.{bytes_eq}
 use Rattle.dbtg_page.specs.declared.changes.Kind.{Kind}
 use Rattle.dbtg_page.specs.declared.changes.Kind.TheVariants.{Line, Word}
-use Rattle.dbtg_page.specs.declared.changes.Told.{Told}
 use Rattle.dbtg_page.specs.Json.{field}
 
 -- ---- the lines of a text, and the words of a line

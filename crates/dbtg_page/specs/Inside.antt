@@ -1,3 +1,3 @@
--- What no contract of an exported function reaches: how far the code has come. Nobody has to believe it.
+-- What no contract of an exported function reaches: how the code tells changes, part by part. Nobody has to believe it.
 -- May use: the definitions beside this folder, which name nothing of it.
-pub mod Changes
+pub mod Telling

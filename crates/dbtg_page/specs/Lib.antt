@@ -1,4 +1,4 @@
 pub mod Changes
+pub mod Inside
 pub mod Json
 pub mod Rows
-pub mod Inside

@@ -1,7 +1,8 @@
 -- The page of a run: what surrounds its data, and their rows: one for the names of files and of each part of the schema, one for the
 -- table of causes, one for the statements of each script, one for the database where the page begins, one for each event if events are
 -- shown, and one for each ticket, with what it changes.
-use Rattle.std.specs.Prelude.{ℕ, Bool, true, false, ◌-◌, List, [], ◌∷◌, ◌++◌, codes, decimal, drop, length, map, option_and_then, option_map, slice_get, take, unwrap_or}
+use Rattle.std.specs.Prelude.{ℕ, Bool, true, false, ◌-◌, List, [], ◌∷◌, ◌++◌}
+use Rattle.std.specs.Prelude.{codes, decimal, drop, length, map, option_and_then, option_map, slice_get, take, unwrap_or}
 use Rattle.std.specs.List.{flat_map}
 use Rattle.dbtg_schema.specs.Lists.{Lists}
 use Rattle.dbtg_unit.specs.Database.State.Image.{Image, image_of}
@@ -103,7 +104,8 @@ move_rows events shown c m = event_rows events (after_move c m) (event_of_move c
 -- the rows of moves, one after another
 abbrev pub rows_of_moves : Bool → List ℕ → CoreState → List Move → List ℕ
 rows_of_moves events shown c [] = []
-rows_of_moves events shown c (m ∷ ms) = move_rows events shown c m ++ rows_of_moves events (shown_behind (after_move c m) shown (event_of_move c m).mark) (after_move c m) ms
+rows_of_moves events shown c (m ∷ ms) = move_rows events shown c m ++ rows_of_moves events (shown_behind (after_move c m) shown (event_of_move c m).mark)
+    (after_move c m) ms
 
 -- after moves that are not shown, the database there, and then the other moves
 abbrev pub run_rows : Bool → CoreState → List Move → List Move → List ℕ

@@ -1,10 +1,12 @@
 //! What changes from one text to the next: lines that come, lines that go, and in other lines words that come and go.
-ghost use Rattle.std.specs.Prelude.{◌≡◌, ◌++◌, ◌+◌, ◌∷◌, ◌<◌, ◌≤◌, ℕ, [], IfOk, MatchOption, OnOk, ⊤, decimal, drop, false, length, map, true, ◌-◌, position, slice_index};
+ghost use Rattle.std.specs.Prelude.{◌≡◌, ◌++◌, ◌+◌, ◌∷◌, ◌<◌, ◌≤◌, ℕ, [], IfOk, MatchOption};
+ghost use Rattle.std.specs.Prelude.{OnOk, ⊤, decimal, drop, false, length, map, true, ◌-◌, position, slice_index};
 ghost use Rattle.std.specs.List.{list_any};
 ghost use Rattle.std.specs.Str.{bytes_eq};
 ghost use Rattle.dbtg_page.specs.Json.{field};
-ghost use Rattle.dbtg_page.specs.Changes.{ChangesLeadOn, change_fields, edits, gone, line_ops, met, name_by, name_of, op, parts, spaced, stays, turned, word_edits, word_ops};
-ghost use Rattle.dbtg_page.specs.Inside.Changes.{lines_left, names, behind_met, words_left};
+ghost use Rattle.dbtg_page.specs.Changes.{ChangesLeadOn, change_fields, edits, gone, line_ops, met, name_by};
+ghost use Rattle.dbtg_page.specs.Changes.{name_of, op, parts, spaced, stays, turned, word_edits, word_ops};
+ghost use Rattle.dbtg_page.specs.Inside.Telling.{lines_left, names, behind_met, words_left};
 
 use crate::json::push_field;
 use itoa::Buffer;
@@ -226,7 +228,8 @@ fn push_word(out: &mut Vec<u8>, told: Told, both: &Both<'_>, i: usize) -> Result
     requires old { told.at ≤ length both.now.before.now }
     requires stay { told.stay ≤ told.at }
     requires new { i < length both.now.after.now }
-    ensures text { IfOk result (λ then. out.new.items ++ words_left then both.now.before.now (drop (i + 1) both.now.after.now) ≡ out.old.items ++ words_left told both.now.before.now (drop i both.now.after.now)) }
+    ensures text { IfOk result (λ then. out.new.items ++ words_left then both.now.before.now (drop (i + 1) both.now.after.now)
+        ≡ out.old.items ++ words_left told both.now.before.now (drop i both.now.after.now)) }
     ensures within { IfOk result (λ then. (then.at ≤ length both.now.before.now) × (then.stay ≤ then.at)) }
 {
     let (old, new) = (both.before, both.after);
@@ -305,7 +308,8 @@ fn push_line(
     requires old { told.at ≤ length both.now.before.now }
     requires stay { told.stay ≤ told.at }
     requires new { i < length both.now.after.now }
-    ensures text { IfOk result (λ then. out.new.items ++ lines_left then both.now.before.now (drop (i + 1) both.now.after.now) ≡ out.old.items ++ lines_left told both.now.before.now (drop i both.now.after.now)) }
+    ensures text { IfOk result (λ then. out.new.items ++ lines_left then both.now.before.now (drop (i + 1) both.now.after.now)
+        ≡ out.old.items ++ lines_left told both.now.before.now (drop i both.now.after.now)) }
     ensures within { IfOk result (λ then. (then.at ≤ length both.now.before.now) × (then.stay ≤ then.at)) }
 {
     let (old, new) = (both.before, both.after);
@@ -340,7 +344,8 @@ fn push_met(
 ) -> Result<Told, AllocError>
     requires { 0 < then.stay }
     ensures stays { IfOk result (λ told. bytes_eq old.now new.now ≡ true → (told ≡ then) × (out.new.items ≡ out.old.items)) }
-    ensures turns { IfOk result (λ told. bytes_eq old.now new.now ≡ false → (told ≡ record { stay = 0; at = then.at }) × (out.new.items ≡ out.old.items ++ field (op (then.stay - 1) 126 (word_ops 0 (word_edits old.now new.now))))) }
+    ensures turns { IfOk result (λ told. bytes_eq old.now new.now ≡ false → (told ≡ record { stay = 0; at = then.at }) × (out.new.items
+        ≡ out.old.items ++ field (op (then.stay - 1) 126 (word_ops 0 (word_edits old.now new.now))))) }
 {
     if old == new {
         return Ok(then);

@@ -14,7 +14,8 @@ ghost use Rattle.dbtg_unit.specs.declared.moves.Move.{Move};
 ghost use Rattle.dbtg_timeline.specs.Events.{event_of_move};
 ghost use Rattle.dbtg_timeline.specs.Watching.{opening_core};
 ghost use Rattle.dbtg_page.specs.Json.{row};
-ghost use Rattle.dbtg_page.specs.Rows.{about_event, change_row, core_text, event_row, event_rows, front_rows, move_rows, newest_answer, newest_area, newest_cell, page_text, rows_of_moves, run_rows, shown_behind, ticket_row};
+ghost use Rattle.dbtg_page.specs.Rows.{about_event, change_row, core_text, event_row, event_rows, front_rows, move_rows};
+ghost use Rattle.dbtg_page.specs.Rows.{newest_answer, newest_area, newest_cell, page_text, rows_of_moves, run_rows, shown_behind, ticket_row};
 
 use crate::changes::push_changes;
 use crate::json::{push_end, push_field, push_kind, push_row, push_row_of_one};
@@ -100,7 +101,8 @@ fn push_scripts(out: &mut Vec<u8>, scripts: &[Row<Row<u8>>]) -> Result<(), Alloc
 
 #[tactic(auto, unfolding(crate::specs::Rows::front_rows))]
 fn push_front(out: &mut Vec<u8>, schema: &Schema, told: &Told<'_>) -> Result<(), AllocError>
-    ensures { OnOk result (out.new.items ≡ out.old.items ++ front_rows schema.now (record { files = told.now.files.now; scripts = told.now.scripts.now; causes = told.now.causes.now })) }
+    ensures { OnOk result (out.new.items
+        ≡ out.old.items ++ front_rows schema.now (record { files = told.now.files.now; scripts = told.now.scripts.now; causes = told.now.causes.now })) }
 {
     push_row(out, b"FILES", told.files)?;
     push_types(out, schema.types())?;
@@ -293,7 +295,8 @@ fn push_move(
     requires units { length core.old.runners ≡ setting.now.units }
     ensures core { OnOk result (machine core.new ≡ after_move (machine core.old) one) }
     ensures text { OnOk result (out.new.items ≡ out.old.items ++ move_rows setting.now.events shown.old.items (machine core.old) one) }
-    ensures shown { OnOk result (shown.new.items ≡ shown_behind (after_move (machine core.old) one) shown.old.items (event_of_move (machine core.old) one).mark) }
+    ensures shown { OnOk result (shown.new.items
+        ≡ shown_behind (after_move (machine core.old) one) shown.old.items (event_of_move (machine core.old) one).mark) }
 {
     let event = watch_move(setting.alloc, core, one)?;
     push_shown_event(out, setting, core, &event)?;
@@ -351,7 +354,8 @@ fn behind_first(moves: &[Move], count: usize) -> &[Move]
 fn pass(setting: &Setting<'_>, core: &mut Core, before: &[Move]) -> Result<(), AllocError>
     requires schema { core.old.schema ≡ setting.now.schema.now }
     requires units { length core.old.runners ≡ setting.now.units }
-    ensures run { OnOk result ((moves : List Move) → run_rows setting.now.events (machine core.new) [] moves ≡ run_rows setting.now.events (machine core.old) before.now moves) }
+    ensures run { OnOk result ((moves : List Move) → run_rows setting.now.events (machine core.new) [] moves
+        ≡ run_rows setting.now.events (machine core.old) before.now moves) }
     ensures schema { OnOk result (core.new.schema ≡ setting.now.schema.now) }
     ensures units { OnOk result (length core.new.runners ≡ setting.now.units) }
 {
@@ -374,7 +378,9 @@ fn push_whole_run(
     requires units { length statements ≡ setting.now.units }
     requires few { length statements ≤ LAST_UNIT }
     requires fit { scripts_fit setting.now.schema.now statements ≡ true }
-    ensures { OnOk result (out.new.items ≡ out.old.items ++ run_rows setting.now.events (opening_core setting.now.schema.now capacity statements) (take steps.now.before steps.now.moves.now) (drop steps.now.before steps.now.moves.now)) }
+    ensures { OnOk result (out.new.items
+        ≡ out.old.items ++ run_rows setting.now.events (opening_core setting.now.schema.now capacity statements)
+        (take steps.now.before steps.now.moves.now) (drop steps.now.before steps.now.moves.now)) }
 {
     let mut core = Core::new(setting.alloc, setting.schema, capacity, statements)?;
     pass(setting, &mut core, first_of(steps.moves, steps.before))?;
@@ -399,7 +405,9 @@ pub fn page_text(
     requires sound { IsSound schema.now }
     requires units { length statements ≤ LAST_UNIT }
     requires fit { scripts_fit schema.now statements ≡ true }
-    ensures { IfOk result (λ text. text.items ≡ page_text schema.now capacity statements (record { files = told.now.files.now; scripts = told.now.scripts.now; causes = told.now.causes.now }) steps.now.events steps.now.before steps.now.moves.now) }
+    ensures { IfOk result (λ text. text.items
+        ≡ page_text schema.now capacity statements
+        (record { files = told.now.files.now; scripts = told.now.scripts.now; causes = told.now.causes.now }) steps.now.events steps.now.before steps.now.moves.now) }
 {
     let setting = Setting {
         alloc,

@@ -14,5 +14,6 @@ returns-clause-parts c =
     let r = c.part_len.ensures in
     let some = c.in_ok-rest.ensures.cases in
     let lt : c.part_len.result < length c.args.text.now = omega (arith, ap length some.0, c.split_at.ensures.back_len) in
-    next_part c.args.mark c.part_len.result c.args.text.now c.split_at.result.0.now c.split_at.result.1.now lt r.inside (r.stops lt) c.split_at.ensures.front c.split_at.ensures.back
+    next_part c.args.mark c.part_len.result c.args.text.now c.split_at.result.0.now c.split_at.result.1.now lt r.inside
+    (r.stops lt) c.split_at.ensures.front c.split_at.ensures.back
     ∙ ap (λ t. c.split_at.result.0.now ∷ parts c.args.mark (drop 1 t)) some.0

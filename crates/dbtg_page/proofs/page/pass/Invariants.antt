@@ -6,7 +6,8 @@ use Rattle.dbtg_page.proofs.page.pass.Given as goal
 
 abbrev pub invariant-loop-one : goal.invariant-loop-one
 invariant-loop-one l = record {
-  run : (moves : List Move) → run_rows l.setting.events (machine l.core) (drop l.one-index l.before) moves ≡ run_rows l.setting.events (machine l.initial.core) l.before moves;
+  run : (moves : List Move) → run_rows l.setting.events (machine l.core) (drop l.one-index l.before) moves
+      ≡ run_rows l.setting.events (machine l.initial.core) l.before moves;
   schema : l.core.schema ≡ l.setting.schema.now;
   units : length l.core.runners ≡ l.setting.units;
 }

@@ -10,7 +10,8 @@ loop-one-preserved c =
     let i = c.loop-one.one-index in
     let moved = c.in_ok-push_move.ensures in
     record {
-      text = move_shown c.args.setting.now.events c.loop-one.shown.items _ c.loop-one.out.items _ (machine c.loop-one.core) _ _ (drop i moves) (drop (i + 1) moves) _ (drop_more moves i _ c.loop-one-test.true) moved.core moved.shown moved.text c.loop-one.invariant.text;
+      text = move_shown c.args.setting.now.events c.loop-one.shown.items _ c.loop-one.out.items _ (machine c.loop-one.core) _ _ (drop i moves) (drop
+          (i + 1) moves) _ (drop_more moves i _ c.loop-one-test.true) moved.core moved.shown moved.text c.loop-one.invariant.text;
       schema = same_schema c.loop-one.core _ _ moved.core ∙ c.loop-one.invariant.schema;
       units = same_count c.loop-one.core _ _ moved.core ∙ c.loop-one.invariant.units;
     }
