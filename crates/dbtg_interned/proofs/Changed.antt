@@ -90,9 +90,9 @@ module _ (old mid new : List (List ℕ)) (ns kids below : List ℕ) (place eleme
   }
 
 -- how many nodes are made
-few_below : (place k : ℕ) → place < 4 * 12 ^ suc k → rest_of place < 4 * 12 ^ k
-few_below place k low = omega (arith, low, pow-suc 12 k)
+few_below : (place k : ℕ) → place < 4 * 4 ^ suc k → rest_of place < 4 * 4 ^ k
+few_below place k low = omega (arith, low, pow-suc 4 k)
 
-pub few_entered : (place old mid new : ℕ) → 4 ≤ place → ((k : ℕ) → rest_of place < 4 * 12 ^ k → mid ≤ old + k) → new ≤ mid + 1 → (k : ℕ) → place < 4 * 12 ^ k → new ≤ old + k
+pub few_entered : (place old mid new : ℕ) → 4 ≤ place → ((k : ℕ) → rest_of place < 4 * 4 ^ k → mid ≤ old + k) → new ≤ mid + 1 → (k : ℕ) → place < 4 * 4 ^ k → new ≤ old + k
 few_entered place old mid new high few one zero low = absurd (omega (arith, high, low))
 few_entered place old mid new high few one (suc k) low = omega (arith, few k (few_below place k low), one)

@@ -93,7 +93,7 @@ module _ {K : Type 0} (items : K → List ℕ) where
     pub more_are_nodes : AreNodes (map items ks) → IsNode (map items ks) (items k) → IsDistinct alike new → AreNodes (map items new)
     more_are_nodes are node d =
         record {
-          zeros_first = stays_list (map items ks) (map items new) 0 (replicate 16 0) keeps_keys are.zeros_first;
+          zeros_first = stays_list (map items ks) (map items new) 0 (replicate 8 0) keeps_keys are.zeros_first;
           width = λ i l h. elim (adds_key i l h) [
             | inl e ↦ are.width i l e
             | inr e ↦ ap length e ∙ node.width

@@ -7,29 +7,29 @@ use Rattle.dbtg_interned.specs.Inside.Changed.{IsNode}
 use Rattle.dbtg_interned.specs.Kept.{IsOnce, Keeps}
 use Rattle.dbtg_interned.specs.Inside.Mixed.{mixed}
 
--- node 1 has the elements 0, 0, 0 and 5; node 2 has 7 at place 0, and node 1 as the third of its 12 nodes; node 3 has as its first node one that is not there
+-- node 1 has the elements 0, 0, 0 and 5; node 2 has 7 at place 0, and node 1 as the third of its 4 nodes; node 3 has as its first node one that is not there
 abbrev nodes : List (List ℕ)
 nodes =
-    replicate 16 0
-    ∷ slice_set (replicate 16 0) 3 5
-    ∷ slice_set (slice_set (replicate 16 0) 0 7) 6 1
-    ∷ slice_set (replicate 16 0) 4 4 ∷ []
+    replicate 8 0
+    ∷ slice_set (replicate 8 0) 3 5
+    ∷ slice_set (slice_set (replicate 8 0) 0 7) 6 1
+    ∷ slice_set (replicate 8 0) 4 4 ∷ []
 
 -- the first places are the node's own
 own_place : tree_element nodes (numbers_of nodes 2) 0 ≡ 7
 own_place = refl
 
--- the third node has the places 6, 18, 30, 42, ..: its place 3 is 4 + 2 + 3 * 12
-dealt_place : tree_element nodes (numbers_of nodes 2) 42 ≡ 5
+-- the third node has the places 6, 10, 14, 18, ..: its place 3 is 4 + 2 + 3 * 4
+dealt_place : tree_element nodes (numbers_of nodes 2) 18 ≡ 5
 dealt_place = refl
 
 -- the place before it is dealt to the second node, which is node 0
-place_before : tree_element nodes (numbers_of nodes 2) 41 ≡ 0
+place_before : tree_element nodes (numbers_of nodes 2) 17 ≡ 0
 place_before = refl
 
--- five places of arrays: the second stands at place 42 of the trees, the fourth at place 0, and three stand nowhere
+-- five places of arrays: the second stands at place 18 of the trees, the fourth at place 0, and three stand nowhere
 abbrev five : KeptArrays
-five = record { nodes = nodes; places = 0 ∷ 43 ∷ 0 ∷ 1 ∷ 0 ∷ []; used = 43 }
+five = record { nodes = nodes; places = 0 ∷ 19 ∷ 0 ∷ 1 ∷ 0 ∷ []; used = 19 }
 
 five_elements : elements five 2 ≡ 0 ∷ 5 ∷ 0 ∷ 7 ∷ 0 ∷ []
 five_elements = refl

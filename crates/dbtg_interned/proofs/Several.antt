@@ -23,7 +23,7 @@ pub record AreChanged (a now : KeptArrays) (cs : List (ℕ × ℕ)) (i : ℕ) (e
   pub sound : AreArrays now
   pub grows : Grows a now
   pub used : now.used ≤ a.used + i
-  pub few : (k : ℕ) → now.used ≤ 4 * 12 ^ k → length now.nodes ≤ length a.nodes + k * i
+  pub few : (k : ℕ) → now.used ≤ 4 * 4 ^ k → length now.nodes ≤ length a.nodes + k * i
   pub root_is : IsRoot now root
   pub changed : elements_under now root ≡ with_each (take i cs) es
 
@@ -48,8 +48,8 @@ module _ (a mid : KeptArrays) (cs : List (ℕ × ℕ)) (i : ℕ) (es root : List
         ∙ sym (with_each_more cs i (0, 0) es inside);
   }
 
-  module _ (new : KeptArrays) (grows : Grows mid new) (used : new.used ≤ mid.used + 1) (few : (k : ℕ) → new.used ≤ 4 * 12 ^ k → length new.nodes ≤ length mid.nodes + k) where
-    few_now : (k : ℕ) → new.used ≤ 4 * 12 ^ k → length new.nodes ≤ length a.nodes + k * (i + 1)
+  module _ (new : KeptArrays) (grows : Grows mid new) (used : new.used ≤ mid.used + 1) (few : (k : ℕ) → new.used ≤ 4 * 4 ^ k → length new.nodes ≤ length mid.nodes + k) where
+    few_now : (k : ℕ) → new.used ≤ 4 * 4 ^ k → length new.nodes ≤ length a.nodes + k * (i + 1)
     few_now k l = omega (arith, few k l, so.few k (omega (arith, l, grows.used)), one_more k i)
 
     pub one_changed : (after : List ℕ) → AreArrays new → IsRoot new after → elements_under new after ≡ set (elements_under mid root) (get_or cs i (0, 0)).0 (get_or cs i (0, 0)).1 → AreChanged a new cs (i + 1) es after
@@ -63,7 +63,7 @@ module _ (a mid : KeptArrays) (cs : List (ℕ × ℕ)) (i : ℕ) (es root : List
     }
 
     -- where no more could be made
-    pub few_failed : (k : ℕ) → new.used ≤ 4 * 12 ^ k → length new.nodes ≤ length a.nodes + 1 + k * length cs
+    pub few_failed : (k : ℕ) → new.used ≤ 4 * 4 ^ k → length new.nodes ≤ length a.nodes + 1 + k * length cs
     few_failed k l = omega (arith, few_now k l, mul-le-mul_left k (let e : i + 1 ≤ length cs = omega (arith, inside) in e))
 
     pub used_failed : new.used ≤ a.used + length cs

@@ -12,11 +12,11 @@ use Rattle.dbtg_interned.specs.Inside.Changed.{IsNode}
 
 -- the node that a place is dealt to, of those behind these numbers
 abbrev pub branch_of : ℕ → ℕ
-branch_of place = 4 + (place - 4) % 12
+branch_of place = 4 + (place - 4) % 4
 
 -- and the place below that node
 abbrev pub rest_of : ℕ → ℕ
-rest_of place = (place - 4) / 12
+rest_of place = (place - 4) / 4
 
 within_own : (nodes : List (List ℕ)) (levels place : ℕ) (ns : List ℕ) → place < 4 → element_within nodes (suc levels) ns place ≡ get_or ns place 0
 within_own nodes levels place ns low =
@@ -34,7 +34,7 @@ enough nodes (suc k) (suc l) place ns a b =
     elim (cases_lt place 4) [
       | inl low ↦ within_own nodes k place ns low ∙ sym (within_own nodes l place ns low)
       | inr high ↦
-          let less : rest_of place ≤ place - 4 = div-le_self (place - 4) 12 in
+          let less : rest_of place ≤ place - 4 = div-le_self (place - 4) 4 in
           within_branch nodes k place ns high
           ∙ enough nodes k l (rest_of place) (numbers_of nodes (get_or ns (branch_of place) 0)) (omega (arith, less, high, a)) (omega (arith, less, high, b))
           ∙ sym (within_branch nodes l place ns high)
@@ -47,20 +47,20 @@ own nodes ns place low = within_own nodes place place ns low
 -- the others are dealt out
 pub branch : (nodes : List (List ℕ)) (ns : List ℕ) (place : ℕ) → 4 ≤ place → tree_element nodes ns place ≡ tree_element nodes (numbers_of nodes (get_or ns (branch_of place) 0)) (rest_of place)
 branch nodes ns place high =
-    let less : rest_of place ≤ place - 4 = div-le_self (place - 4) 12 in
+    let less : rest_of place ≤ place - 4 = div-le_self (place - 4) 4 in
     within_branch nodes place place ns high
     ∙ enough nodes place (suc (rest_of place)) (rest_of place) (numbers_of nodes (get_or ns (branch_of place) 0)) (omega (arith, less, high)) (omega arith)
 
 pub rest_less : (place : ℕ) → 4 ≤ place → rest_of place < place
-rest_less place high = omega (arith, div-le_self (place - 4) 12, high)
+rest_less place high = omega (arith, div-le_self (place - 4) 4, high)
 
 -- the place that is dealt to this node, at this place below it
-dealt : (nodes : List (List ℕ)) (ns : List ℕ) (at place : ℕ) → 4 ≤ at → at < 16 → tree_element nodes ns (place * 12 + at) ≡ tree_element nodes (numbers_of nodes (get_or ns at 0)) place
+dealt : (nodes : List (List ℕ)) (ns : List ℕ) (at place : ℕ) → 4 ≤ at → at < 8 → tree_element nodes ns (place * 4 + at) ≡ tree_element nodes (numbers_of nodes (get_or ns at 0)) place
 dealt nodes ns at place high low =
-    let same_branch : branch_of (place * 12 + at) ≡ at = omega (arith, high, low) in
-    let same_rest : rest_of (place * 12 + at) ≡ place = omega (arith, high, low) in
-    branch nodes ns (place * 12 + at) (omega (arith, high))
-    ∙ ap (λ i. tree_element nodes (numbers_of nodes (get_or ns i 0)) (rest_of (place * 12 + at))) same_branch
+    let same_branch : branch_of (place * 4 + at) ≡ at = omega (arith, high, low) in
+    let same_rest : rest_of (place * 4 + at) ≡ place = omega (arith, high, low) in
+    branch nodes ns (place * 4 + at) (omega (arith, high))
+    ∙ ap (λ i. tree_element nodes (numbers_of nodes (get_or ns i 0)) (rest_of (place * 4 + at))) same_branch
     ∙ ap (tree_element nodes (numbers_of nodes (get_or ns at 0))) same_rest
 
 -- WHAT STAYS
@@ -102,29 +102,29 @@ module _ (nodes : List (List ℕ)) (are : AreNodes nodes) where
         | inl first ↦ sym (own nodes (numbers_of nodes a) i first) ∙ same i ∙ own nodes (numbers_of nodes b) i first
         | inr high ↦
             let wide = (is_node a in_a).width in
-            let in_node : i < 16 = omega (arith, low, wide) in
+            let in_node : i < 8 = omega (arith, low, wide) in
             let less_a = smaller a in_a i high in
             let less_b = smaller b in_b i high in
             one_node m (get_or (numbers_of nodes a) i 0) (get_or (numbers_of nodes b) i 0) (omega (arith, few, less_a, less_b)) ((is_node a in_a).below i high) ((is_node b in_b).below i high)
-            (λ place. sym (dealt nodes (numbers_of nodes a) i place high in_node) ∙ same (place * 12 + i) ∙ dealt nodes (numbers_of nodes b) i place high in_node)
+            (λ place. sym (dealt nodes (numbers_of nodes a) i place high in_node) ∙ same (place * 4 + i) ∙ dealt nodes (numbers_of nodes b) i place high in_node)
       ] in
       are.once a b (numbers_of nodes b) (got_numbers nodes a in_a ∙ ap Some (ext_get_or 0 (numbers_of nodes a) (numbers_of nodes b) ((is_node a in_a).width ∙ sym (is_node b in_b).width) each)) (got_numbers nodes b in_b)
 
   -- node 0 has zeros
-  zeros_at : numbers_of nodes 0 ≡ replicate 16 0
-  zeros_at = get_or_from_slice_get nodes 0 (replicate 16 0) [] are.zeros_first
+  zeros_at : numbers_of nodes 0 ≡ replicate 8 0
+  zeros_at = get_or_from_slice_get nodes 0 (replicate 8 0) [] are.zeros_first
 
   pub zero_there : 0 < length nodes
-  zero_there = slice_get_within nodes 0 (replicate 16 0) are.zeros_first
+  zero_there = slice_get_within nodes 0 (replicate 8 0) are.zeros_first
 
   zero_within : (levels place : ℕ) → element_within nodes levels (numbers_of nodes 0) place ≡ 0
   zero_within zero place = refl
   zero_within (suc levels) place =
       elim (cases_lt place 4) [
-        | inl low ↦ within_own nodes levels place (numbers_of nodes 0) low ∙ ap (λ (l : List ℕ). get_or l place 0) zeros_at ∙ zeros 16 place
+        | inl low ↦ within_own nodes levels place (numbers_of nodes 0) low ∙ ap (λ (l : List ℕ). get_or l place 0) zeros_at ∙ zeros 8 place
         | inr high ↦
             within_branch nodes levels place (numbers_of nodes 0) high
-            ∙ ap (λ n. element_within nodes levels (numbers_of nodes n) (rest_of place)) (ap (λ (l : List ℕ). get_or l (branch_of place) 0) zeros_at ∙ zeros 16 (branch_of place))
+            ∙ ap (λ n. element_within nodes levels (numbers_of nodes n) (rest_of place)) (ap (λ (l : List ℕ). get_or l (branch_of place) 0) zeros_at ∙ zeros 8 (branch_of place))
             ∙ zero_within levels (rest_of place)
       ]
 

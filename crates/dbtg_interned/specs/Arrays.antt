@@ -1,4 +1,4 @@
--- Arrays of numbers, as trees of nodes. A node has 16 numbers: 4 elements, and behind them the numbers of 12 nodes. An array is named by the
+-- Arrays of numbers, as trees of nodes. A node has 8 numbers: 4 elements, and behind them the numbers of 4 nodes. An array is named by the
 -- number of its root.
 -- n is the number of a node, numbers are those that a node has, place is a place in a tree.
 use Rattle.std.specs.Prelude.{ℕ, zero, suc, ◌≡◌, ◌<◌, ◌≤◌, ◌+◌, ◌-◌, ◌/◌, ◌%◌, ◌^◌, ◌⊎◌, List, [], ◌∷◌, Some, if◌then◌else◌, length, map, nat_lt, replicate, slice_get, slice_index_or, slice_set}
@@ -16,13 +16,13 @@ abbrev pub numbers_of : List (List ℕ) → ℕ → List ℕ
 numbers_of nodes n = slice_index_or nodes n []
 
 -- The element at a place below these numbers, if no more than this many nodes are above it: the first 4 places are the node's own, and the
--- others are those of the 12 nodes, dealt out in turn
+-- others are those of the 4 nodes, dealt out in turn
 abbrev pub element_within : List (List ℕ) → ℕ → List ℕ → ℕ → ℕ
 element_within nodes zero numbers place = 0
 element_within nodes (suc levels) numbers place =
     if nat_lt place 4
     then slice_index_or numbers place 0
-    else element_within nodes levels (numbers_of nodes (slice_index_or numbers (4 + (place - 4) % 12) 0)) ((place - 4) / 12)
+    else element_within nodes levels (numbers_of nodes (slice_index_or numbers (4 + (place - 4) % 4) 0)) ((place - 4) / 4)
 
 -- the same for any place: fewer nodes are above it than are places before it
 abbrev pub tree_element : List (List ℕ) → List ℕ → ℕ → ℕ
@@ -30,8 +30,8 @@ tree_element nodes numbers place = element_within nodes (suc place) numbers plac
 
 -- nodes stand once each; node 0 has zeros, and so is below itself, and those below another have smaller numbers than it
 pub record AreNodes (nodes : List (List ℕ)) : Type 0 where
-  pub zeros_first : slice_get nodes 0 ≡ Some (replicate 16 0)
-  pub width : (i : ℕ) (node : List ℕ) → slice_get nodes i ≡ Some node → length node ≡ 16
+  pub zeros_first : slice_get nodes 0 ≡ Some (replicate 8 0)
+  pub width : (i : ℕ) (node : List ℕ) → slice_get nodes i ≡ Some node → length node ≡ 8
   pub below : (i : ℕ) (node : List ℕ) → slice_get nodes i ≡ Some node → (at : ℕ) → 4 ≤ at → slice_index_or node at 0 ≤ i - 1
   pub once : IsOnce nodes
 

@@ -97,7 +97,7 @@ impl Arrays {
         ensures sound { AreArrays self.new }
         ensures grows { Grows self.old self.new }
         ensures used { self.new.used ≤ self.old.used + 1 }
-        ensures few { (k : ℕ) → self.new.used ≤ 4 * 12 ^ k → length self.new.nodes ≤ length self.old.nodes + 1 + k }
+        ensures few { (k : ℕ) → self.new.used ≤ 4 * 4 ^ k → length self.new.nodes ≤ length self.old.nodes + 1 + k }
         ensures array { IfOk result (λ n. IsArray self.new n) }
         ensures elements { IfOk result (λ n. elements self.new n ≡ slice_set (elements self.old array) at element) }
     {
@@ -113,7 +113,7 @@ impl Arrays {
         ensures sound { AreArrays self.new }
         ensures grows { Grows self.old self.new }
         ensures used { self.new.used ≤ self.old.used + length changes.now }
-        ensures few { (k : ℕ) → self.new.used ≤ 4 * 12 ^ k → length self.new.nodes ≤ length self.old.nodes + 1 + k * length changes.now }
+        ensures few { (k : ℕ) → self.new.used ≤ 4 * 4 ^ k → length self.new.nodes ≤ length self.old.nodes + 1 + k * length changes.now }
         ensures array { IfOk result (λ n. IsArray self.new n) }
         ensures elements { IfOk result (λ n. elements self.new n ≡ with_each changes.now (elements self.old array)) }
     {
@@ -151,7 +151,7 @@ impl Arrays {
         ensures sound { AreArrays self.new }
         ensures grows { Grows self.old self.new }
         ensures used { self.new.used ≤ self.old.used + 1 }
-        ensures few { (k : ℕ) → self.new.used ≤ 4 * 12 ^ k → length self.new.nodes ≤ length self.old.nodes + k }
+        ensures few { (k : ℕ) → self.new.used ≤ 4 * 4 ^ k → length self.new.nodes ≤ length self.old.nodes + k }
         ensures root { IfOk result (IsRoot self.new) }
         ensures elements { IfOk result (λ r. elements_under self.new r ≡ slice_set (elements_under self.old root) at element) }
     {
@@ -207,7 +207,7 @@ fn with_changed_below(
     requires node { IsNode nodes.old numbers }
     ensures sound { AreNodes nodes.new }
     ensures keeps { Keeps nodes.old nodes.new }
-    ensures few { (k : ℕ) → place < 4 * 12 ^ k → length nodes.new ≤ length nodes.old + k }
+    ensures few { (k : ℕ) → place < 4 * 4 ^ k → length nodes.new ≤ length nodes.old + k }
     ensures node { IfOk result (IsNode nodes.new) }
     ensures elements { IfOk result (HasChange nodes.old nodes.new numbers place element) }
 {

@@ -19,7 +19,7 @@ pub(crate) const WIDTH: usize = ELEMENTS + BRANCHES;
 /// How many of them are elements.
 pub(crate) const ELEMENTS: usize = 4;
 /// How many of them are the numbers of other nodes.
-pub(crate) const BRANCHES: usize = 12;
+pub(crate) const BRANCHES: usize = 4;
 
 // An odd number whose bits look random.
 const MULTIPLIER: u64 = 0x9e37_79b9_7f4a_7c15;
@@ -31,9 +31,9 @@ struct Node {
 }
 
 impl Hash for Node {
-    ghost hash_input = { λ n. fed.u64 (mixed n.numbers 8) };
+    ghost hash_input = { λ n. fed.u64 (mixed n.numbers 4) };
 
-    ghost respects_eq = { (on_Alike (λ n. n.numbers) (same_Alike (λ l. fed.u64 (mixed l 8)) bytes_decides)).fed };
+    ghost respects_eq = { (on_Alike (λ n. n.numbers) (same_Alike (λ l. fed.u64 (mixed l 4)) bytes_decides)).fed };
 
     fn hash<H: Hasher>(&self, state: &mut H) {
         state.write_u64(mix(&self.numbers));
@@ -42,7 +42,7 @@ impl Hash for Node {
 
 // One number from all of a node, two at a time.
 fn mix(numbers: &[u32; WIDTH]) -> u64
-    ensures { result ≡ mixed numbers.now 8 }
+    ensures { result ≡ mixed numbers.now 4 }
 {
     let mut mix: u64 = 0;
     for i in 0..WIDTH / 2 {
@@ -78,7 +78,7 @@ impl Nodes {
     /// The node of zeros alone.
     pub(crate) fn new(alloc: Global) -> Result<Self, AllocError>
         ensures sound { IfOk result AreNodes }
-        ensures zeros { IfOk result (λ n. n ≡ replicate 16 0 ∷ []) }
+        ensures zeros { IfOk result (λ n. n ≡ replicate 8 0 ∷ []) }
     {
         let mut nodes = IndexSet::new(alloc);
         nodes.insert(Node {

@@ -4,7 +4,7 @@ use Rattle.dbtg_interned.specs.Arrays.{IsFreeBehind, KeptArrays, tree_element}
 
 -- the numbers are those that a node may have
 pub record IsNode (nodes : List (List ℕ)) (numbers : List ℕ) : Type 0 where
-  pub width : length numbers ≡ 16
+  pub width : length numbers ≡ 8
   pub below : (at : ℕ) → 4 ≤ at → slice_index_or numbers at 0 < length nodes
 
 -- the numbers are those that the root of an array may have
