@@ -55,7 +55,7 @@ impl<'a> Places<'a> {
         requires after { IsArray numbers.now.arrays passage.after }
         ensures { IfOk result (λ found. IfSome found (AreLooks self.now.schema.now self.now.capacity self.now.units numbers.now passage names.now)) }
     {
-        let mut looks = Row::of(Vec::new(alloc));
+        let mut looks = Row::of(Vec::with_capacity(alloc, names.len() + 1)?);
         let place = passage.unit as usize - 1;
         let Some(own) = numbers.look_at(place, passage.before, passage.after) else {
             return Ok(None);
