@@ -9,9 +9,10 @@ use Rattle.dbtg_script.specs.Printing.Spelling.{in_front, is_number, number}
 use Rattle.dbtg_explain.specs.declared.topic.Kind.{Kind}
 use Rattle.dbtg_explain.specs.declared.topic.Kind.TheVariants as kind
 use Rattle.dbtg_explain.specs.declared.topic.Topic.{Topic}
-use Rattle.dbtg_explain.specs.declared.topic.Topic.TheVariants.{All, Done, Status, Fault}
-use Rattle.dbtg_explain.specs.declared.topic.TheConstants.{DONE, STATUS, FAULT}
+use Rattle.dbtg_explain.specs.declared.topic.Topic.TheVariants.{All, Done, Faults, There, Status, Fault}
+use Rattle.dbtg_explain.specs.declared.topic.TheConstants.{DONE, STATUS, THERE, OF_SCRIPTS, FAULT}
 use Rattle.dbtg_explain.specs.declared.causes.TheConstants.{CAUSES}
+use Rattle.dbtg_explain.specs.declared.idms.TheConstants.{STATUSES_THERE}
 use Rattle.dbtg_explain.specs.declared.statuses.TheConstants.{STATUSES}
 use Rattle.dbtg_explain.specs.declared.faults.TheConstants.{SCHEMA_FAULTS, SCRIPT_FAULTS, PROGRAM_FAULTS, MOVES_FAULTS, TURNS_FAULTS, TRACE_FAULTS}
 use Rattle.dbtg_explain.specs.FaultyWord.{behind_all}
@@ -76,14 +77,28 @@ abbrev pub IsStatus : ℕ → Option Topic → Type 0
 IsStatus code None = (status_rows code ≡ None) × (code ≡ 0 → ⊥)
 IsStatus code (Some All) = ⊥
 IsStatus code (Some Done) = code ≡ 0
+IsStatus code (Some (Faults which)) = ⊥
+IsStatus code (Some (There row)) = ⊥
 IsStatus code (Some (Status status cause)) = (status_rows code ≡ Some (status.now, cause.now)) × (code ≡ 0 → ⊥)
 IsStatus code (Some (Fault which fault)) = ⊥
+
+-- the topic has the rows of this status, or the row of what it is in IDMS if no statement has it here
+abbrev pub IsCode : ℕ → Option Topic → Type 0
+IsCode code None = IsStatus code None × (row_of code STATUSES_THERE.now ≡ None)
+IsCode code (Some All) = ⊥
+IsCode code (Some Done) = IsStatus code (Some Done)
+IsCode code (Some (Faults which)) = ⊥
+IsCode code (Some (There row)) = IsStatus code None × (row_of code STATUSES_THERE.now ≡ Some row.now)
+IsCode code (Some (Status status cause)) = IsStatus code (Some (Status status cause))
+IsCode code (Some (Fault which fault)) = ⊥
 
 -- the topic has the row of the fault with this number, of the kind of text that lists it
 abbrev pub IsFault : Kind → ℕ → Option Topic → Type 0
 IsFault which number None = row_of number (faults_of (kind_listing which number)) ≡ None
 IsFault which number (Some All) = ⊥
 IsFault which number (Some Done) = ⊥
+IsFault which number (Some (Faults kind)) = ⊥
+IsFault which number (Some (There row)) = ⊥
 IsFault which number (Some (Status status cause)) = ⊥
 IsFault which number (Some (Fault kind fault)) = (kind ≡ kind_listing which number) × (row_of number (faults_of (kind_listing which number)) ≡ Some fault.now)
 
@@ -112,16 +127,32 @@ abbrev pub IsFaultOf : Option Kind → Option ℕ → Option Topic → Type 0
 IsFaultOf None number topic = topic ≡ None
 IsFaultOf (Some which) number topic = WithNumber (IsFault which) number topic
 
--- a word of four digits asks for a status, a kind and a number for a fault, and no word for all
+-- a code of at most four digits; a longer word has no topic
+abbrev pub IsCodeOf : List ℕ → Option Topic → Type 0
+IsCodeOf word topic = WithNumber IsCode (if nat_le (length word) 4 then number_in 9999 word else None) topic
+
+-- the faults of a kind; without a kind the word is a code
+abbrev pub IsKindOr : Option Kind → (Option Topic → Type 0) → Option Topic → Type 0
+IsKindOr None Is topic = Is topic
+IsKindOr (Some which) Is topic = topic ≡ Some (Faults which)
+
+abbrev pub IsAskedBy : List ℕ → Option Topic → Type 0
+IsAskedBy word topic = IsKindOr (kind_in word) (IsCodeOf word) topic
+
+-- a word asks for a status or for the faults of a kind, a kind and a number for a fault, and no word for all
 abbrev pub IsAsked : List (List ℕ) → Option Topic → Type 0
 IsAsked [] topic = topic ≡ Some All
-IsAsked (code ∷ []) topic = WithNumber IsStatus (if length code == 4 then number_in 9999 code else None) topic
+IsAsked (word ∷ []) topic = IsAskedBy word topic
 IsAsked (which ∷ number ∷ []) topic = IsFaultOf (kind_in which) (number_in 99 number) topic
 IsAsked (a ∷ b ∷ c ∷ rest) topic = topic ≡ None
 
 -- what is said of a status, from its row and that of its cause
 abbrev pub status_text : List ℕ → List ℕ → List ℕ
 status_text status cause = filled (field 0 status ∷ field 1 status ∷ field 1 cause ∷ field 2 cause ∷ field 2 status ∷ field 3 cause ∷ field 0 cause ∷ []) STATUS.now
+
+-- what is said of a status of IDMS, from its row
+abbrev pub there_text : List ℕ → List ℕ
+there_text row = filled (field 0 row ∷ field 1 row ∷ field 2 row ∷ []) THERE.now
 
 -- what is said of a fault, from its kind's row and its own
 abbrev pub fault_text : List ℕ → List ℕ → List ℕ
@@ -147,6 +178,19 @@ fault_line which fault = line_text (field 0 (kind_row which)) (field 0 fault) (f
 abbrev pub fault_table : Kind → List ℕ
 fault_table which = flat_map (fault_line which) (lines (faults_of which))
 
+-- what is said before the faults that a kind of text has in addition to those of scripts
+abbrev pub faults_before : Kind → List ℕ
+faults_before kind.Schema = []
+faults_before kind.Script = []
+faults_before kind.Program = OF_SCRIPTS.now
+faults_before kind.Moves = []
+faults_before kind.Turns = []
+faults_before kind.Trace = OF_SCRIPTS.now
+
+-- the faults of a kind
+abbrev pub faults_text : Kind → List ℕ
+faults_text which = faults_before which ++ fault_table which
+
 -- the list of all
 abbrev pub all_text : List ℕ
 all_text =
@@ -157,5 +201,7 @@ all_text =
 abbrev pub topic_text : Topic → List ℕ
 topic_text All = all_text
 topic_text Done = DONE.now
+topic_text (Faults which) = faults_text which
+topic_text (There row) = there_text row.now
 topic_text (Status status cause) = status_text status.now cause.now
 topic_text (Fault which fault) = fault_text (kind_row which) fault.now

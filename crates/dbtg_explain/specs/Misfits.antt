@@ -7,7 +7,7 @@ use Rattle.dbtg_script.specs.Lines.{ends_in_text, trimmed}
 use Rattle.dbtg_script.specs.Wanted.{wanted_in_line}
 use Rattle.dbtg_explain.specs.Explaining.{filled}
 use Rattle.dbtg_explain.specs.FaultyWord.{laid_out, line_at, line_in}
-use Rattle.dbtg_explain.specs.Hints.{hint_for}
+use Rattle.dbtg_explain.specs.Hints.{hint_for, schema_hint}
 use Rattle.dbtg_explain.specs.Offered.{separated}
 use Rattle.dbtg_explain.specs.Saying.{faulty_text, said_of_name, said_of_schema_name}
 
@@ -15,9 +15,9 @@ use Rattle.dbtg_explain.specs.Saying.{faulty_text, said_of_name, said_of_schema_
 abbrev pub misfit_form : ℕ → List ℕ
 misfit_form number = if number == 2 then codes "0 is no statement word2" else codes "0 does not fit here (wanted: 1)2"
 
--- the explanation of a word if these are wanted
-abbrev pub said_of_misfit : ℕ → List ℕ → List (List ℕ) → List ℕ
-said_of_misfit number word wanted = filled (word ∷ separated wanted ∷ hint_for wanted word ∷ []) (misfit_form number)
+-- the explanation of a word if these are wanted, with a hint
+abbrev pub said_of_misfit : ℕ → List ℕ → List (List ℕ) → List ℕ → List ℕ
+said_of_misfit number word wanted hint = filled (word ∷ separated wanted ∷ hint ∷ []) (misfit_form number)
 
 -- the explanation of a line that ends too early, or in a text that is not closed
 abbrev pub said_of_early_line : List ℕ → List (List ℕ) → List ℕ
@@ -27,17 +27,21 @@ said_of_early_line line wanted =
 
 -- the explanation of the word that was met in a line, or of its end
 abbrev pub said_in_line : ℕ → List ℕ → List ℕ → List (List ℕ) → List ℕ
-said_in_line number line word wanted = if length word == 0 then said_of_early_line line wanted else said_of_misfit number word wanted
+said_in_line number line word wanted = if length word == 0 then said_of_early_line line wanted else said_of_misfit number word wanted (hint_for wanted word)
 
 -- the explanation of fault 2 or 3 of a script's line
 abbrev pub said_of_line_misfit : Lists → ℕ → List ℕ → List ℕ
 said_of_line_misfit schema number line = said_in_line number line (faulty_text schema line) (wanted_in_line schema (trimmed line))
 
+-- the explanation of a word of a schema that does not fit, if these are wanted
+abbrev pub said_of_schema_part : List ℕ → List (List ℕ) → List ℕ
+said_of_schema_part word wanted = said_of_misfit 3 word wanted (schema_hint wanted word)
+
 -- the explanation of the word that was met on this line of the laid-out text; nothing if that is unknown or too long
 abbrev pub said_of_met : ℕ → List ℕ → List (List ℕ) → List ℕ
 said_of_met line word wanted =
     if line == 0 || nat_lt 480 (length word) then []
-    else (if length word == 0 then filled (separated wanted ∷ []) (codes "the text ends too early (wanted: 0)") else said_of_misfit 3 word wanted)
+    else (if length word == 0 then filled (separated wanted ∷ []) (codes "the text ends too early (wanted: 0)") else said_of_schema_part word wanted)
 
 -- the explanation of fault 3 of a schema's text
 abbrev pub said_of_schema_misfit : List ℕ → List ℕ

@@ -13,7 +13,8 @@ use Rattle.dbtg_explain.specs.declared.schema_word.TheConstants.{FORMS as SCHEMA
 use Rattle.dbtg_explain.specs.declared.word.TheConstants.{FORMS as SCRIPT_FORMS}
 use Rattle.dbtg_explain.specs.Explaining.{fault_field, field, filled, row_of}
 use Rattle.dbtg_explain.specs.FaultyWord.{faulty_word, laid_out, line_in}
-use Rattle.dbtg_explain.specs.Offered.{listed, names_for, names_in, seen_words, type_wanted}
+use Rattle.dbtg_explain.specs.Hints.{name_hint}
+use Rattle.dbtg_explain.specs.Offered.{last_of, listed, names_for, names_in, seen_words, type_wanted}
 
 -- the form for a fault with this number, of which part 0 is the word and part 3 what the fault means
 abbrev pub form_for : ℕ → List ℕ → List ℕ
@@ -81,4 +82,4 @@ said_of_schema_name number text =
     let rtype = type_wanted front in
     let names = names_in number rtype (seen_words (lines laid)) front in
     said_by (form_for number SCHEMA_FORMS.now) word
-    (word ∷ rtype ∷ listed names ∷ fault_field kind.Schema number 1 ∷ fault_field kind.Schema number 3 ∷ [])
+    (word ∷ rtype ∷ listed names ∷ fault_field kind.Schema number 1 ∷ fault_field kind.Schema number 3 ∷ name_hint number (last_of front) word ∷ [])

@@ -1,10 +1,11 @@
 //! Hints for words that the grammar does not want: words of another language, and what to write in their place.
-ghost use Rattle.std.specs.Prelude.{◌≡◌, map, option_map};
+ghost use Rattle.std.specs.Prelude.{◌≡◌, [], map, option_map, slice_get, unwrap_or};
 ghost use Rattle.std.specs.Str.{str_eq_ignore_ascii_case};
-ghost use Rattle.dbtg_explain.specs.Hints.{hint_for, lacks_capitals, row_of_word};
+ghost use Rattle.dbtg_explain.specs.Hints.{hint_for, hint_there, lacks_capitals, misfit_key, name_hint, name_key, row_of_word, schema_hint};
 
+use crate::idms::WORDS_THERE;
 use crate::row::{field, next_row};
-use dbtg_script::in_front;
+use dbtg_script::{has_byte, in_front};
 
 // A word, and the hint for it: words of IDMS, and marks with which other languages begin a comment.
 const HINTS: &str = "\
@@ -19,7 +20,7 @@ DISCONNECT|; here REMOVE FROM
 COMMIT|; there is none here: what a statement did is there for all at once
 ROLLBACK|; there is none here: what a statement did stays
 ACCEPT|; there is none here: each answer has its key
-IF|; there is none here: FIND FIRST of an empty set answers 0307
+IF|; there is none in a script: FIND FIRST of an empty set answers 0307, and programs have IF STATUS
 ANY|; here CALC
 ADD|; leave it out
 *|; a note has its star at the beginning of its line, and a schema has no notes
@@ -67,4 +68,70 @@ pub fn hint_for(wanted: &[&[u8]], word: &[u8]) -> &'static [u8]
         Some(row) => field(row, 1),
         None => &[],
     }
+}
+
+// The hint for a word of IDMS with this key.
+fn hint_there(key: &[u8]) -> &'static [u8]
+    ensures { result.now ≡ hint_there key.now }
+{
+    match row_of_word(WORDS_THERE, key) {
+        Some(row) => field(row, 1),
+        None => &[],
+    }
+}
+
+// What is wanted first.
+fn first_of<'a>(wanted: &[&'a [u8]]) -> &'a [u8]
+    ensures { result.now ≡ unwrap_or (slice_get (map (λ thing. thing.now) wanted.now) 0) [] }
+{
+    match wanted.first() {
+        Some(thing) => *thing,
+        None => b"",
+    }
+}
+
+// A period where a picture is wanted ends a group.
+fn misfit_key<'a>(wanted: &[&[u8]], word: &'a [u8]) -> &'a [u8]
+    ensures { result.now ≡ misfit_key (map (λ thing. thing.now) wanted.now) word.now }
+{
+    if word == b".".as_slice() && first_of(wanted) == b"PICTURE".as_slice() {
+        b"PICTURE."
+    } else {
+        word
+    }
+}
+
+/// The hint for a word that does not fit into a schema, if one of these is wanted.
+#[tactic(auto, unfolding(crate::specs::Hints::schema_hint))]
+pub fn schema_hint(wanted: &[&[u8]], word: &[u8]) -> &'static [u8]
+    ensures { result.now ≡ schema_hint (map (λ thing. thing.now) wanted.now) word.now }
+{
+    let hint = hint_for(wanted, word);
+    if hint.is_empty() {
+        hint_there(misfit_key(wanted, word))
+    } else {
+        hint
+    }
+}
+
+fn name_key(number: u8, before: &[u8], word: &[u8]) -> &'static [u8]
+    ensures { result.now ≡ name_key number before.now word.now }
+{
+    if number == 4 && (has_byte(word, b'(') || has_byte(word, b')')) {
+        b"("
+    } else if number == 4 && before == b"WITHIN".as_slice() && word == b"AREA".as_slice() {
+        b"WITHIN AREA"
+    } else if number == 11 && (has_byte(word, b'S') || has_byte(word, b'V')) {
+        b"S9V99"
+    } else {
+        b""
+    }
+}
+
+/// The hint for a word of a schema that is no name (fault 4) or no picture (11), directly after another word.
+#[tactic(auto, unfolding(crate::specs::Hints::name_hint))]
+pub fn name_hint(number: u8, before: &[u8], word: &[u8]) -> &'static [u8]
+    ensures { result.now ≡ name_hint number before.now word.now }
+{
+    hint_there(name_key(number, before, word))
 }

@@ -5,6 +5,7 @@
 mod causes;
 mod faults;
 mod hints;
+mod idms;
 mod laid;
 mod misfit;
 mod offered;

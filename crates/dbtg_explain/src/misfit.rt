@@ -2,9 +2,9 @@
 ghost use Rattle.std.specs.Prelude.{◌≡◌, ◌∷◌, [], IfOk, map};
 ghost use Rattle.dbtg_explain.specs.Explaining.{filled};
 ghost use Rattle.dbtg_explain.specs.Offered.{separated};
-ghost use Rattle.dbtg_explain.specs.Misfits.{misfit_form, said_in_line, said_of_early_line, said_of_line_misfit, said_of_met, said_of_misfit, said_of_schema_misfit, said_of_schema_word, said_of_word};
+ghost use Rattle.dbtg_explain.specs.Misfits.{misfit_form, said_in_line, said_of_early_line, said_of_line_misfit, said_of_met, said_of_misfit, said_of_schema_misfit, said_of_schema_part, said_of_schema_word, said_of_word};
 
-use crate::hints::hint_for;
+use crate::hints::{hint_for, schema_hint};
 use crate::laid::{fault_line, laid_out, line_at};
 use crate::offered::separated;
 use crate::row::push_form;
@@ -33,10 +33,10 @@ fn said_of_misfit(
     number: u8,
     word: &[u8],
     wanted: &[&[u8]],
+    hint: &[u8],
 ) -> Result<Vec<u8>, AllocError>
-    ensures { IfOk result (λ out. out.items ≡ said_of_misfit number word.now (map (λ thing. thing.now) wanted.now)) }
+    ensures { IfOk result (λ out. out.items ≡ said_of_misfit number word.now (map (λ thing. thing.now) wanted.now) hint.now) }
 {
-    let hint = hint_for(wanted, word);
     let word = Vec::from_slice(alloc, word)?;
     let list = separated(alloc, wanted)?;
     let parts = [word.as_slice(), list.as_slice(), hint];
@@ -81,7 +81,7 @@ fn said_in_line(
     if word.is_empty() {
         return said_of_early_line(alloc, line, wanted);
     }
-    said_of_misfit(alloc, number, word, wanted)
+    said_of_misfit(alloc, number, word, wanted, hint_for(wanted, word))
 }
 
 // The explanation of fault 2 or 3 of a script's line.
@@ -96,6 +96,13 @@ fn said_of_line_misfit(
     let word = faulty_text(alloc, schema, line)?;
     let wanted = wanted_in_line(alloc, schema, line)?;
     said_in_line(alloc, number, line, word.as_slice(), wanted.as_slice())
+}
+
+// The explanation of a word of a schema that does not fit.
+fn said_of_schema_part(alloc: Global, word: &[u8], wanted: &[&[u8]]) -> Result<Vec<u8>, AllocError>
+    ensures { IfOk result (λ out. out.items ≡ said_of_schema_part word.now (map (λ thing. thing.now) wanted.now)) }
+{
+    said_of_misfit(alloc, 3, word, wanted, schema_hint(wanted, word))
 }
 
 // The explanation of the word that was met on this line of the laid-out text.
@@ -113,7 +120,7 @@ fn said_of_met(
     if word.is_empty() {
         return said_of_end(alloc, "the text ends too early (wanted: 0)", wanted);
     }
-    said_of_misfit(alloc, 3, word, wanted)
+    said_of_schema_part(alloc, word, wanted)
 }
 
 // The explanation of fault 3 of a schema's text.

@@ -246,7 +246,8 @@ fn type_entry<'a, 'b>(words: &'b [&'a [u8]], rtype: &[u8]) -> &'b [&'a [u8]]
     &words[..0]
 }
 
-fn last_of<'a>(words: &[&'a [u8]]) -> &'a [u8]
+/// The last word, and nothing if there is none.
+pub fn last_of<'a>(words: &[&'a [u8]]) -> &'a [u8]
     ensures { result.now ≡ last_of (map (λ word. word.now) words.now) }
 {
     match words.get(words.len().saturating_sub(1)) {

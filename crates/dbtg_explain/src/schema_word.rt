@@ -4,8 +4,9 @@ ghost use Rattle.std.specs.Prelude.{◌≡◌, ◌-◌, IfOk, map, take};
 ghost use Rattle.dbtg_explain.specs.Saying.{said_of_schema_name, told_schema_part};
 ghost use Rattle.dbtg_script.specs.Lines.{lines};
 
+use crate::hints::name_hint;
 use crate::laid::{fault_line, faulty_word, laid_out};
-use crate::offered::{listed, names_in, seen_words, type_wanted};
+use crate::offered::{last_of, listed, names_in, seen_words, type_wanted};
 use crate::row::next_row;
 use crate::topic::{Kind, advice_for, meaning_of};
 use crate::word::said_by;
@@ -14,15 +15,15 @@ use std::alloc::{AllocError, Global};
 // A longer word is not shown.
 const LONGEST: usize = 480;
 
-// The form for a fault's number: 0 is the word, 1 the record type, 2 the names that exist, 4 what to do.
+// The form for a fault's number: 0 is the word, 1 the record type, 2 the names that exist, 4 what to do, 5 a hint.
 const FORMS: &str = "\
-4|0 is no name. 4
+4|0 is no name5. 4
 6|0 is named twice
 7|0 is no area (areas: 2)
 8|0 is no record type (record types: 2)
 9|0 is no item of 1 (items: 2)
 10|0 is no set (sets: 2)
-11|0 is no picture. 4
+11|0 is no picture5. 4
 18|0 is named twice";
 
 // The lines of a text.
@@ -73,6 +74,7 @@ pub fn said_of_schema_name(alloc: Global, text: &[u8], number: u8) -> Result<Vec
     let names = listed(alloc, names.as_slice())?;
     let meaning = meaning_of(Kind::Schema, number);
     let advice = advice_for(Kind::Schema, number);
-    let parts = [word, rtype, names.as_slice(), meaning, advice];
+    let hint = name_hint(number, last_of(front.as_slice()), word);
+    let parts = [word, rtype, names.as_slice(), meaning, advice, hint];
     said_by(alloc, FORMS, number, word, &parts)
 }

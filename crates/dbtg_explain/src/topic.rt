@@ -4,6 +4,8 @@ ghost use Rattle.std.specs.List.{flat_map};
 ghost use Rattle.dbtg_script.specs.Lines.{lines};
 ghost use Rattle.dbtg_explain.specs.Explaining.{
   IsAsked,
+  IsAskedBy,
+  IsCode,
   IsFault,
   IsStatus,
   all_text,
@@ -12,7 +14,9 @@ ghost use Rattle.dbtg_explain.specs.Explaining.{
   fault_line,
   fault_table,
   fault_text,
+  faults_before,
   faults_of,
+  faults_text,
   kind_in,
   kind_listing,
   kind_row,
@@ -20,6 +24,7 @@ ghost use Rattle.dbtg_explain.specs.Explaining.{
   number_in,
   status_line,
   status_text,
+  there_text,
   topic_text,
 };
 
@@ -27,6 +32,7 @@ use crate::causes::CAUSES;
 use crate::faults::{
     MOVES_FAULTS, PROGRAM_FAULTS, SCHEMA_FAULTS, SCRIPT_FAULTS, TRACE_FAULTS, TURNS_FAULTS,
 };
+use crate::idms::STATUSES_THERE;
 use crate::row::{field, next_row, push_form, row_with};
 use crate::statuses::STATUSES;
 use dbtg_script::{is_number, number};
@@ -48,6 +54,12 @@ pub enum Kind {
 pub enum Topic {
     All,
     Done,
+    /// The faults of a kind of text.
+    Faults(Kind),
+    /// A status of IDMS that is none here.
+    There {
+        row: &'static [u8],
+    },
     Status {
         status: &'static [u8],
         cause: &'static [u8],
@@ -83,6 +95,19 @@ pub fn status_topic(code: u16) -> Option<Topic>
     let status = row_with(STATUSES, code)?;
     let cause = row_with(CAUSES, code % 100)?;
     Some(Topic::Status { status, cause })
+}
+
+/// The same, or what a code means in IDMS if no status has it here.
+fn code_topic(code: u16) -> Option<Topic>
+    ensures { IsCode code result }
+{
+    match status_topic(code) {
+        Some(topic) => Some(topic),
+        None => {
+            let row = row_with(STATUSES_THERE, code)?;
+            Some(Topic::There { row })
+        }
+    }
 }
 
 /// The faults of a kind of text.
@@ -138,13 +163,24 @@ fn kind_in(word: &str) -> Option<Kind>
     }
 }
 
+/// A kind of text, or a code; zeros before it may be left out.
+fn topic_of_word(word: &str) -> Option<Topic>
+    ensures { IsAskedBy word.now result }
+{
+    match kind_in(word) {
+        Some(kind) => Some(Topic::Faults(kind)),
+        None if word.len() <= 4 => code_topic(number_in(word.as_bytes(), 9999)?),
+        None => None,
+    }
+}
+
 /// What the words after `explain` ask for. `None` if there is nothing to explain.
 pub fn topic_of(words: &[&str]) -> Option<Topic>
     ensures { IsAsked (map (λ word. word.now) words.now) result }
 {
     match words {
         [] => Some(Topic::All),
-        [code] if code.len() == 4 => status_topic(number_in(code.as_bytes(), 9999)?),
+        [word] => topic_of_word(word),
         [kind, number] => fault_topic(kind_in(kind)?, number_in(number.as_bytes(), 99)?),
         _ => None,
     }
@@ -204,6 +240,14 @@ Next: 5
 More: docs/profile/statuses.md, 6 2; docs/profile/statements.md, 1
 ";
 
+const THERE: &str = "\
+0 in IDMS: 1
+Here: 2
+More: docs/coming-from-idms.md, Status
+";
+
+const OF_SCRIPTS: &str = "faults 1 to 13 are those of a script: explain script\n";
+
 const FAULT: &str = "\
 0 fault 1: 2
 Found: 3
@@ -226,6 +270,15 @@ fn status_text(alloc: Global, status: &[u8], cause: &[u8]) -> Result<Vec<u8>, Al
     ];
     let mut out = Vec::new(alloc);
     push_form(&mut out, STATUS.as_bytes(), &parts)?;
+    Ok(out)
+}
+
+fn there_text(alloc: Global, row: &[u8]) -> Result<Vec<u8>, AllocError>
+    ensures { IfOk result (λ out. out.items ≡ there_text row.now) }
+{
+    let parts = [field(row, 0), field(row, 1), field(row, 2)];
+    let mut out = Vec::new(alloc);
+    push_form(&mut out, THERE.as_bytes(), &parts)?;
     Ok(out)
 }
 
@@ -302,6 +355,24 @@ fn push_each_fault(out: &mut Vec<u8>, kind: Kind) -> Result<(), AllocError>
     Ok(())
 }
 
+// What is said before the faults that a kind of text has in addition to those of scripts.
+fn faults_before(kind: Kind) -> &'static str
+    ensures { result.now ≡ faults_before kind }
+{
+    match kind {
+        Kind::Program | Kind::Trace => OF_SCRIPTS,
+        Kind::Schema | Kind::Script | Kind::Moves | Kind::Turns => "",
+    }
+}
+
+fn faults_text(alloc: Global, kind: Kind) -> Result<Vec<u8>, AllocError>
+    ensures { IfOk result (λ out. out.items ≡ faults_text kind) }
+{
+    let mut out = Vec::from_slice(alloc, faults_before(kind).as_bytes())?;
+    push_each_fault(&mut out, kind)?;
+    Ok(out)
+}
+
 fn all_text(alloc: Global) -> Result<Vec<u8>, AllocError>
     ensures { IfOk result (λ out. out.items ≡ all_text) }
 {
@@ -324,6 +395,8 @@ pub fn explained(alloc: Global, topic: &Topic) -> Result<Vec<u8>, AllocError>
     match *topic {
         Topic::All => all_text(alloc),
         Topic::Done => Vec::from_slice(alloc, DONE.as_bytes()),
+        Topic::Faults(kind) => faults_text(alloc, kind),
+        Topic::There { row } => there_text(alloc, row),
         Topic::Status { status, cause } => status_text(alloc, status, cause),
         Topic::Fault { kind, fault } => fault_text(alloc, kind_row(kind), fault),
     }

@@ -23,7 +23,7 @@ use Rattle.dbtg_session.specs.declared.session.Refusal.TheVariants as refusal
 use Rattle.dbtg_explain.specs.declared.topic.Kind.{Kind}
 use Rattle.dbtg_explain.specs.declared.topic.Kind.TheVariants as kind
 use Rattle.dbtg_explain.specs.declared.topic.Topic.{Topic}
-use Rattle.dbtg_explain.specs.declared.topic.Topic.TheVariants.{All, Done, Fault, Status}
+use Rattle.dbtg_explain.specs.declared.topic.Topic.TheVariants.{All, Done, Fault, Faults, Status, There}
 use Rattle.dbtg_explain.specs.Explaining.{IsFault, fault_text, kind_row, topic_text}
 
 -- THE LAST ENTRY
@@ -43,6 +43,8 @@ pub page_of_fault : (n : ℕ) (topic : Topic) (out : List ℕ) → IsFault kind.
 page_of_fault n (Fault which row) out is told = ap Some told ∙ ap (λ (w : Kind). Some (fault_text (kind_row w) row.now)) is.0 ∙ sym (ap (option_map (fault_text (kind_row kind.Script))) is.1)
 page_of_fault n All out is told = absurd is
 page_of_fault n Done out is told = absurd is
+page_of_fault n (Faults which) out is told = absurd is
+page_of_fault n (There row) out is told = absurd is
 page_of_fault n (Status row cause) out is told = absurd is
 
 -- WHAT IS TOLD
