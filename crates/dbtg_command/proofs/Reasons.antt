@@ -27,14 +27,14 @@ refused ScriptCount r is some = absurd is
 
 module _ (has : List ℕ → ℕ → List ℕ → Type 0) (lacks : List ℕ → ℕ → Type 0) (schema : List ℕ) (scripts : List (List ℕ)) (order : Order (List ℕ)) where
   -- if a file's text is refused, or the file cannot be read, there is no schema in it
-  pub no_schema : (fault : Fault) → ToldOfSchema (FileHolds has schema scripts order) (FileFails lacks schema scripts order) fault → (fault ≡ Memory → ⊥) → IsNoSchema has lacks schema
+  pub no_schema : (fault : Fault) → ToldOfSchema (FileHolds has lacks schema scripts order) (FileFails lacks schema scripts order) fault → (fault ≡ Memory → ⊥) → IsNoSchema has lacks schema
   no_schema fault (inl fails) some = inl (subst (λ (path : List ℕ). lacks path 65537) fails.1 fails.2)
   no_schema fault (inr told) some =
       let first = refused fault (refusal told.0) told.2.0 some in
       inr (told.0, first.0, subst (λ (path : List ℕ). has path 65537 told.0) told.1.1 told.1.2, first.1)
 
   -- what the schema that was read says is what the one in the file says
-  pub said_by_schema : (which : Kind) (lists : Lists) (number : ℕ) (line said : List ℕ) → ReadSchema (FileHolds has schema scripts order) lists → said ≡ said_in_text which lists number line → SaysOfLine has lacks which schema number line said
+  pub said_by_schema : (which : Kind) (lists : Lists) (number : ℕ) (line said : List ℕ) → ReadSchema (FileHolds has lacks schema scripts order) lists → said ≡ said_in_text which lists number line → SaysOfLine has lacks which schema number line said
   said_by_schema which lists number line said read is = inr (
     read.text,
     subst (λ (path : List ℕ). has path 65537 read.text) read.held.1 read.held.2,

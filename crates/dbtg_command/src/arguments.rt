@@ -103,7 +103,7 @@ pub const LIMIT: Word = Word::NumberOption(
 
 pub const MOVES: Word = Word::FileOption(
     "moves",
-    "The file of the moves; - for standard input [default: script after script]",
+    "A file of moves, or the moves; - for standard input [default: script after script]",
 );
 
 pub const NEVER: Word = Word::WishOption(
@@ -193,24 +193,24 @@ pub const TRACE_OR_ECHO: Word = Word::FlagWithout(
 /// Turns for a command that takes no moves.
 pub const TURNS: Word = Word::FileOption(
     "turns",
-    "A file of turns: which unit makes the next statement; - for standard input [default: program after program]",
+    "A file of turns, or the turns: which unit makes the next statement; - for standard input [default: program after program]",
 );
 
 pub const TURNS_BEFORE: Word = Word::FileOption(
     "turns",
-    "A file of turns to make before the search; - for standard input [default: none]",
+    "A file of turns, or the turns, to make before the search; - for standard input [default: none]",
 );
 
 pub const TURNS_FILE: Word = Word::File(
     "turns",
     "FILE",
-    "The file of the turns; - for standard input",
+    "A file of turns, or the turns; - for standard input",
 );
 
 pub const TURNS_OR_MOVES: Word = Word::FileOptionWithout(
     "turns",
     "moves",
-    "A file of turns: which unit makes the next statement; - for standard input; not with --moves",
+    "A file of turns, or the turns: which unit makes the next statement; - for standard input; not with --moves",
 );
 
 pub const TRACE_UNITS: Word = Word::NumberOption(

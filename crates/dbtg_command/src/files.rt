@@ -1,15 +1,18 @@
 //! Files as the source of the texts. No contract can say what a file contains: the reader of files says so, and everything that is
-//! proved here holds for each reader.
-ghost use Rattle.std.specs.Prelude.{◌≡◌, ℕ, List, [], IfErr, IfOk, length, map, slice_get, unwrap_or};
-ghost use Rattle.dbtg_command.specs.Inside.Files.{FileFails, FileHolds, IsUnread, most_of};
+//! proved here holds for each reader. A word in the place of moves or turns may be these itself, if it names no file.
+ghost use Rattle.std.specs.Prelude.{◌≡◌, ◌&&◌, ℕ, List, [], IfErr, IfOk, is_none, length, map, slice_get, true, unwrap_or};
+ghost use Rattle.dbtg_command.specs.Inside.Files.{FileFails, FileHolds, IsUnread, most_of, says_order};
+ghost use Rattle.dbtg_script.specs.Moves.{refusal as moves_refusal};
+ghost use Rattle.dbtg_script.specs.Turns.{turns_refusal};
 ghost use Rattle.dbtg_command.specs.Sources.{HasPlace, kind_of, order_map};
 ghost use Rattle.dbtg_command.specs.Inside.Sources.{StandsIn};
 
 use crate::fault::Fault;
 use crate::order::{Order, OrderKind};
 use crate::place::TextPlace;
+use crate::reading::{moves_of, turns_of};
 use crate::source::Source;
-use std::alloc::Global;
+use std::alloc::{AllocError, Global};
 use std::fs::File;
 use std::io::{self, Input, Read};
 
@@ -116,16 +119,64 @@ fn most_of(place: TextPlace) -> u64
     }
 }
 
-fn unread(alloc: Global, path: &str, error: &io::Error) -> Fault
+fn unread(alloc: Global, path: &str) -> Fault
     ensures { IsUnread path.now result }
 {
-    if error.kind() == io::ErrorKind::OutOfMemory {
-        return Fault::Memory;
-    }
     match String::from_str(alloc, path) {
         Ok(path) => Fault::Unreadable { path },
         Err(_) => Fault::Memory,
     }
+}
+
+fn are_moves(alloc: Global, word: &[u8]) -> Result<bool, AllocError>
+    ensures { IfOk result (λ are. are ≡ is_none (moves_refusal word.now)) }
+{
+    match moves_of(alloc, word) {
+        Ok(_) => Ok(true),
+        Err(Fault::Memory) => Err(AllocError),
+        Err(_) => Ok(false),
+    }
+}
+
+fn are_turns(alloc: Global, word: &[u8]) -> Result<bool, AllocError>
+    ensures { IfOk result (λ are. are ≡ is_none (turns_refusal word.now)) }
+{
+    match turns_of(alloc, word) {
+        Ok(_) => Ok(true),
+        Err(Fault::Memory) => Err(AllocError),
+        Err(_) => Ok(false),
+    }
+}
+
+// Is a word itself what is wanted in this place?
+fn says_order(alloc: Global, place: TextPlace, word: &[u8]) -> Result<bool, AllocError>
+    ensures { IfOk result (λ says. says ≡ says_order place word.now) }
+{
+    match place {
+        TextPlace::Moves => Ok(!word.is_empty() && are_moves(alloc, word)?),
+        TextPlace::Turns => Ok(!word.is_empty() && are_turns(alloc, word)?),
+        TextPlace::Schema | TextPlace::Script(_) | TextPlace::Trace => Ok(false),
+    }
+}
+
+// The text of a word that names no file.
+fn text_of_word(alloc: Global, place: TextPlace, word: &str) -> Result<Vec<u8>, Fault>
+    ensures says { IfOk result (λ text. says_order place word.now ≡ true) }
+    ensures text { IfOk result (λ text. text.items ≡ word.now) }
+    ensures unread { IfErr result (λ fault. IsUnread word.now fault) }
+{
+    if says_order(alloc, place, word.as_bytes())? {
+        return Ok(Vec::from_slice(alloc, word.as_bytes())?);
+    }
+    Err(unread(alloc, word))
+}
+
+/// Is there no such file? A word that is too long for a name is none either.
+pub fn is_no_file(kind: io::ErrorKind) -> bool {
+    matches!(
+        kind,
+        io::ErrorKind::NotFound | io::ErrorKind::InvalidFilename
+    )
 }
 
 impl<'a, F: FileReader> Source for Files<'a, F> {
@@ -133,7 +184,7 @@ impl<'a, F: FileReader> Source for Files<'a, F> {
 
     ghost order = { λ s. kind_of s.paths.now.order };
 
-    ghost holds = { λ s place text. FileHolds (F.has s.reader.now) s.paths.now.schema.now (map (λ path. path.now) s.paths.now.scripts.now) (order_map (λ path. path.now) s.paths.now.order) place text };
+    ghost holds = { λ s place text. FileHolds (F.has s.reader.now) (F.lacks s.reader.now) s.paths.now.schema.now (map (λ path. path.now) s.paths.now.scripts.now) (order_map (λ path. path.now) s.paths.now.order) place text };
 
     ghost fails = { λ s place fault. FileFails (F.lacks s.reader.now) s.paths.now.schema.now (map (λ path. path.now) s.paths.now.scripts.now) (order_map (λ path. path.now) s.paths.now.order) place fault };
 
@@ -149,7 +200,9 @@ impl<'a, F: FileReader> Source for Files<'a, F> {
         let path = self.paths.path(place);
         match self.reader.read(path, most_of(place)) {
             Ok(text) => Ok(text),
-            Err(error) => Err(unread(alloc, path, &error)),
+            Err(error) if error.kind() == io::ErrorKind::OutOfMemory => Err(Fault::Memory),
+            Err(error) if is_no_file(error.kind()) => text_of_word(alloc, place, path),
+            Err(_) => Err(unread(alloc, path)),
         }
     }
 }

@@ -8,8 +8,11 @@ ghost use Rattle.dbtg_command.specs.Sources.{order_map};
 ghost use Rattle.dbtg_command.specs.declared.fault.Fault.TheVariants.{Memory};
 
 use crate::fault::Fault;
-use crate::files::{FileReader, Files, Paths, SCRIPT_BYTES, STANDARD_INPUT, TRACE_BYTES};
+use crate::files::{
+    FileReader, Files, Paths, SCRIPT_BYTES, STANDARD_INPUT, TRACE_BYTES, is_no_file,
+};
 use crate::order::Order;
+use crate::reading::{moves_of, turns_of};
 use crate::texts::read_schema;
 use dbtg_explain::{Kind, line_at, meaning_of, said_of_schema_word, said_of_word};
 use dbtg_schema::Schema;
@@ -63,14 +66,73 @@ fn other_kind(kind: Kind, text: &[u8]) -> &'static str
 }
 
 /// Why the system does not give a file.
-fn reason_of(kind: io::ErrorKind) -> &'static str {
+pub fn reason_of(kind: io::ErrorKind) -> &'static str {
     match kind {
-        io::ErrorKind::NotFound => "there is no such file",
+        kind if is_no_file(kind) => "there is no such file",
         io::ErrorKind::PermissionDenied => "permission is denied",
         io::ErrorKind::IsADirectory => "it is a directory",
         io::ErrorKind::NotADirectory => "a part of the path is no directory",
         _ => "the system cannot read it",
     }
+}
+
+/// What a word with this fault is not.
+fn said_as(
+    alloc: Global,
+    kind: Kind,
+    what: &str,
+    fault: Option<Fault>,
+) -> Result<Vec<u8>, AllocError> {
+    match fault {
+        Some(Fault::Moves { word, cause } | Fault::Turns { word, cause }) => {
+            let place = place_of(alloc, what, ", word ", word)?;
+            told_at(place, &[], meaning_of(kind, cause.number()), "")
+        }
+        Some(Fault::Memory) => Err(AllocError),
+        _ => Ok(Vec::new(alloc)),
+    }
+}
+
+/// Why a word that stands in the place of moves or turns is none itself; nothing of other words.
+fn no_order(alloc: Global, order: Order<&str>, word: &str) -> Result<Vec<u8>, AllocError> {
+    let text = word.as_bytes();
+    match order {
+        Order::Moves(path) if path == word => {
+            said_as(
+                alloc,
+                Kind::Moves,
+                "; as moves",
+                moves_of(alloc, text).err(),
+            )
+        }
+        Order::Turns(path) if path == word => {
+            said_as(
+                alloc,
+                Kind::Turns,
+                "; as turns",
+                turns_of(alloc, text).err(),
+            )
+        }
+        _ => Ok(Vec::new(alloc)),
+    }
+}
+
+/// Why a file could not be read.
+fn why_unread<F: FileReader>(
+    alloc: Global,
+    files: &Files<F>,
+    path: &str,
+) -> Result<Vec<u8>, AllocError> {
+    let Err(error) = files.reader.read(path, SCRIPT_BYTES) else {
+        return Vec::from_slice(alloc, b"the system could not read it");
+    };
+    let kind = error.kind();
+    let mut why = Vec::from_slice(alloc, reason_of(kind).as_bytes())?;
+    if is_no_file(kind) {
+        let no_order = no_order(alloc, files.paths.order, path)?;
+        why.extend_from_slice(no_order.as_slice())?;
+    }
+    Ok(why)
 }
 
 fn unread_line<F: FileReader>(
@@ -80,13 +142,10 @@ fn unread_line<F: FileReader>(
 ) -> Result<Vec<u8>, AllocError>
     ensures { IfOk result (λ out. IsUnreadLine path.now out.items) }
 {
-    let why = match files.reader.read(path, SCRIPT_BYTES) {
-        Ok(_) => "the system could not read it",
-        Err(error) => reason_of(error.kind()),
-    };
+    let why = why_unread(alloc, files, path)?;
     let mut out = Vec::from_slice(alloc, path.as_bytes())?;
     out.extend_from_slice(b": ")?;
-    out.extend_from_slice(why.as_bytes())?;
+    out.extend_from_slice(why.as_slice())?;
     Ok(out)
 }
 
