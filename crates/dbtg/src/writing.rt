@@ -10,6 +10,7 @@ use dbtg_command::reason::reason;
 use dbtg_command::{Call, Fault, Files, Named};
 use dbtg_shell::write_file;
 use std::alloc::AllocError;
+use std::env;
 use std::io::{self, IsTerminal, Write};
 
 // The first line of a fault.
@@ -20,10 +21,15 @@ fn tell_line(rt: &HostRuntime, fault: &Fault) -> Status
     Status::of_fault(fault)
 }
 
+// Does the environment ask for second lines? It does by the value 1 alone.
+fn environment_explains(rt: &HostRuntime) -> bool {
+    matches!(env::var(rt, "DBTG_EXPLAIN"), Ok(value) if value.as_str() == "1")
+}
+
 // Does a fault have a second line? On a terminal it has one without being asked, and in the shell always.
 fn explains_faults(rt: &HostRuntime, call: &Call) -> bool {
     let unasked = matches!(call.named, Named::Shell) || rt.stderr().is_terminal();
-    !call.no_explain && (call.explains || unasked)
+    !call.no_explain && (call.explains || unasked || environment_explains(rt))
 }
 
 /// Tells a fault of what a command is given. A second line says where and why, if it is wanted.
