@@ -161,5 +161,5 @@ abbrev pub program : App
 program = record {
   top = record (new_shape (codes "dbtg")) { is_leaf = false; has_version = true; propagate_version = true; subcommand_required = true; arg_required_else_help = true };
   subs = map (λ asked. shape_with (name_of asked) (rules_for asked))
-      (named.Check ∷ named.Replay ∷ named.Turns ∷ named.Timeline ∷ named.Page ∷ named.Threads ∷ named.Run ∷ named.Explore ∷ named.Audit ∷ named.Draw ∷ named.Explain ∷ named.Shell ∷ []);
+      (named.Explore ∷ named.Run ∷ named.Check ∷ named.Replay ∷ named.Turns ∷ named.Timeline ∷ named.Page ∷ named.Threads ∷ named.Audit ∷ named.Draw ∷ named.Explain ∷ named.Shell ∷ []);
 }

@@ -193,7 +193,7 @@ fn topic_wanted(alloc: Global, given: &ArgMatches) -> Result<Topic, Error>
             alloc,
             Named::Explain,
             ErrorKind::InvalidValue,
-            "no status and no fault is called so: a status of four digits is wanted, or schema, script, program, moves, turns or trace and the number of a fault; 'dbtg explain' lists all",
+            "no status and no fault is called so: a status of four digits is wanted, or schema, script, program, moves, turns or trace, which lists its faults, and the number of one; 'dbtg explain' lists all",
         )?),
     }
 }
@@ -329,11 +329,36 @@ fn call_in<'a>(alloc: Global, matches: &ArgMatches<'a>) -> Result<Call<'a>, Erro
     Err(Error::from(AllocError))
 }
 
+// A word for an option with a file for what is printed, which no command has.
+fn is_output(word: &str) -> bool {
+    word.starts_with("-o") || word.starts_with("--output")
+}
+
+// Why words are not accepted. To one that asks for a file for what is printed, the usual advice would be of no use.
+fn refusal(alloc: Global, words: &[String], error: Error) -> Error {
+    let is_unknown = error.kind() == ErrorKind::UnknownArgument;
+    if !is_unknown || !words.iter().any(|word| is_output(word.as_str())) {
+        return error;
+    }
+    let Some(named) = words.get(1).and_then(|word| named_of(word.as_str())) else {
+        return error;
+    };
+    let told =
+        "there is no option for a file to write: what is printed goes to standard output, as in '> FILE'";
+    match refused(alloc, named, ErrorKind::UnknownArgument, told) {
+        Ok(error) => error,
+        Err(error) => Error::from(error),
+    }
+}
+
 /// What the words ask for. `Err` has the text that answers help, and words that are not accepted.
 pub fn call_of<'a>(alloc: Global, words: &'a [String]) -> Result<Call<'a>, Error>
     ensures { IfOk result (IsCallOf (map string_bytes words.now)) }
 {
-    let matches = command(alloc)?.try_get_matches_from(words)?;
+    let matches = match command(alloc)?.try_get_matches_from(words) {
+        Ok(matches) => matches,
+        Err(error) => return Err(refusal(alloc, words, error)),
+    };
     let call = call_in(alloc, &matches);
     drop(matches);
     call

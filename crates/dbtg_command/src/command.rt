@@ -41,7 +41,7 @@ fn check_command<'a>(alloc: Global, name: &'a str) -> Result<Command<'a>, AllocE
         alloc,
         name,
         "Reads a schema and scripts, and says how large they are",
-        "Example: dbtg check shop.schema unit1.script unit2.script",
+        "Example, in examples/shop: dbtg check shop.schema unit1.script unit2.script",
         &[
             ALL_FAULTS,
             FIRST,
@@ -62,7 +62,7 @@ fn draw_command<'a>(alloc: Global, name: &'a str) -> Result<Command<'a>, AllocEr
         alloc,
         name,
         "Prints the diagram of a schema, as Graphviz reads it: record types, and the sets from owner to member",
-        "Example: dbtg draw shop.schema | dot -Tsvg > shop.svg",
+        "Example, in examples/shop: dbtg draw shop.schema | dot -Tsvg > shop.svg",
         &[EXPLAIN, NO_EXPLAIN, SCHEMA],
     )
 }
@@ -79,7 +79,7 @@ fn explain_command<'a>(alloc: Global, name: &'a str) -> Result<Command<'a>, Allo
         &[TOPIC],
     )?
     .override_usage(
-        "dbtg explain [CODE | schema N | script N | program N | moves N | turns N | trace N]",
+        "dbtg explain [CODE | schema [N] | script [N] | program [N] | moves [N] | turns [N] | trace [N]]",
     ))
 }
 
@@ -91,7 +91,7 @@ fn replay_command<'a>(alloc: Global, name: &'a str) -> Result<Command<'a>, Alloc
         alloc,
         name,
         "Runs scripts in one order, and prints the answers, the database and the units",
-        "Example: dbtg replay --capacity 10 --moves shop.moves shop.schema unit1.script unit2.script",
+        "Example, in examples/shop: dbtg replay --capacity 10 --moves moves shop.schema unit1.script unit2.script",
         &[
             CAPACITY,
             FIRST,
@@ -115,7 +115,7 @@ fn turns_command<'a>(alloc: Global, name: &'a str) -> Result<Command<'a>, AllocE
         alloc,
         name,
         "Converts a file of turns into a file of moves",
-        "Example: dbtg turns a.turns shop.schema unit1.script unit2.script",
+        "Example, in examples/shop: dbtg turns \"1*2 2\" shop.schema unit1.script unit2.script",
         &[CAPACITY, EXPLAIN, NO_EXPLAIN, TURNS_FILE, SCHEMA, SCRIPTS],
     )
 }
@@ -128,7 +128,7 @@ fn timeline_command<'a>(alloc: Global, name: &'a str) -> Result<Command<'a>, All
         alloc,
         name,
         "Prints a picture of an interleaving: a lane for each unit, event by event",
-        "Example: dbtg timeline --moves shop.moves shop.schema unit1.script unit2.script",
+        "Example, in examples/shop: dbtg timeline --moves moves shop.schema unit1.script unit2.script",
         &[
             CAPACITY,
             FIRST,
@@ -151,7 +151,7 @@ fn page_command<'a>(alloc: Global, name: &'a str) -> Result<Command<'a>, AllocEr
         alloc,
         name,
         "Prints a page for a browser to step through a run: statements, records, sets and what is current",
-        "Example: dbtg page --moves shop.moves shop.schema unit1.script unit2.script > run.html",
+        "Example, in examples/shop: dbtg page --moves moves shop.schema unit1.script unit2.script > shop.html",
         &[
             CAPACITY,
             FIRST,
@@ -173,7 +173,7 @@ fn threads_command<'a>(alloc: Global, name: &'a str) -> Result<Command<'a>, Allo
         alloc,
         name,
         "Runs scripts on threads, and prints the answers, the database, the units and the audit",
-        "Example: dbtg threads --capacity 10 shop.schema unit1.script unit2.script",
+        "Example, in examples/shop: dbtg threads --capacity 10 shop.schema unit1.script unit2.script",
         &[
             CAPACITY,
             FIRST,
@@ -195,7 +195,7 @@ fn audit_command<'a>(alloc: Global, name: &'a str) -> Result<Command<'a>, AllocE
         alloc,
         name,
         "Compares the answers of a trace with those of this database, and prints what it leads to",
-        "Example: dbtg audit --units 2 shop.schema shop.trace",
+        "Example, in examples/shop: dbtg audit --units 2 shop.schema shop.trace",
         &[
             CAPACITY,
             FIRST,
@@ -218,7 +218,7 @@ fn run_command<'a>(alloc: Global, name: &'a str) -> Result<Command<'a>, AllocErr
         alloc,
         name,
         "Runs programs in one order, and prints the answers, the database, the units and how each program ended",
-        "Example: dbtg run --turns shop.turns shop.schema clerk1.program clerk2.program",
+        "Example, in examples/clerks: dbtg run --first load.program --turns lost.turns inventory.schema one.program two.program",
         &[
             CAPACITY,
             FIRST_PROGRAM,
@@ -244,7 +244,7 @@ fn explore_command<'a>(alloc: Global, name: &'a str) -> Result<Command<'a>, Allo
         alloc,
         name,
         "Runs programs or scripts in every interleaving: lists results, failed checks and endless loops",
-        "Example: dbtg explore --first load.program shop.schema clerk1.program clerk2.program\n'dbtg run --turns', with the same --first and --then, repeats the turns of a result. The exit status is 4 if a program can fail, they can run for ever or a wish is broken\nWith a small --capacity it is faster, and takes less memory",
+        "Example, in examples/clerks: dbtg explore --first load.program inventory.schema one.program two.program\n'dbtg run --turns', with the same --first and --then, repeats the turns of a result. The exit status is 4 if a program can fail, they can run for ever or a wish is broken\nWith a small --capacity it is faster, and takes less memory",
         &[
             CAPACITY,
             FIRST_PROGRAM,
@@ -270,7 +270,7 @@ fn shell_command<'a>(alloc: Global, name: &'a str) -> Result<Command<'a>, AllocE
         alloc,
         name,
         "Reads statements from standard input, and answers each at once",
-        "Example: dbtg shell shop.schema; .help shows what can be typed there",
+        "Example, in examples/shop: dbtg shell shop.schema; .help shows what can be typed there",
         &[CAPACITY, UNITS, SCHEMA_ALONE],
     )
 }
@@ -278,14 +278,14 @@ fn shell_command<'a>(alloc: Global, name: &'a str) -> Result<Command<'a>, AllocE
 /// What the program can be asked to do, in the order of its help.
 #[derive(Clone, Copy)]
 pub enum Named {
+    Explore,
+    Run,
     Check,
     Replay,
     Turns,
     Timeline,
     Page,
     Threads,
-    Run,
-    Explore,
     Audit,
     Draw,
     Explain,
@@ -293,14 +293,14 @@ pub enum Named {
 }
 
 pub const ALL: [Named; 12] = [
+    Named::Explore,
+    Named::Run,
     Named::Check,
     Named::Replay,
     Named::Turns,
     Named::Timeline,
     Named::Page,
     Named::Threads,
-    Named::Run,
-    Named::Explore,
     Named::Audit,
     Named::Draw,
     Named::Explain,
@@ -377,7 +377,7 @@ pub fn command<'a>(alloc: Global) -> Result<Command<'a>, AllocError>
         .subcommand_required(true)
         .arg_required_else_help(true)
         .after_help(
-            "Example: dbtg explore --first load.program inventory.schema one.program two.program",
+            "Example, in examples/clerks: dbtg explore --first load.program inventory.schema one.program two.program",
         );
     for named in &ALL {
         command = command.subcommand(command_of(alloc, *named, name_of(*named))?)?;

@@ -84,6 +84,8 @@ const NO_TOPIC: &str = "no status and no fault is called so\n";
 
 const NO_COMMAND: &str = "there is no such command: .help shows those that there are\n";
 
+const NO_WORD_WANTED: &str = "the command takes no word: .help shows those that do\n";
+
 const NO_FILE: &str = "the name of a file is wanted, as text in UTF-8\n";
 
 const NO_DIRECTORY: &str = "the name of a directory is wanted, as text in UTF-8\n";
@@ -321,6 +323,9 @@ impl<'a> Shell<'a> {
             b"save" => self.named(rest, NO_DIRECTORY, Reply::Save(rest)),
             b"help" if rest.is_empty() => self.text(HELP),
             b"quit" if rest.is_empty() => Ok(Reply::Quit),
+            b"undo" | b"units" | b"schema" | b"database" | b"help" | b"quit" => {
+                self.text(NO_WORD_WANTED)
+            }
             _ => self.text(NO_COMMAND),
         }
     }

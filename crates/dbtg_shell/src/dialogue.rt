@@ -8,7 +8,7 @@ ghost use Rattle.dbtg_shell.specs.Inside.Programs.{IsFollowed, MakesDue, MayHave
 
 use crate::running::{Followed, shown_line};
 use crate::saved::{first_there, save, saved_paths};
-use dbtg_command::reason::reason;
+use dbtg_command::reason::{reason, reason_of};
 use dbtg_command::{Call, Fault, Files, Order, Paths, program_of};
 use dbtg_going::lines_of;
 use dbtg_program::Program;
@@ -298,7 +298,7 @@ fn run_file(
     path: &str,
 ) -> Result<(), Broken> {
     match program_bytes(rt, path) {
-        Err(error) => write_unread(rt, path, &error),
+        Err(error) => write_unread(rt, path, &Unread { lines: 0, error }),
         Ok(text) => match run_program(rt, shell, call, path, text.as_slice()) {
             Err(Broken::Memory) => write(rt, WANT_OF_MEMORY.as_bytes()),
             ended => ended,
@@ -336,6 +336,13 @@ fn reply_to<'b>(
     }
 }
 
+// Why no further line of a file can be read, and how many lines were read before.
+#[derive(Drop)]
+struct Unread {
+    lines: u64,
+    error: io::Error,
+}
+
 // Answers the lines of a file, as if they were typed; whether the dialogue goes on, or why no further line can be read.
 fn answer_file<B: BufRead>(
     rt: &HostRuntime,
@@ -343,12 +350,12 @@ fn answer_file<B: BufRead>(
     call: &Call<'_>,
     input: &mut B,
     line: &mut Vec<u8>,
-) -> Result<io::Result<bool>, Broken> {
-    for _ in 0..u64::MAX {
+) -> Result<Result<bool, Unread>, Broken> {
+    for lines in 0..u64::MAX {
         let kept = match next_line(input, line) {
             Ok(Some(kept)) => kept,
             Ok(None) => return Ok(Ok(true)),
-            Err(error) => return Ok(Err(error)),
+            Err(error) => return Ok(Err(Unread { lines, error })),
         };
         let reply = reply_to(shell, kept, line.as_slice());
         if !write_reply(rt, shell, call, &reply)? {
@@ -366,10 +373,20 @@ fn opened(rt: &HostRuntime, path: &str) -> io::Result<(BufReader<File>, Vec<u8>)
     Ok((input, line))
 }
 
+// What is said of a file that cannot be read: the system's reason, and the line behind which it stopped, if it stopped behind one.
+fn unread_text(rt: &HostRuntime, path: &str, unread: &Unread) -> Result<String, AllocError> {
+    let Unread { lines, error } = unread;
+    let why = reason_of(error.kind());
+    match lines {
+        0 => format!(in rt.alloc(); "cannot read {path}: {why}\n"),
+        _ => format!(in rt.alloc(); "cannot read {path} behind line {lines}: {why}\n"),
+    }
+}
+
 // Reports a file that cannot be read.
-fn write_unread(rt: &HostRuntime, path: &str, error: &io::Error) -> Result<(), Broken> {
-    if error.kind() != io::ErrorKind::OutOfMemory {
-        if let Ok(told) = format!(in rt.alloc(); "cannot read {path}\n") {
+fn write_unread(rt: &HostRuntime, path: &str, unread: &Unread) -> Result<(), Broken> {
+    if unread.error.kind() != io::ErrorKind::OutOfMemory {
+        if let Ok(told) = unread_text(rt, path, unread) {
             return write(rt, told.as_bytes());
         }
     }
@@ -385,12 +402,12 @@ fn load(
 ) -> Result<bool, Broken> {
     let loaded = match opened(rt, path) {
         Ok((mut input, mut line)) => answer_file(rt, shell, call, &mut input, &mut line)?,
-        Err(error) => Err(error),
+        Err(error) => Err(Unread { lines: 0, error }),
     };
     match loaded {
         Ok(goes_on) => Ok(goes_on),
-        Err(error) => {
-            write_unread(rt, path, &error)?;
+        Err(unread) => {
+            write_unread(rt, path, &unread)?;
             Ok(true)
         }
     }
