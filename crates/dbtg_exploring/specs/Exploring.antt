@@ -16,6 +16,7 @@ use Rattle.dbtg_command.specs.Refusals.{is_count}
 use Rattle.dbtg_command.specs.Sources.{ReadSchema}
 use Rattle.dbtg_running.specs.declared.command.Printed.{Printed}
 use Rattle.dbtg_running.specs.First.{never_ends, told_of_first}
+use Rattle.dbtg_running.specs.Idle.{idle_text}
 use Rattle.dbtg_running.specs.Reading.{ReadPrograms}
 use Rattle.dbtg_running.specs.Running.{ReadsTurns, ToldOfRun}
 use Rattle.dbtg_explore.specs.declared.explored.Explored.{Explored}
@@ -92,11 +93,11 @@ IsListedIf true schema programs told asked printed = (printed.text.items ≡ [])
 IsListedIf false schema programs told asked printed =
     (begun : List ℕ) × Begins schema programs told asked begun × IsPrinted asked.wish schema programs told asked (meeting_of schema programs asked begun) printed
 
--- after the run of the turns before, beside which it is told of the first program
+-- after the run of the turns before, beside which it is told of the first program, and of turns that make nothing
 pub record IsListed (schema : Lists) (programs : List Program) (texts : List (List ℕ)) (told : List ℕ) (asked : Exploring) (printed : Printed) : Type 0 where
   pub before : ProgramRun
   pub is_before : IsRunBefore schema programs told asked before
-  pub beside_is : printed.beside.items ≡ told_of_first schema asked.capacity asked.around texts before
+  pub beside_is : printed.beside.items ≡ told_of_first schema asked.capacity asked.around texts before ++ idle_text asked.around (length programs) told before.run.history
   pub listed : IsListedIf (never_ends asked.around (length programs) before.programs) schema programs told asked printed
 
 -- what is said: there is no such statement, it cannot have the status, or what is printed

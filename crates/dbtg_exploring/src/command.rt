@@ -22,7 +22,8 @@ use dbtg_explore::{Explored, Meeting, Wish, broken_turns, explore};
 use dbtg_going::ProgramRun;
 use dbtg_replay::replay::{AnswerForm, check_count};
 use dbtg_running::{
-    Printed, Programs, RunOptions, never_ends, read_programs, told_of_first, turns_wanted,
+    Printed, Programs, RunOptions, never_ends, push_idle_turns, read_programs, told_of_first,
+    turns_wanted,
 };
 use dbtg_schema::{Row, Schema};
 use dbtg_states::{Stop, Watch};
@@ -190,8 +191,10 @@ fn explore_setting<W: Watch>(
         around: asked.around,
         form: AnswerForm::Plain,
     };
-    let beside = told_of_first(alloc, setting.schema, programs, options, &before)?;
     let units = setting.programs.len() as u8;
+    let history = before.run.history.as_slice();
+    let mut beside = told_of_first(alloc, setting.schema, programs, options, &before)?;
+    push_idle_turns(&mut beside, asked.around, units, setting.told, history)?;
     if never_ends(asked.around, units, before.programs.as_slice()) {
         return Ok(Printed::nothing(alloc, beside));
     }

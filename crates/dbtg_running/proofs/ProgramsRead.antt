@@ -21,6 +21,7 @@ use Rattle.dbtg_running.specs.declared.command.Printed.{Printed}
 use Rattle.dbtg_running.specs.declared.command.RunOptions.{RunOptions}
 use Rattle.dbtg_running.specs.Reading.{AllAccepted, ReadPrograms}
 use Rattle.dbtg_running.specs.declared.threads.PrintedOnThreads.{PrintedOnThreads}
+use Rattle.dbtg_running.specs.Idle.{AlsoTells, told_of_turns}
 use Rattle.dbtg_running.specs.Running.{PrintsRun, ReadsTurns, RunsHeld, run_text}
 use Rattle.dbtg_running.specs.Threading.{IsPrintedOf, RunsOnThreads}
 use Rattle.dbtg_running.proofs.RunAgain.{saved_again}
@@ -47,11 +48,12 @@ programs_behind holds lists n text before after texts texts' so_far held e taken
     )
 
 -- a run of the programs that were read, as it is printed
-pub run_is_read : (holds : TextPlace → List ℕ → Type 0) (lists : Lists) (count : ℕ) (which : OrderKind) (options : RunOptions) (programs : List Program) (texts : List (List ℕ)) (turns : Option (List ℕ)) (given : ProgramRun) (printed : Printed)
+pub run_is_read : (holds : TextPlace → List ℕ → Type 0) (lists : Lists) (count : ℕ) (which : OrderKind) (options : RunOptions) (programs : List Program) (texts : List (List ℕ)) (turns : Option (List ℕ)) (given : ProgramRun) (made printed : Printed)
     → is_count count ≡ true → ReadSchema holds lists → (read : ReadPrograms holds lists count) × (programs ≡ map (program lists) read.texts) × (texts ≡ read.texts) → ReadsTurns holds which turns
-    → IsRunOf lists options.capacity programs (turns_of lists options.capacity programs options.around turns) given → PrintsRun lists options texts given (run_text lists options.form texts given) printed
-    → RunsHeld holds count which options printed
-run_is_read holds lists count which options programs texts turns given printed right schema read turns_too run is_printed =
+    → IsRunOf lists options.capacity programs (turns_of lists options.capacity programs options.around turns) given → PrintsRun lists options texts given (run_text lists options.form texts given) made
+    → AlsoTells made (told_of_turns options.around (length programs) turns given.run.history) printed → RunsHeld holds count which options printed
+run_is_read holds lists count which options programs texts turns given made printed right schema read turns_too run is_printed also =
+    let many = ap length read.1 ∙ length-map read.0.texts (program lists) ∙ read.0.many in
     record {
       counted = right;
       lists = lists;
@@ -61,7 +63,9 @@ run_is_read holds lists count which options programs texts turns given printed r
       turns_too = turns_too;
       given = given;
       is_run = subst (λ ps. IsRunOf lists options.capacity ps (turns_of lists options.capacity ps options.around turns) given) read.1 run;
-      is_printed = subst (λ ts. PrintsRun lists options ts given (run_text lists options.form ts given) printed) read.2 is_printed;
+      made = made;
+      is_printed = subst (λ ts. PrintsRun lists options ts given (run_text lists options.form ts given) made) read.2 is_printed;
+      also = subst (λ (n : ℕ). AlsoTells made (told_of_turns options.around n turns given.run.history) printed) many also;
     }
 
 -- 1 to 8 programs were read

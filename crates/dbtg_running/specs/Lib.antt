@@ -1,6 +1,7 @@
 pub mod Reading
 pub mod Echoing
 pub mod First
+pub mod Idle
 pub mod Running
 pub mod Threading
 pub mod Checking

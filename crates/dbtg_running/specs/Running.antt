@@ -24,6 +24,7 @@ use Rattle.dbtg_running.specs.declared.command.Printed.{Printed}
 use Rattle.dbtg_running.specs.declared.command.RunOptions.{RunOptions}
 use Rattle.dbtg_running.specs.Echoing.{scripts_made}
 use Rattle.dbtg_running.specs.First.{never_ends, told_of_first}
+use Rattle.dbtg_running.specs.Idle.{AlsoTells, told_of_turns}
 use Rattle.dbtg_running.specs.Reading.{ReadPrograms, ToldOfPrograms}
 
 -- WHAT IS PRINTED
@@ -57,7 +58,8 @@ pub record PrintsRun (lists : Lists) (options : RunOptions) (texts : List (List 
   pub failed_is : printed.failed ≡ (never_ends options.around (length texts) given.programs || list_any (λ r. failed r.standing) given.programs)
   pub beside_is : printed.beside.items ≡ told_of_first lists options.capacity options.around texts given
 
--- 1 to 8 programs, nothing is refused, and what is printed is the text of the run of what the texts say
+-- 1 to 8 programs, nothing is refused, and what is printed is the text of the run of what the texts say; it is also told of turns that
+-- make nothing
 pub record RunsHeld (holds : TextPlace → List ℕ → Type 0) (count : ℕ) (which : OrderKind) (options : RunOptions) (printed : Printed) : Type 0 where
   pub counted : is_count count ≡ true
   pub lists : Lists
@@ -67,7 +69,9 @@ pub record RunsHeld (holds : TextPlace → List ℕ → Type 0) (count : ℕ) (w
   pub turns_too : ReadsTurns holds which turns
   pub given : ProgramRun
   pub is_run : IsRunOf lists options.capacity (map (program lists) programs.texts) (turns_of lists options.capacity (map (program lists) programs.texts) options.around turns) given
-  pub is_printed : PrintsRun lists options programs.texts given (run_text lists options.form programs.texts given) printed
+  pub made : Printed
+  pub is_printed : PrintsRun lists options programs.texts given (run_text lists options.form programs.texts given) made
+  pub also : AlsoTells made (told_of_turns options.around count turns given.run.history) printed
 
 -- WHICH FAULT IS REPORTED
 

@@ -5,6 +5,7 @@ ghost use Rattle.dbtg_command.specs.Sources.{ReadSchema, ToldOfOrder};
 ghost use Rattle.dbtg_going.specs.Turns.{IsRunOf, turns_of};
 ghost use Rattle.dbtg_program.specs.Reading.{program};
 ghost use Rattle.dbtg_replay.specs.Replaying.{CanShow};
+ghost use Rattle.dbtg_running.specs.Idle.{AlsoTells, told_of_turns};
 ghost use Rattle.dbtg_running.specs.Reading.{ReadPrograms};
 ghost use Rattle.dbtg_running.specs.Running.{PrintsRun, ReadsTurns, RunsHeld, ToldOfRun, failed, run_text as said_text};
 ghost use Rattle.dbtg_schema.specs.Sound.{IsSound};
@@ -13,6 +14,7 @@ ghost use Rattle.std.specs.Prelude.{◌≡◌, ◌≤◌, [], IfErr, IfOk, lengt
 
 use crate::echo::scripts_made;
 use crate::first::{never_ends, told_of_first};
+use crate::idle::push_told_of_turns;
 use crate::programs::{Programs, read_programs};
 use dbtg_command::{Fault, OrderKind, Source, read_schema, read_turns};
 use dbtg_going::{
@@ -21,7 +23,7 @@ use dbtg_going::{
 use dbtg_program::{End, Program};
 use dbtg_replay::replay::{AnswerForm, Shown, check_count, push_given};
 use dbtg_schema::{Row, Schema};
-use dbtg_unit::LAST_UNIT;
+use dbtg_unit::{Entry, LAST_UNIT};
 use std::alloc::{AllocError, Global};
 
 /// How programs are run, and what is printed.
@@ -52,6 +54,21 @@ impl Printed {
             failed: true,
             beside,
         }
+    }
+
+    // The same, and beside it what is told of the turns.
+    fn telling(
+        self,
+        around: Around,
+        units: u8,
+        turns: &Option<Row<u8>>,
+        history: &[Entry],
+    ) -> Result<Self, AllocError>
+        ensures { IfOk result (λ all. AlsoTells self.entry (told_of_turns around units turns.now history.now) all) }
+    {
+        let mut all = self;
+        push_told_of_turns(&mut all.beside, around, units, turns, history)?;
+        Ok(all)
     }
 }
 
@@ -198,7 +215,9 @@ fn run_read<S: Source>(
 {
     let turns = turns_wanted(alloc, source)?;
     let given = run_wanted(alloc, known, programs.list.as_slice(), &turns, options)?;
-    Ok(print_run(alloc, known, programs, options, &given)?)
+    let printed = print_run(alloc, known, programs, options, &given)?;
+    let units = programs.list.as_slice().len() as u8;
+    Ok(printed.telling(options.around, units, &turns, given.run.history.as_slice())?)
 }
 
 // What is printed of the programs over a schema that was read.
