@@ -1,7 +1,7 @@
 //! What each command is handed of a call.
 
 ghost use Rattle.std.specs.Prelude.{◌≡◌, ◌&&◌, not};
-ghost use Rattle.dbtg.specs.Options.{answer_form, around, explains_refusals, picture_form};
+ghost use Rattle.dbtg.specs.Options.{answer_form, around, explains_refusals, exploring, picture_form, wish_of};
 
 use crate::timeline::Form;
 use dbtg_command::{Call, Named, Wished};
@@ -68,7 +68,9 @@ pub fn run_options(call: &Call) -> RunOptions
 }
 
 // A wish, as `explore` takes it. A unit past the last is as one that is not there.
-fn wish_of(wished: Wished) -> Wish {
+fn wish_of(wished: Wished) -> Wish
+    ensures { result ≡ wish_of wished }
+{
     Wish {
         unit: wished.unit.min(LAST_UNIT as u64) as u8,
         line: wished.line,
@@ -78,7 +80,9 @@ fn wish_of(wished: Wished) -> Wish {
 }
 
 /// What `explore` is asked for.
-pub fn exploring(call: &Call) -> Exploring {
+pub fn exploring(call: &Call) -> Exploring
+    ensures { result ≡ exploring call.now }
+{
     Exploring {
         capacity: call.capacity,
         around: around(call),
