@@ -29,6 +29,7 @@ use Rattle.dbtg_command.specs.declared.fault.Fault.{Fault}
 use Rattle.dbtg_command.specs.declared.fault.Fault.TheVariants.{Schema, Script, Moves, Turns, Trace, MovesOver, StatesOver, Unreadable, ScriptCount, Memory, Program}
 use Rattle.dbtg_command.specs.declared.order.Order.{Order}
 use Rattle.dbtg_command.specs.declared.order.Order.TheVariants as by
+use Rattle.dbtg_command.specs.Kinds.{other_kind}
 use Rattle.dbtg_command.specs.Refusals.{schema_in}
 
 -- a place in a file: its path, a mark, and the number of the line or word
@@ -84,23 +85,6 @@ SaysOfScript has lacks which schema path line number said =
     (IsScriptNotRead lacks schema path × (said ≡ []))
     ⊎ ((text : List ℕ) × has path 1048577 text × SaysOfLine has lacks which schema number (line_at line text) said)
 
--- the letters with which a text begins
-abbrev pub first_letters : List ℕ → List ℕ
-first_letters text = take_while is_ascii_alphabetic (drop (prefix_len is_ascii_whitespace text) text)
-
--- a statement can begin with this word
-abbrev pub begins_statement : List ℕ → Bool
-begins_statement word = is_some (start_with fits (plain word) (starts statement))
-
--- what is said of a text as a whole if it is of another kind: a script in a schema's place, or a schema in a script's, as it begins
-abbrev pub other_kind : Kind → List ℕ → List ℕ
-other_kind kind.Schema text = if begins_statement (first_letters text) then codes "; this is a script, and a schema is wanted" else []
-other_kind kind.Script text = if bytes_eq (first_letters text) (codes "SCHEMA") then codes "; this is a schema, and a script is wanted" else []
-other_kind kind.Program text = []
-other_kind kind.Moves text = []
-other_kind kind.Turns text = []
-other_kind kind.Trace text = []
-
 -- this is said of the whole text of the file with this path
 abbrev pub SaysOfFile : (List ℕ → ℕ → List ℕ → Type 0) → (List ℕ → ℕ → Type 0) → Kind → List ℕ → List ℕ → Type 0
 SaysOfFile has lacks which path other =
@@ -111,14 +95,9 @@ abbrev pub IsToldIn : Kind → (List ℕ → Type 0) → (List ℕ → Type 0) �
 IsToldIn which Says Other path line number out =
     (said : List ℕ) × (other : List ℕ) × Says said × Other other × (out ≡ told_at (place_of path (codes ":") line) said (fault_field which number 1) other)
 
--- this is said of a fault at a word of moves or turns
-abbrev pub IsToldOfOrder : Kind → List ℕ → ℕ → ℕ → List ℕ → Type 0
-IsToldOfOrder which path word number out = out ≡ told_at (place_of path (codes ": word ") word) [] (fault_field which number 1) []
-
--- this is said of a fault in a line of a program, given what `Says` allows for a word
-abbrev pub IsToldOfProgram : (List ℕ → Type 0) → List ℕ → ℕ → ℕ → List ℕ → Type 0
-IsToldOfProgram Says path line number out =
-    (said : List ℕ) × Says said × (out ≡ told_at (place_of path (codes ":") line) said (fault_field kind.Program number 1) [])
+-- this is said of a fault at a word of moves or turns, given what `Other` allows for the whole text
+abbrev pub IsToldOfOrder : Kind → (List ℕ → Type 0) → List ℕ → ℕ → ℕ → List ℕ → Type 0
+IsToldOfOrder which Other path word number out = (other : List ℕ) × Other other × (out ≡ told_at (place_of path (codes ": word ") word) [] (fault_field which number 1) other)
 
 -- why a line of a trace names none of the units
 abbrev pub no_unit : List ℕ → List ℕ
@@ -135,11 +114,6 @@ said_of_unit number line text = if number == 31 then no_unit (line_at line text)
 abbrev pub SaysOfTrace : (List ℕ → ℕ → List ℕ → Type 0) → (List ℕ → ℕ → Type 0) → List ℕ → ℕ → ℕ → List ℕ → Type 0
 SaysOfTrace has lacks path line number said =
     (IsNotReadTo lacks 67108865 path × (said ≡ [])) ⊎ ((text : List ℕ) × has path 67108865 text × (said ≡ said_of_unit number line text))
-
--- this is said of a fault in a line of a trace, given what `Says` allows for the line
-abbrev pub IsToldOfTrace : (List ℕ → Type 0) → List ℕ → ℕ → ℕ → List ℕ → Type 0
-IsToldOfTrace Says path line number out =
-    (said : List ℕ) × Says said × (out ≡ told_at (place_of path (codes ":") line) said (fault_field kind.Trace number 1) [])
 
 -- a file that could not be read is named with its path, and the reason
 abbrev pub IsUnreadLine : List ℕ → List ℕ → Type 0
@@ -164,17 +138,17 @@ IsReason has lacks schema scripts order (Script n line cause) out =
     let number = script_cause_number cause in
     let path = script_path scripts n in
     IsToldIn kind.Script (SaysOfScript has lacks kind.Script schema path line number) (SaysOfFile has lacks kind.Script path) path line number out
-IsReason has lacks schema scripts order (Moves word cause) out = IsToldOfOrder kind.Moves (order_path order) word (moves_cause_number cause) out
-IsReason has lacks schema scripts order (Turns word cause) out = IsToldOfOrder kind.Turns (order_path order) word (moves_cause_number cause) out
+IsReason has lacks schema scripts order (Moves word cause) out = IsToldOfOrder kind.Moves (SaysOfFile has lacks kind.Moves (order_path order)) (order_path order) word (moves_cause_number cause) out
+IsReason has lacks schema scripts order (Turns word cause) out = IsToldOfOrder kind.Turns (SaysOfFile has lacks kind.Turns (order_path order)) (order_path order) word (moves_cause_number cause) out
 IsReason has lacks schema scripts order (Unreadable path) out = IsUnreadLine (string_bytes path) out
 IsReason has lacks schema scripts order (Trace line cause) out =
     let number = trace_cause_number cause in
     let path = script_path scripts 1 in
-    IsToldOfTrace (SaysOfTrace has lacks path line number) path line number out
+    IsToldIn kind.Trace (SaysOfTrace has lacks path line number) (SaysOfFile has lacks kind.Trace path) path line number out
 IsReason has lacks schema scripts order (Program n line cause) out =
     let number = program_cause_number cause in
     let path = script_path scripts n in
-    IsToldOfProgram (SaysOfScript has lacks kind.Program schema path line number) path line number out
+    IsToldIn kind.Program (SaysOfScript has lacks kind.Program schema path line number) (SaysOfFile has lacks kind.Program path) path line number out
 IsReason has lacks schema scripts order MovesOver out = ⊥
 IsReason has lacks schema scripts order (StatesOver limit) out = ⊥
 IsReason has lacks schema scripts order ScriptCount out = ⊥

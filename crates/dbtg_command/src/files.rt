@@ -148,8 +148,8 @@ fn are_turns(alloc: Global, word: &[u8]) -> Result<bool, AllocError>
     }
 }
 
-// Is a word itself what is wanted in this place?
-fn says_order(alloc: Global, place: TextPlace, word: &[u8]) -> Result<bool, AllocError>
+/// Is a word itself what is wanted in this place?
+pub fn says_order(alloc: Global, place: TextPlace, word: &[u8]) -> Result<bool, AllocError>
     ensures { IfOk result (λ says. says ≡ says_order place word.now) }
 {
     match place {
