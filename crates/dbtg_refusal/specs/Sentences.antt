@@ -1,13 +1,15 @@
 -- What is said of an obstacle: who or what it is, what is said of it for the cause, and where.
 -- a is an area, t a record type, s a set, k a key, o an owner.
-use Rattle.std.specs.Prelude.{ℕ, List, [], ◌++◌, codes, decimal, option_map, slice_get, unwrap_or}
+use Rattle.std.specs.Prelude.{ℕ, ◌&&◌, nat_lt, List, [], ◌++◌, codes, decimal, flat_map, is_none, option_map, slice_get, unwrap_or, if◌then◌else◌}
 use Rattle.dbtg_schema.specs.Lists.{Lists}
+use Rattle.dbtg_schema.specs.Lookups.{at}
 use Rattle.dbtg_script.specs.Printing.Texts.{key_text, mode_text, owner_text, type_name}
 use Rattle.dbtg_unit.specs.declared.statement.Statement.{Statement}
 use Rattle.dbtg_unit.specs.declared.unit.Cause.{Cause}
 use Rattle.dbtg_unit.specs.declared.unit.Cause.TheVariants as cause
 use Rattle.dbtg_unit.specs.declared.unit.Unit.{Unit}
 use Rattle.dbtg_unit.specs.Database.State.Base.{Database}
+use Rattle.dbtg_unit.specs.Hands.Needs.{areas_in_order}
 use Rattle.dbtg_refusal.specs.declared.obstacle.Obstacle.{Obstacle}
 use Rattle.dbtg_refusal.specs.declared.obstacle.Obstacle.TheVariants as obstacle
 use Rattle.dbtg_refusal.specs.Obstacles.{obstacle_of}
@@ -74,6 +76,16 @@ whereabouts schema thing = []
 abbrev pub sentence : Lists → Cause → Obstacle → List ℕ
 sentence schema why thing = subject schema thing ++ predicate why thing ++ whereabouts schema thing
 
+-- area b, if its unit has not opened it and it comes behind a
+abbrev pub nor_area : Lists → Unit → ℕ → ℕ → List ℕ
+nor_area schema unit a b = if nat_lt a b && is_none (at unit.modes b) then codes ", nor is area " ++ area_name schema b else []
+
+-- behind the first area that is not open, the others that the statement wants
+abbrev pub further_areas : Lists → Unit → Statement → Cause → Obstacle → List ℕ
+further_areas schema unit statement cause.AreaNotOpen (obstacle.Area a) = flat_map (nor_area schema unit a) (areas_in_order schema unit statement)
+further_areas schema unit statement why thing = []
+
 -- what is said of a statement that is refused for this cause; nothing if nothing is in the way
 abbrev pub refusal_text : Lists → ℕ → Database → Unit → Statement → Cause → List ℕ
-refusal_text schema capacity db unit statement why = unwrap_or (option_map (sentence schema why) (obstacle_of schema capacity db unit statement why)) []
+refusal_text schema capacity db unit statement why =
+    unwrap_or (option_map (λ thing. sentence schema why thing ++ further_areas schema unit statement why thing) (obstacle_of schema capacity db unit statement why)) []

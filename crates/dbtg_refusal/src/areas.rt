@@ -37,7 +37,7 @@ fn passes(opening: Opening, mode: Option<Mode>) -> bool
 }
 
 // Is it one of the statement's areas, and does its unit have it open in this way?
-fn is_opened_so(
+pub(crate) fn is_opened_so(
     schema: &Schema,
     unit: &Unit,
     statement: &Statement,
@@ -50,7 +50,7 @@ fn is_opened_so(
     has_area(schema, unit, statement, area) && passes(opening, mode)
 }
 
-fn area_count(schema: &Schema) -> u8
+pub(crate) fn area_count(schema: &Schema) -> u8
     ensures { result ≡ length schema.now.areas }
 {
     schema.areas().len() as u8

@@ -1,11 +1,13 @@
 //! What is said of an obstacle, as a text.
-ghost use Rattle.std.specs.Prelude.{◌≡◌, ℕ, ◌++◌, codes, decimal, IfOk, OnOk, [], option_map, unwrap_or};
+ghost use Rattle.std.specs.Prelude.{◌≡◌, ℕ, ◌++◌, codes, decimal, flat_map, IfOk, OnOk, [], option_map, unwrap_or};
 ghost use Rattle.dbtg_unit.specs.Database.State.Base.{Database};
 ghost use Rattle.dbtg_unit.specs.Database.State.Image.{image_of};
 ghost use Rattle.dbtg_unit.specs.Database.State.Legal.{Legal};
+ghost use Rattle.dbtg_unit.specs.Hands.Needs.{areas_in_order};
 ghost use Rattle.dbtg_script.specs.Printing.Texts.{owner_text, type_name};
-ghost use Rattle.dbtg_refusal.specs.Sentences.{area_name, predicate, refusal_text, sentence, set_name, subject, whereabouts};
+ghost use Rattle.dbtg_refusal.specs.Sentences.{area_name, further_areas, nor_area, predicate, refusal_text, sentence, set_name, subject, whereabouts};
 
+use crate::areas::{Opening, area_count, is_opened_so};
 use crate::causes::obstacle_of;
 use crate::obstacle::Obstacle;
 use dbtg_cells::Owner;
@@ -172,18 +174,56 @@ fn push_sentence(
     push_whereabouts(out, schema, obstacle)
 }
 
+// Appends the areas behind this one that the statement wants and its unit has not open.
+fn push_areas_behind(
+    out: &mut Vec<u8>,
+    schema: &Schema,
+    unit: &Unit,
+    statement: &Statement,
+    first: AreaNo,
+) -> Result<(), AllocError>
+    ensures { OnOk result (out.new.items ≡ out.old.items ++ flat_map (nor_area schema.now unit.now first) (areas_in_order schema.now unit.now statement.now)) }
+{
+    for a in first.index() + 1..area_count(schema) {
+        let area = AreaNo::new(a);
+        if is_opened_so(schema, unit, statement, Opening::NotOpen, area) {
+            push_named(out, b", nor is area ", area_name(schema, area))?;
+        }
+    }
+    Ok(())
+}
+
+fn push_further_areas(
+    out: &mut Vec<u8>,
+    schema: &Schema,
+    unit: &Unit,
+    statement: &Statement,
+    why: (Cause, Obstacle),
+) -> Result<(), AllocError>
+    ensures { OnOk result (out.new.items ≡ out.old.items ++ further_areas schema.now unit.now statement.now why.0 why.1) }
+{
+    match why {
+        (Cause::AreaNotOpen, Obstacle::Area(area)) => {
+            push_areas_behind(out, schema, unit, statement, area)
+        }
+        _ => Ok(()),
+    }
+}
+
 // The sentence, if something is in the way.
 fn sentence_of(
     alloc: Global,
     schema: &Schema,
-    cause: Cause,
-    found: Option<Obstacle>,
+    unit: &Unit,
+    statement: &Statement,
+    why: (Cause, Option<Obstacle>),
 ) -> Result<Vec<u8>, AllocError>
-    ensures { IfOk result (λ out. out.items ≡ unwrap_or (option_map (sentence schema.now cause) found) []) }
+    ensures { IfOk result (λ out. out.items ≡ unwrap_or (option_map (λ thing. sentence schema.now why.0 thing ++ further_areas schema.now unit.now statement.now why.0 thing) why.1) []) }
 {
     let mut out = Vec::new(alloc);
-    if let Some(obstacle) = found {
-        push_sentence(&mut out, schema, cause, &obstacle)?;
+    if let Some(obstacle) = why.1 {
+        push_sentence(&mut out, schema, why.0, &obstacle)?;
+        push_further_areas(&mut out, schema, unit, statement, (why.0, obstacle))?;
     }
     Ok(out)
 }
@@ -201,7 +241,7 @@ pub fn refusal_text(
     ensures { IfOk result (λ out. (capacity : ℕ) (db : Database) → Legal schema.now capacity db → image.now ≡ image_of schema.now capacity db → out.items ≡ refusal_text schema.now capacity db unit.now statement.now cause) }
 {
     match obstacle_of(alloc, schema, image, unit, statement, cause) {
-        Ok(found) => sentence_of(alloc, schema, cause, found),
+        Ok(found) => sentence_of(alloc, schema, unit, statement, (cause, found)),
         Err(error) => Err(error),
     }
 }
