@@ -8,5 +8,6 @@ mod FirstCauses
 mod RefusedAtOnce
 mod RefusedOnCells
 mod EachRefusal
+mod FurtherAreas
 mod JustRefusals
 pub mod Rows

@@ -1,5 +1,5 @@
 //! The areas of a statement, and who has them open.
-ghost use Rattle.std.specs.Prelude.{◌≡◌, ◌&&◌, ◌==◌, length, option_map};
+ghost use Rattle.std.specs.Prelude.{◌≡◌, ◌&&◌, ◌==◌, is_some, length, option_map};
 ghost use Rattle.std.specs.List.{find, list_any};
 ghost use Rattle.dbtg_schema.specs.Lookups.{at};
 ghost use Rattle.dbtg_unit.specs.Database.Statements.Checks.{areas_of};
@@ -37,7 +37,7 @@ fn passes(opening: Opening, mode: Option<Mode>) -> bool
 }
 
 // Is it one of the statement's areas, and does its unit have it open in this way?
-pub(crate) fn is_opened_so(
+fn is_opened_so(
     schema: &Schema,
     unit: &Unit,
     statement: &Statement,
@@ -73,6 +73,13 @@ pub(crate) fn area_with(
         }
     }
     None
+}
+
+/// Has this unit the area open?
+pub(crate) fn is_opened(unit: &Unit, area: AreaNo) -> bool
+    ensures { result ≡ is_some (at unit.now.modes area) }
+{
+    entry_at(unit.modes.as_slice(), area.index() as usize).is_some()
 }
 
 /// An area as this unit has it open.

@@ -1,19 +1,21 @@
 //! What is said of an obstacle, as a text.
-ghost use Rattle.std.specs.Prelude.{◌≡◌, ℕ, ◌++◌, codes, decimal, flat_map, IfOk, OnOk, [], option_map, unwrap_or};
+ghost use Rattle.std.specs.Prelude.{◌≡◌, ◌==◌, ℕ, ◌++◌, codes, decimal, flat_map, IfOk, OnOk, [], if◌then◌else◌, option_map, unwrap_or};
 ghost use Rattle.dbtg_unit.specs.Database.State.Base.{Database};
 ghost use Rattle.dbtg_unit.specs.Database.State.Image.{image_of};
 ghost use Rattle.dbtg_unit.specs.Database.State.Legal.{Legal};
+ghost use Rattle.dbtg_unit.specs.Database.Statements.Checks.{areas_of};
 ghost use Rattle.dbtg_unit.specs.Hands.Needs.{areas_in_order};
+ghost use Rattle.std.specs.List.{list_any};
 ghost use Rattle.dbtg_script.specs.Printing.Texts.{owner_text, type_name};
 ghost use Rattle.dbtg_refusal.specs.Sentences.{area_name, further_areas, nor_area, predicate, refusal_text, sentence, set_name, subject, whereabouts};
 
-use crate::areas::{Opening, area_count, is_opened_so};
+use crate::areas::{area_count, is_opened};
 use crate::causes::obstacle_of;
 use crate::obstacle::Obstacle;
 use dbtg_cells::Owner;
 use dbtg_schema::{AreaNo, RecordNo, Schema, SetNo};
 use dbtg_script::{push_key, push_mode, push_number, push_owner};
-use dbtg_unit::{Cause, Image, Statement, Unit};
+use dbtg_unit::{Cause, Image, Statement, Unit, has_area};
 use std::alloc::{AllocError, Global};
 
 fn area_name(schema: &Schema, area: AreaNo) -> &[u8]
@@ -174,6 +176,38 @@ fn push_sentence(
     push_whereabouts(out, schema, obstacle)
 }
 
+// Appends an area, if the statement wants it, its unit has not opened it, and it comes behind this one.
+fn push_nor_area(
+    out: &mut Vec<u8>,
+    schema: &Schema,
+    unit: &Unit,
+    first: AreaNo,
+    area: AreaNo,
+) -> Result<(), AllocError>
+    ensures { OnOk result (out.new.items ≡ out.old.items ++ nor_area schema.now unit.now first area) }
+{
+    if first.index() < area.index() && !is_opened(unit, area) {
+        push_named(out, b", nor is area ", area_name(schema, area))?;
+    }
+    Ok(())
+}
+
+// The same of an area that the statement may not want.
+fn push_wanted_area(
+    out: &mut Vec<u8>,
+    schema: &Schema,
+    unit: &Unit,
+    statement: &Statement,
+    places: (AreaNo, AreaNo),
+) -> Result<(), AllocError>
+    ensures { OnOk result (out.new.items ≡ out.old.items ++ (if list_any (λ b. b == places.1) (areas_of schema.now unit.now statement.now) then nor_area schema.now unit.now places.0 places.1 else [])) }
+{
+    if has_area(schema, unit, statement, places.1) {
+        push_nor_area(out, schema, unit, places.0, places.1)?;
+    }
+    Ok(())
+}
+
 // Appends the areas behind this one that the statement wants and its unit has not open.
 fn push_areas_behind(
     out: &mut Vec<u8>,
@@ -184,11 +218,8 @@ fn push_areas_behind(
 ) -> Result<(), AllocError>
     ensures { OnOk result (out.new.items ≡ out.old.items ++ flat_map (nor_area schema.now unit.now first) (areas_in_order schema.now unit.now statement.now)) }
 {
-    for a in first.index() + 1..area_count(schema) {
-        let area = AreaNo::new(a);
-        if is_opened_so(schema, unit, statement, Opening::NotOpen, area) {
-            push_named(out, b", nor is area ", area_name(schema, area))?;
-        }
+    for a in 0..area_count(schema) {
+        push_wanted_area(out, schema, unit, statement, (first, AreaNo::new(a)))?;
     }
     Ok(())
 }
