@@ -1,7 +1,7 @@
 //! What each command is handed of a call.
 
 ghost use Rattle.std.specs.Prelude.{◌≡◌, ◌&&◌, not};
-ghost use Rattle.dbtg.specs.Options.{IsPictureForm, answer_form, around, explains_refusals, wish_of};
+ghost use Rattle.dbtg.specs.Options.{IsPictureForm, answer_form, around, explains_refusals, exploring, wish_of};
 
 use crate::timeline::Form;
 use dbtg_command::{Call, Named, Wished};
