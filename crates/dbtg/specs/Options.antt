@@ -1,8 +1,12 @@
 -- What commands are handed of a call.
-use Rattle.std.specs.Prelude.{ℕ, ◌≡◌, List, Bool, ◌&&◌, not, if◌then◌else◌}
+use Rattle.std.specs.Prelude.{ℕ, ◌≡◌, List, Bool, ◌&&◌, not, nat_le, option_map, if◌then◌else◌}
 use Rattle.dbtg_command.specs.declared.call.Call.{Call}
+use Rattle.dbtg_command.specs.declared.wished.Wished.{Wished}
 use Rattle.dbtg_command.specs.declared.command.Named.{Named}
 use Rattle.dbtg_command.specs.declared.command.Named.TheVariants as named
+use Rattle.dbtg_unit.specs.declared.limits.TheConstants.{LAST_UNIT}
+use Rattle.dbtg_explore.specs.declared.wishes.Wish.{Wish}
+use Rattle.dbtg_exploring.specs.declared.setting.Exploring.{Exploring}
 use Rattle.dbtg_going.specs.declared.around.Around.{Around}
 use Rattle.dbtg_replay.specs.declared.replay.AnswerForm.{AnswerForm}
 use Rattle.dbtg_replay.specs.declared.replay.AnswerForm.TheVariants as answer
@@ -30,3 +34,18 @@ answer_form call =
 -- which programs run before and after all others
 abbrev pub around : Call → Around
 around call = record { first = call.first; last = call.last }
+
+-- a wish, as `explore` takes it; a unit past the last is as one that is not there
+abbrev pub wish_of : Wished → Wish
+wish_of wished = record { unit = if nat_le wished.unit LAST_UNIT then wished.unit else LAST_UNIT; line = wished.line; status = wished.status; never = wished.never }
+
+-- what `explore` is asked for
+abbrev pub exploring : Call → Exploring
+exploring call = record {
+  capacity = call.capacity;
+  around = around call;
+  brief = call.brief;
+  statuses = call.replies;
+  limit = call.limit;
+  wish = option_map wish_of call.wish;
+}

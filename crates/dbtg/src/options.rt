@@ -1,7 +1,7 @@
 //! What each command is handed of a call.
 
 ghost use Rattle.std.specs.Prelude.{◌≡◌, ◌&&◌, not};
-ghost use Rattle.dbtg.specs.Options.{IsPictureForm, answer_form, around, explains_refusals};
+ghost use Rattle.dbtg.specs.Options.{IsPictureForm, answer_form, around, explains_refusals, exploring, wish_of};
 
 use crate::timeline::Form;
 use dbtg_command::{Call, Named, Wished};
@@ -69,9 +69,16 @@ pub fn run_options(call: &Call) -> RunOptions
 }
 
 // A wish, as `explore` takes it. A unit past the last is as one that is not there.
-fn wish_of(wished: Wished) -> Wish {
+fn wish_of(wished: Wished) -> Wish
+    ensures { result ≡ wish_of wished }
+{
+    let unit = if wished.unit <= LAST_UNIT as u64 {
+        wished.unit as u8
+    } else {
+        LAST_UNIT
+    };
     Wish {
-        unit: wished.unit.min(LAST_UNIT as u64) as u8,
+        unit,
         line: wished.line,
         status: wished.status,
         never: wished.never,
@@ -79,13 +86,19 @@ fn wish_of(wished: Wished) -> Wish {
 }
 
 /// What `explore` is asked for.
-pub fn exploring(call: &Call) -> Exploring {
+pub fn exploring(call: &Call) -> Exploring
+    ensures { result ≡ exploring call.now }
+{
+    let wish = match call.wish {
+        Some(wished) => Some(wish_of(wished)),
+        None => None,
+    };
     Exploring {
         capacity: call.capacity,
         around: around(call),
         brief: call.brief,
         statuses: call.replies,
         limit: call.limit,
-        wish: call.wish.map(wish_of),
+        wish,
     }
 }
