@@ -51,7 +51,7 @@ AreInOrder first lists capacity scripts Serial moves = StandFor lists capacity s
 AreInOrder first lists capacity scripts (Moves text) moves = (before : List Move) × AreFirstMoves first lists capacity scripts before × (moves ≡ before ++ moves_in text)
 AreInOrder first lists capacity scripts (Turns text) moves = StandFor lists capacity scripts (first_turns first scripts ++ turns_in text) moves
 
--- so many moves make the script that is made first
+-- the number of moves that make the script that is made first
 abbrev pub AreBefore : Bool → Lists → ℕ → List (List Statement) → ℕ → Type 0
 AreBefore first lists capacity scripts count = (before : List Move) × AreFirstMoves first lists capacity scripts before × (count ≡ length before)
 

@@ -37,7 +37,7 @@ name_of line = name_from false line
 
 -- ---- changes
 
--- a part stays as it is, comes, or turns into another; or so many go
+-- a part stays as it is, comes, or turns into another; or a number of parts go
 pub data Edit (X : Type 0) : Type 0 where
   Stays : Edit X
   Comes : List ℕ → Edit X
@@ -49,7 +49,7 @@ abbrev pub gone : {X : Type 0} → ℕ → List (Edit X)
 gone zero = []
 gone (suc k) = Go (suc k) ∷ []
 
--- what stands behind so many others stays if at most one of them goes, or if the first that goes does not come later
+-- a part behind this many others stays if at most one of them goes, or if the first that goes does not come later
 abbrev pub stays : List (List ℕ) → ℕ → List (List ℕ) → Bool
 stays old place later = nat_le place 1 || not (list_any (bytes_eq (slice_index_or old 0 [])) later)
 

@@ -114,7 +114,7 @@ run_rows events c (b ∷ bs) moves = run_rows events (after_move c b) bs moves
 
 -- ---- the whole
 
--- the page of the run of these moves, which begins after so many of them
+-- the page of the run of these moves, which begins after this many of them
 unfoldable pub page_text : Lists → ℕ → List (List Statement) → Titles → Bool → ℕ → List Move → List ℕ
 page_text schema capacity statements titles events before moves =
     MARKUP.now ++ front_rows schema titles ++ run_rows events (opening_core schema capacity statements) (take before moves) (drop before moves) ++ SCRIPT.now

@@ -110,7 +110,7 @@ fn is_among(kind: Kind, name: &[u8], parts: &[&[u8]]) -> bool
     parts.iter().any(|other| name == name_by(kind, *other))
 }
 
-// A part that stands behind so many others stays, if at most one goes, or if the first that goes does not come later.
+// A part behind this many others stays if at most one of them goes, or if the first that goes does not come later.
 #[tactic(auto, using(crate::proofs::Positions::any_among, crate::proofs::Positions::first_name))]
 fn stays(kind: Kind, old: &[&[u8]], place: usize, later: &[&[u8]]) -> bool
     requires { place < length old.now }
@@ -197,7 +197,7 @@ fn push_line_op(
     push_field(out, text.as_slice())
 }
 
-// How far the old parts are told behind one that stays, before which so many go.
+// How far the old parts are told, once this many have gone and the next one stays.
 fn behind_met(told: Told, gone: usize) -> Told
     requires small { told.at + gone + 1 ≤ 9223372036854775807 }
     requires stay { told.stay ≤ told.at }

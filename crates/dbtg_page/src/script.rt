@@ -104,7 +104,7 @@ function currentsOf(line) {
 
 const editOf = (text) => text.match(/^(\\d+)([-+~])([^]*)$/).slice(1);
 
-// The words of a line after its changes: after so many that stay, +WORD comes, -N go.
+// The words of a line after its changes: a number of words stay, then +WORD comes, or -N go.
 function wordsAfter(line, changes) {
   const words = line.split(' ');
   let place = 0;
@@ -116,7 +116,7 @@ function wordsAfter(line, changes) {
   return words.join(' ');
 }
 
-// What a ticket exchanges: the place, how many lines go, and those that come. After so many lines that stay, +LINE comes, -N go, ~ turns.
+// What a ticket exchanges: the place, how many lines go, and those that come. A number of lines stay, then +LINE comes, -N go, or ~ turns.
 function exchangesOf(changes) {
   let place = 0;
   return changes.map((change) => {

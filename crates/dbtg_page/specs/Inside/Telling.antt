@@ -15,7 +15,7 @@ texts parts = map (λ p. p.now) parts
 abbrev pub names : Kind → List (Bor (List ℕ)) → List (List ℕ)
 names kind parts = map (name_by kind) (texts parts)
 
--- how many stay since the last edit, and how many old parts are told, behind one that stays, before which so many go
+-- how many stay since the last edit, and how many old parts are told, once this many have gone and the next one stays
 abbrev pub behind_met : Told → ℕ → Told
 behind_met told gone = record { stay = if gone == 0 then told.stay + 1 else 1; at = told.at + gone + 1 }
 
