@@ -1,3 +1,4 @@
 pub mod Lists
 pub mod Reaching
 pub mod Carrying
+pub mod Matching
