@@ -2,3 +2,4 @@ pub mod Lists
 pub mod Reaching
 pub mod Carrying
 pub mod Matching
+pub mod Numbering

@@ -1,5 +1,5 @@
-use Rattle.dbtg_forms.proofs.Matching as lists
+use Rattle.dbtg_forms.proofs.Numbering.{numbers_tell}
 use Rattle.dbtg_forms.proofs.laws.isomorphic_graphs_have_one_number.Goals as goal
 
 pub returns : goal.returns
-returns c = ?
+returns c = numbers_tell
