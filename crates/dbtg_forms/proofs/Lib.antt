@@ -3,3 +3,4 @@ pub mod Reaching
 pub mod Carrying
 pub mod Matching
 pub mod Numbering
+pub mod Rooted

@@ -1,9 +1,9 @@
 -- Lists of numbers: what they have, where it stands, and how many pass a test. In a list without repetition each stands once.
 -- t is a test, x and z are numbers.
-use Rattle.std.proofs.Common.{◌≡◌, refl, sym, ◌∙◌, ap, subst, ℕ, zero, suc, ◌+◌, ◌<◌, ◌≤◌, arith, Bool, true, false, List, [], ◌∷◌, ◌++◌, length, map, get_or, inl, inr, ◌⊎◌, true≢false}
-use Rattle.std.specs.Prelude.{◌==◌, not, ◌||◌, ◌&&◌, cond, filter}
-use Rattle.std.specs.List.{range_with_len}
-use Rattle.std.proofs.lemmas.Bool.{cases_Bool, eq-eqb, eqb-true, or_cases, or_from, or_left, or_parts, or_right}
+use Rattle.std.proofs.Common.{◌≡◌, refl, sym, ◌∙◌, ap, subst, ℕ, zero, suc, ◌+◌, ◌<◌, ◌≤◌, arith, Bool, true, false, List, [], ◌∷◌, ◌++◌, length, map, get_or, inl, inr, ◌⊎◌, Option, Some, None, true≢false}
+use Rattle.std.specs.Prelude.{◌==◌, not, ◌||◌, ◌&&◌, cond, filter, unwrap_or}
+use Rattle.std.specs.List.{position, range_with_len}
+use Rattle.std.proofs.lemmas.Bool.{cases_Bool, cases_lt, eq-eqb, eqb-true, le-ltb, lt-ltb, or_cases, or_left, or_parts, or_right}
 use Rattle.dbtg_forms.specs.Graphs.{has}
 use Rattle.dbtg_forms.specs.Forms.{place}
 
@@ -320,3 +320,19 @@ some_tally t (x ∷ xs) z h p =
 pub range_length : (a n : ℕ) → length (range_with_len a n) ≡ n
 range_length a zero = refl
 range_length a (suc n) = ap suc (range_length (a + 1) n)
+
+place_low : (xs : List ℕ) (x : ℕ) → place xs x ≤ length xs
+place_low [] x = omega arith
+place_low (y ∷ ys) x =
+    elim (cases_Bool (x == y)) [
+      | inl e ↦ omega (arith, place_here y x ys e)
+      | inr e ↦ omega (arith, place_behind y x ys e, place_low ys x)
+    ]
+
+-- where a number was found, or else the end
+pub place_found : (xs : List ℕ) (x n : ℕ) → length xs ≡ n → unwrap_or (position (λ y. x == y) xs) n ≡ place xs x
+place_found xs x n e =
+    elim (cases_lt (place xs x) (length xs)) [
+      | inl low ↦ ap (λ b. unwrap_or (cond b (Some (place xs x)) None) n) (lt-ltb (place xs x) (length xs) low)
+      | inr high ↦ ap (λ b. unwrap_or (cond b (Some (place xs x)) None) n) (le-ltb (place xs x) (length xs) high) ∙ omega (arith, e, high, place_low xs x)
+    ]
