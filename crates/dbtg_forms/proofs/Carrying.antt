@@ -1,7 +1,7 @@
 -- A renaming of vertices carries what is reached, spellings and roots along.
 -- f names vertices of g by those of h; P tells the vertices for which it does.
-use Rattle.std.proofs.Common.{◌≡◌, refl, sym, ◌∙◌, ap, subst, ℕ, zero, suc, ◌+◌, ◌<◌, ◌≤◌, arith, Bool, true, false, List, [], ◌∷◌, ◌++◌, length, map, inl, inr, ◌⊎◌, Option, Some, None, slice_get, if◌then◌else◌}
-use Rattle.std.specs.Prelude.{◌==◌, ◌||◌, ◌&&◌, cond, not, flat_map, nat_le, option_map, unwrap_or}
+use Rattle.std.proofs.Common.{◌≡◌, refl, sym, ◌∙◌, ap, subst, ℕ, zero, suc, ◌+◌, ◌<◌, arith, Bool, true, List, [], ◌∷◌, ◌++◌, length, map, inl, inr, Option, Some, None, slice_get, if◌then◌else◌}
+use Rattle.std.specs.Prelude.{◌==◌, ◌&&◌, cond, not, flat_map, nat_le, option_map, unwrap_or}
 use Rattle.std.specs.List.{list_all}
 use Rattle.std.proofs.lemmas.Bool.{cases_Bool, eq-eqb, eqb-true, or_right}
 use Rattle.std.proofs.lemmas.List.{length-map, map_push}
@@ -102,7 +102,7 @@ module _ (g h : List Vertex) (f : ℕ → ℕ) (P : ℕ → Type 0) (c : Carries
           let q = all_carried (length g) y m in
           let own = component g x in
           let places : map (place (map f own)) (map f (links_of g y)) ≡ map (place own) (links_of g y) =
-              map_map_along f (place (map f own)) (place own) (links_of g y) (λ z n. place_carried own z (all_carried (length g)) (c.goes y z q n)) in
+          map_map_along f (place (map f own)) (place own) (links_of g y) (λ z n. place_carried own z (all_carried (length g)) (c.goes y z q n)) in
           (λ i. c.labels y q i ∷ length (c.links y q i) ∷ map (place (map f own)) (c.links y q i))
           ∙ (λ i. label_of g y ∷ length-map (links_of g y) f i ∷ places i)
 
@@ -118,4 +118,4 @@ module _ (g h : List Vertex) (f : ℕ → ℕ) (P : ℕ → Type 0) (c : Carries
     root_carried =
         ap (λ l. list_all (λ y. nat_le (length (links_of h y)) (length (links_of h (f x)))) l) (c.links x p)
         ∙ all_along f (λ y. nat_le (length (links_of h y)) (length (links_of h (f x)))) (λ y. nat_le (length (links_of g y)) (length (links_of g x))) (links_of g x)
-          (λ y m i. nat_le (degree_carried y (c.goes x y p m) i) (degree_carried x p i))
+        (λ y m i. nat_le (degree_carried y (c.goes x y p m) i) (degree_carried x p i))

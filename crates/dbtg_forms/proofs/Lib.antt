@@ -4,3 +4,4 @@ pub mod Carrying
 pub mod Matching
 pub mod Numbering
 pub mod Rooted
+pub mod Public

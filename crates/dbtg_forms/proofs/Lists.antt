@@ -1,6 +1,6 @@
 -- Lists of numbers: what they have, where it stands, and how many pass a test. In a list without repetition each stands once.
 -- t is a test, x and z are numbers.
-use Rattle.std.proofs.Common.{◌≡◌, refl, sym, ◌∙◌, ap, subst, ℕ, zero, suc, ◌+◌, ◌<◌, ◌≤◌, arith, Bool, true, false, List, [], ◌∷◌, ◌++◌, length, map, get_or, inl, inr, ◌⊎◌, Option, Some, None, true≢false}
+use Rattle.std.proofs.Common.{◌≡◌, refl, sym, ◌∙◌, ap, subst, ℕ, zero, suc, ◌+◌, ◌<◌, ◌≤◌, arith, Bool, true, false, List, [], ◌∷◌, ◌++◌, length, map, get_or, inl, inr, ◌⊎◌, Some, None, true≢false}
 use Rattle.std.specs.Prelude.{◌==◌, not, ◌||◌, ◌&&◌, cond, filter, unwrap_or}
 use Rattle.std.specs.List.{position, range_with_len}
 use Rattle.std.proofs.lemmas.Bool.{cases_Bool, cases_lt, eq-eqb, eqb-true, le-ltb, lt-ltb, or_cases, or_left, or_parts, or_right}
@@ -99,20 +99,23 @@ range_once n = once_range 0 n
 pub once_push : (xs : List ℕ) (x : ℕ) → Once xs → has xs x ≡ false → Once (xs ++ x ∷ [])
 once_push [] x once h = (refl, tt)
 once_push (y ∷ ys) x once h =
-    let parts = or_parts (x == y) (has ys x) h in
-    (not_behind y (ys ++ x ∷ []) (λ g. elim (has_cases ys (x ∷ []) y g) [
-      | inl e ↦ no_is_not_yes once.0 e
-      | inr e ↦ no_is_not_yes parts.0 (eq-eqb x y (sym (has_one x y e)))
-    ]), once_push ys x once.1 parts.1)
+    let parts = or_parts (x == y) (has ys x) h in (
+      not_behind y (ys ++ x ∷ []) (λ g. elim (has_cases ys (x ∷ []) y g) [
+        | inl e ↦ no_is_not_yes once.0 e
+        | inr e ↦ no_is_not_yes parts.0 (eq-eqb x y (sym (has_one x y e)))
+      ]),
+      once_push ys x once.1 parts.1,
+    )
 
 pub once_map : (f : ℕ → ℕ) (xs : List ℕ) → ((y z : ℕ) → has xs y ≡ true → has xs z ≡ true → f y ≡ f z → y ≡ z) → Once xs → Once (map f xs)
 once_map f [] one once = tt
-once_map f (x ∷ xs) one once =
-    (not_behind (f x) (map f xs) (λ h.
+once_map f (x ∷ xs) one once = (
+  not_behind (f x) (map f xs) (λ h.
       let from = from_map f xs (f x) h in
       let same : x ≡ from.0 = one x from.0 (has_first x xs) (or_right (from.0 == x) (has xs from.0) from.1) from.2 in
       no_is_not_yes once.0 (ap (has xs) same ∙ from.1)),
-    once_map f xs (λ y z p q. one y z (or_right (y == x) (has xs y) p) (or_right (z == x) (has xs z) q)) once.1)
+  once_map f xs (λ y z p q. one y z (or_right (y == x) (has xs y) p) (or_right (z == x) (has xs z) q)) once.1,
+)
 
 -- PLACES
 
@@ -233,11 +236,11 @@ tally_without t x (y ∷ ys) once h =
       | inl e ↦
           let same : y ≡ x = eqb-true y x e in
           let rest : without x (y ∷ ys) ≡ ys =
-              ap (λ b. cond (not b) (y ∷ without x ys) (without x ys)) e
-              ∙ filter_all (λ z. not (z == x)) ys (λ z g. elim (cases_Bool (z == x)) [
-                | inl p ↦ absurd (no_is_not_yes once.0 (ap (has ys) (same ∙ sym (eqb-true z x p)) ∙ g))
-                | inr p ↦ ap not p
-              ]) in
+          ap (λ b. cond (not b) (y ∷ without x ys) (without x ys)) e
+          ∙ filter_all (λ z. not (z == x)) ys (λ z g. elim (cases_Bool (z == x)) [
+            | inl p ↦ absurd (no_is_not_yes once.0 (ap (has ys) (same ∙ sym (eqb-true z x p)) ∙ g))
+            | inr p ↦ ap not p
+          ]) in
           ap (λ z. cond (t z) (1 + tally t ys) (tally t ys)) same ∙ ap (λ l. cond (t x) (1 + tally t l) (tally t l)) (sym rest)
       | inr e ↦
           let there : has ys x ≡ true = elim (or_cases (x == y) (has ys x) h) [
@@ -264,10 +267,10 @@ tally_part t [] ys once others part = omega (arith, ap (tally t) (filter_all (λ
 tally_part t (x ∷ xs) ys once others part =
     let left : List ℕ = without x ys in
     let within : (z : ℕ) → has xs z ≡ true → has left z ≡ true =
-        λ z h. filter_keeps (λ y. not (y == x)) ys z (part z (or_right (z == x) (has xs z) h)) (elim (cases_Bool (z == x)) [
-          | inl e ↦ absurd (no_is_not_yes once.0 (ap (has xs) (sym (eqb-true z x e)) ∙ h))
-          | inr e ↦ ap not e
-        ]) in
+    λ z h. filter_keeps (λ y. not (y == x)) ys z (part z (or_right (z == x) (has xs z) h)) (elim (cases_Bool (z == x)) [
+      | inl e ↦ absurd (no_is_not_yes once.0 (ap (has xs) (sym (eqb-true z x e)) ∙ h))
+      | inr e ↦ ap not e
+    ]) in
     let rest = tally_part t xs left once.1 (filter_once (λ y. not (y == x)) ys others) within in
     let same = ap (tally t) (filter_twice (λ y. not (has xs y)) (λ y. not (y == x)) (λ y. not (has (x ∷ xs) y)) ys (λ z. neither (z == x) (has xs z))) in
     tally_without t x ys others (part x (has_first x xs)) ∙ joined (t x) (tally t left) (tally t xs) (tally t (filter (λ y. not (has (x ∷ xs) y)) ys)) (rest ∙ ap (λ n. tally t xs + n) same)

@@ -1,17 +1,17 @@
 -- Components that are spelled alike are matched vertex by vertex, and so are graphs that have each spelling of a root equally often.
 -- C and D are components, A and B what is left of two graphs.
-use Rattle.std.proofs.Common.{◌≡◌, refl, sym, ◌∙◌, ap, subst, ℕ, zero, suc, ◌+◌, ◌<◌, ◌≤◌, arith, Bool, true, false, List, [], ◌∷◌, ◌++◌, length, map, get_or, inl, inr, ◌⊎◌, if◌then◌else◌}
-use Rattle.std.specs.Prelude.{◌==◌, ◌||◌, ◌&&◌, not, filter, flat_map, nat_le}
+use Rattle.std.proofs.Common.{◌≡◌, refl, sym, ◌∙◌, ap, subst, ℕ, zero, suc, ◌+◌, ◌<◌, ◌≤◌, arith, Bool, true, false, List, [], ◌∷◌, ◌++◌, length, map, get_or, inl, inr, if◌then◌else◌}
+use Rattle.std.specs.Prelude.{◌==◌, ◌&&◌, not, filter, flat_map, nat_le}
 use Rattle.std.specs.List.{list_all, range_with_len}
 use Rattle.std.specs.Str.{bytes_eq}
-use Rattle.std.proofs.lemmas.Bool.{and_from, and_parts, cases_Bool, cases_lt, eq-eqb, eqb-true, le-leb, or_cases, or_right}
+use Rattle.std.proofs.lemmas.Bool.{and_from, and_parts, cases_Bool, cases_lt, eqb-true, le-leb, or_cases, or_right}
 use Rattle.std.proofs.lemmas.List.{length-map}
 use Rattle.std.proofs.lemmas.Slice.Eq.{bytes_eq-Decides}
 use Rattle.dbtg_forms.specs.declared.vertex.Vertex.{Vertex}
-use Rattle.dbtg_forms.specs.Graphs.{IsGraph, IsIsomorphism, Isomorphic, has, label_of, links_of}
+use Rattle.dbtg_forms.specs.Graphs.{IsGraph, Isomorphic, has, label_of, links_of}
 use Rattle.dbtg_forms.specs.Forms.{component, is_root, place, spelling, vertex_numbers}
 use Rattle.dbtg_forms.proofs.Lists.{Once, at_place, filter_keeps, filter_once, from_filter, from_map, from_range, has_at, has_first, has_map, has_range, length_part, map_along, no_is_not_yes, once_map, place_at, place_in, range_once, some_tally, tally, tally_along, tally_map, tally_part, tally_same, tally_some}
-use Rattle.dbtg_forms.proofs.Reaching.{by_first, by_least, by_once, component_closed, component_within}
+use Rattle.dbtg_forms.proofs.Reaching.{by_first, by_least, by_once, component_closed}
 use Rattle.dbtg_forms.proofs.Carrying.{Carries, map_map_along, root_carried, spelling_carried}
 
 -- the vertices of A go to those of B, one to one, with their labels and links
@@ -29,7 +29,7 @@ IsClosed g A = (y z : ℕ) → has A y ≡ true → has (links_of g y) z ≡ tru
 
 -- SPELLED ALIKE
 
-split : (xs ys a b : List ℕ) → length xs ≡ length ys → xs ++ a ≡ ys ++ b → (xs ≡ ys) × (a ≡ b)
+pub split : (xs ys a b : List ℕ) → length xs ≡ length ys → xs ++ a ≡ ys ++ b → (xs ≡ ys) × (a ≡ b)
 split [] [] a b e h = (refl, h)
 split [] (y ∷ ys) a b e h = absurd (omega (arith, e))
 split (x ∷ xs) [] a b e h = absurd (omega (arith, e))
@@ -87,7 +87,7 @@ module _ (g h : List Vertex) (C D : List ℕ) (once : Once C) (others : Once D) 
   spelled_alike =
       let apart = each_apart g h C D C D e in
       let alike : (x : ℕ) → has C x ≡ true → Alike g h C D x (across C D x) =
-          λ x m. subst (λ z. Alike g h C D z (across C D x)) (at_place C x m) (apart.1 (place C x) (place_in C x m)) in
+      λ x m. subst (λ z. Alike g h C D z (across C D x)) (at_place C x m) (apart.1 (place C x) (place_in C x m)) in
       record {
         within = λ x m. across_in C D x apart.0 m;
         back_within = λ y m. across_in D C y (sym apart.0) m;
@@ -123,12 +123,12 @@ module _ (g h : List Vertex) (is : IsGraph g) (are : IsGraph h) (A B : List ℕ)
   matched_tally s =
       let c = carries_of g h A B there back closed m in
       tally_along (passes g s) (λ x. passes h s (there x)) A (λ x p i.
-        sym (root_carried g h there (λ z. has A z ≡ true) c x p) i
-        && bytes_eq (sym (spelling_carried g h there (λ z. has A z ≡ true) c x p is are (inside x p) (outside (there x) (m.within x p))) i) s)
+      sym (root_carried g h there (λ z. has A z ≡ true) c x p) i
+      && bytes_eq (sym (spelling_carried g h there (λ z. has A z ≡ true) c x p is are (inside x p) (outside (there x) (m.within x p))) i) s)
       ∙ sym (tally_map (passes h s) there A)
       ∙ tally_same (passes h s) (map there A) B (once_map there A c.one once) others
-        (λ y p. let from = from_map there A y p in ap (has B) from.2 ∙ m.within from.0 from.1)
-        (λ y p. ap (has (map there A)) (sym (m.back_and_there y p)) ∙ has_map there A (back y) (m.back_within y p))
+      (λ y p. let from = from_map there A y p in ap (has B) from.2 ∙ m.within from.0 from.1)
+      (λ y p. ap (has (map there A)) (sym (m.back_and_there y p)) ∙ has_map there A (back y) (m.back_within y p))
 
 -- ONE COMPONENT AND THE REST
 
@@ -275,7 +275,7 @@ module _ (g h : List Vertex) (is : IsGraph g) (are : IsGraph h) where
   one_more : (A B : List ℕ) (r q : ℕ) → IsLeft g A → IsLeft h B → has A r ≡ true → has B q ≡ true → spelling g r ≡ spelling h q
       → ((s : List ℕ) → tally (passes g s) A ≡ tally (passes h s) B)
       → (IsLeft g (rest_of (component g r) A) → IsLeft h (rest_of (component h q) B)
-        → ((s : List ℕ) → tally (passes g s) (rest_of (component g r) A) ≡ tally (passes h s) (rest_of (component h q) B)) → Found (rest_of (component g r) A) (rest_of (component h q) B))
+      → ((s : List ℕ) → tally (passes g s) (rest_of (component g r) A) ≡ tally (passes h s) (rest_of (component h q) B)) → Found (rest_of (component g r) A) (rest_of (component h q) B))
       → Found A B
   one_more A B r q left right own other alike equal go =
       let C = component g r in
@@ -285,10 +285,17 @@ module _ (g h : List Vertex) (is : IsGraph g) (are : IsGraph h) where
       let local = spelled_alike g h C D cl.once dl.once dl.closed alike in
       let ll = less_left g is A left r own in
       let rest = go ll (less_left h are B right q other) (λ s.
-        omega (arith, tally_left g is A left r own s, tally_left h are B right q other s, equal s,
-        matched_tally g h is are C D (across C D) (across D C) cl.once dl.once cl.closed cl.inside dl.inside local s)) in
-      (either C (across C D) rest.0, either D (across D C) rest.1,
-      joined_matches g h A B C D (across C D) (across D C) rest.0 rest.1 (component_part g is A left r own) (component_part h are B right q other) cl.closed ll.closed local rest.2)
+      omega (
+        arith,
+        tally_left g is A left r own s,
+        tally_left h are B right q other s,
+        equal s,
+        matched_tally g h is are C D (across C D) (across D C) cl.once dl.once cl.closed cl.inside dl.inside local s,
+      )) in (
+        either C (across C D) rest.0,
+        either D (across D C) rest.1,
+        joined_matches g h A B C D (across C D) (across D C) rest.0 rest.1 (component_part g is A left r own) (component_part h are B right q other) cl.closed ll.closed local rest.2,
+      )
 
   pub found : (n : ℕ) (A B : List ℕ) → length A ≤ n → IsLeft g A → IsLeft h B → ((s : List ℕ) → tally (passes g s) A ≡ tally (passes h s) B) → Found A B
   found n [] [] short left right equal = (λ x. x, λ x. x, none_matches g h)
@@ -319,15 +326,18 @@ whole_left g is = record {
 -- graphs that have each spelling of a root equally often are isomorphic
 pub isomorphic_from : (g h : List Vertex) → IsGraph g → IsGraph h → ((s : List ℕ) → tally (passes g s) (whole g) ≡ tally (passes h s) (whole h)) → Isomorphic g h
 isomorphic_from g h is are equal =
-    let f = found g h is are (length (whole g)) (whole g) (whole h) (omega arith) (whole_left g is) (whole_left h are) equal in
-    (f.0, f.1, record {
-      within = λ x low. from_range (length h) (f.0 x) (f.2.within x (has_range (length g) x low));
-      back_within = λ y low. from_range (length g) (f.1 y) (f.2.back_within y (has_range (length h) y low));
-      there_and_back = λ x low. f.2.there_and_back x (has_range (length g) x low);
-      back_and_there = λ y low. f.2.back_and_there y (has_range (length h) y low);
-      labels = λ x low. f.2.labels x (has_range (length g) x low);
-      links = λ x low. f.2.links x (has_range (length g) x low);
-    })
+    let f = found g h is are (length (whole g)) (whole g) (whole h) (omega arith) (whole_left g is) (whole_left h are) equal in (
+      f.0,
+      f.1,
+      record {
+        within = λ x low. from_range (length h) (f.0 x) (f.2.within x (has_range (length g) x low));
+        back_within = λ y low. from_range (length g) (f.1 y) (f.2.back_within y (has_range (length h) y low));
+        there_and_back = λ x low. f.2.there_and_back x (has_range (length g) x low);
+        back_and_there = λ y low. f.2.back_and_there y (has_range (length h) y low);
+        labels = λ x low. f.2.labels x (has_range (length g) x low);
+        links = λ x low. f.2.links x (has_range (length g) x low);
+      },
+    )
 
 -- and the other way round
 pub equally_often : (g h : List Vertex) → IsGraph g → IsGraph h → Isomorphic g h → (s : List ℕ) → tally (passes g s) (whole g) ≡ tally (passes h s) (whole h)

@@ -1,8 +1,8 @@
 -- Numbers of forms tell graphs apart: in rising order, numbers that are equally often the same are the same list.
 -- sp are the spellings that are kept, ns numbers of some of them, s is a spelling, v a number.
-use Rattle.std.proofs.Common.{◌≡◌, refl, sym, ◌∙◌, ap, subst, ℕ, zero, suc, ◌+◌, ◌<◌, ◌≤◌, arith, Bool, true, false, List, [], ◌∷◌, ◌++◌, length, map, get_or, inl, inr, ◌⊎◌, Option, Some, None, slice_get}
-use Rattle.std.specs.Prelude.{◌==◌, ◌||◌, ◌&&◌, cond, filter, ◌↔◌}
-use Rattle.std.specs.List.{count_by, list_any}
+use Rattle.std.proofs.Common.{◌≡◌, refl, sym, ◌∙◌, ap, subst, ℕ, suc, ◌+◌, ◌≤◌, arith, Bool, true, false, List, [], ◌∷◌, map, inl, inr, ◌⊎◌, Option, Some, None, slice_get}
+use Rattle.std.specs.Prelude.{◌==◌, ◌&&◌, cond, filter, ◌↔◌}
+use Rattle.std.specs.List.{count_by}
 use Rattle.std.specs.List.Sorted.{IsNonDecreasing, IsPermutation}
 use Rattle.std.specs.Str.{bytes_eq}
 use Rattle.std.proofs.lemmas.Bool.{cases_Bool, eq-eqb, eqb-true, or_right}
@@ -10,13 +10,12 @@ use Rattle.std.proofs.lemmas.List.Recursion.{is_count_by}
 use Rattle.std.proofs.lemmas.List.Sorted.{sum_by-IsPermutation}
 use Rattle.std.proofs.lemmas.Option.{none-some, same_Some}
 use Rattle.std.proofs.lemmas.Slice.Eq.{bytes_eq-Decides}
-use Rattle.dbtg_interned.specs.Kept.{IsOnce, Keeps}
+use Rattle.dbtg_interned.specs.Kept.{IsOnce}
 use Rattle.dbtg_interned.proofs.Public.{stays_list}
 use Rattle.dbtg_forms.specs.declared.vertex.Vertex.{Vertex}
 use Rattle.dbtg_forms.specs.Graphs.{IsGraph, Isomorphic, has}
 use Rattle.dbtg_forms.specs.Forms.{AreForms, HasNumber, IsForm, KeepsForms, KeptForms, is_root, place, roots, spelling}
 use Rattle.dbtg_forms.proofs.Lists.{at_place, has_first, map_along, no_is_not_yes, place_in, some_tally, tally, tally_along, tally_map, tally_some}
-
 use Rattle.dbtg_forms.proofs.Matching.{equally_often, isomorphic_from, passes, whole}
 
 -- TALLIES
@@ -107,7 +106,7 @@ same_rising (x ∷ xs) (y ∷ ys) up rise e =
     let high = first_least y ys x rise (has_tallied (x ∷ xs) (y ∷ ys) x (e x) (has_first x xs)) in
     let same : x ≡ y = omega (arith, low, high) in
     let rest = same_rising xs ys (rising_rest x xs up) (rising_rest y ys rise) (λ v.
-      same_rest (x == v) (tally (λ n. n == v) xs) (tally (λ n. n == v) ys) (e v ∙ ap (λ z. cond (z == v) (1 + tally (λ n. n == v) ys) (tally (λ n. n == v) ys)) (sym same))) in
+    same_rest (x == v) (tally (λ n. n == v) xs) (tally (λ n. n == v) ys) (e v ∙ ap (λ z. cond (z == v) (1 + tally (λ n. n == v) ys) (tally (λ n. n == v) ys)) (sym same))) in
     λ i. same i ∷ rest i
 
 -- NUMBERS OF SPELLINGS
@@ -148,14 +147,15 @@ module _ (sp : List (List ℕ)) (once : IsOnce sp) where
 -- THE LAWS
 
 pub numbers_tell : (kept : KeptForms) (a b : List Vertex) (m n : ℕ) → AreForms kept → IsGraph a → IsGraph b → HasNumber kept a m → HasNumber kept b n → ((m ≡ n) ↔ Isomorphic a b)
-numbers_tell kept a b m n are is also p q =
-    (λ same.
+numbers_tell kept a b m n are is also p q = (
+  λ same.
       let one : p.numbers ≡ q.numbers = same_Some p.numbers q.numbers (sym p.form ∙ ap (slice_get kept.forms) same ∙ q.form) in
       isomorphic_from a b is also (λ s.
-        sym (form_tally kept.spellings a p.numbers p.is_form s) ∙ ap (tally (λ k. said s (slice_get kept.spellings k))) one ∙ form_tally kept.spellings b q.numbers q.is_form s),
-    λ i.
+      sym (form_tally kept.spellings a p.numbers p.is_form s) ∙ ap (tally (λ k. said s (slice_get kept.spellings k))) one ∙ form_tally kept.spellings b q.numbers q.is_form s),
+  λ i.
       let one = same_forms kept.spellings are.spellings.once a b p.numbers q.numbers p.is_form q.is_form (equally_often a b is also i) in
-      are.forms.once m n q.numbers (p.form ∙ ap Some one) q.form)
+      are.forms.once m n q.numbers (p.form ∙ ap Some one) q.form,
+)
 
 pub numbers_remain : (old new : KeptForms) (graph : List Vertex) (n : ℕ) → KeepsForms old new → HasNumber old graph n → HasNumber new graph n
 numbers_remain old new graph n keeps p =
@@ -166,8 +166,8 @@ numbers_remain old new graph n keeps p =
         rising = p.is_form.rising;
         spelled = subst (λ l. IsPermutation (map Some (map (spelling graph) (roots graph))) l)
             (map_along (slice_get old.spellings) (slice_get new.spellings) p.numbers (λ v m.
-              let at = form_kept old.spellings graph p.numbers p.is_form v m in
-              at.1 ∙ sym (stays_list old.spellings new.spellings v at.0 keeps.spellings at.1)))
+            let at = form_kept old.spellings graph p.numbers p.is_form v m in
+            at.1 ∙ sym (stays_list old.spellings new.spellings v at.0 keeps.spellings at.1)))
             p.is_form.spelled;
       };
     }

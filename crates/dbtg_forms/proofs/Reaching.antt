@@ -1,14 +1,14 @@
 -- What is reached from a vertex: each vertex once, all that links lead to, and nothing else.
 -- links gives the vertices to which a vertex leads, x is where it begins, k counts the steps.
-use Rattle.std.proofs.Common.{◌≡◌, refl, sym, ◌∙◌, ap, subst, append-nil, append_assoc, ℕ, zero, suc, ◌+◌, ◌<◌, ◌≤◌, arith, Bool, true, false, List, [], ◌∷◌, ◌++◌, length, get_or, inl, inr, ◌⊎◌, Option, Some, None, slice_get, if◌then◌else◌}
-use Rattle.std.specs.Prelude.{◌==◌, ◌||◌, option_map, unwrap_or}
+use Rattle.std.proofs.Common.{◌≡◌, refl, sym, ◌∙◌, ap, subst, append-nil, append_assoc, ℕ, zero, suc, ◌<◌, ◌≤◌, arith, true, List, [], ◌∷◌, ◌++◌, length, get_or, inl, inr, ◌⊎◌, Option, Some, None, slice_get, if◌then◌else◌}
+use Rattle.std.specs.Prelude.{◌==◌, option_map, unwrap_or}
 use Rattle.std.specs.List.{range_with_len}
 use Rattle.std.proofs.lemmas.Bool.{cases_Bool, cases_lt, eq-eqb, eqb-true, or_cases, or_left, or_right}
 use Rattle.std.proofs.lemmas.Option.{slice_get-get_or, slice_get_past, slice_get_within}
 use Rattle.dbtg_forms.specs.declared.vertex.Vertex.{Vertex}
 use Rattle.dbtg_forms.specs.Graphs.{IsGraph, has, links_of}
 use Rattle.dbtg_forms.specs.Forms.{component, place, reached, reached_by}
-use Rattle.dbtg_forms.proofs.Lists.{Once, at_place, from_range, has_cases, has_first, has_left, has_one, has_range, has_right, length_part, no_is_not_yes, once_push, place_in, range_length, range_once}
+use Rattle.dbtg_forms.proofs.Lists.{Once, at_place, has_cases, has_first, has_left, has_one, has_range, has_right, length_part, once_push, place_in, range_length, range_once}
 
 -- ONE AFTER ANOTHER
 
@@ -159,8 +159,12 @@ module _ (graph : List Vertex) (is : IsGraph graph) (x : ℕ) (within : x < leng
 
   pub component_few : length (component graph x) ≤ length graph
   component_few =
-      omega (arith, length_part (component graph x) (range_with_len 0 (length graph)) (by_once (links_of graph) x (length graph)) (range_once (length graph))
-      (λ z h. has_range (length graph) z (component_within (length graph) z h)), range_length 0 (length graph))
+      omega (
+        arith,
+        length_part (component graph x) (range_with_len 0 (length graph)) (by_once (links_of graph) x (length graph)) (range_once (length graph))
+            (λ z h. has_range (length graph) z (component_within (length graph) z h)),
+        range_length 0 (length graph),
+      )
 
   pub component_closed : (y z : ℕ) → has (component graph x) y ≡ true → has (links_of graph y) z ≡ true → has (component graph x) z ≡ true
   component_closed y z h g =

@@ -45,11 +45,7 @@ fn reach(order: &mut Vec<u32>, vertices: &[u32]) -> Result<(), AllocError>
 }
 
 // All that hangs together with a vertex, in the order in which it is reached.
-pub(crate) fn component(
-    alloc: Global,
-    graph: &[Vertex],
-    root: u32,
-) -> Result<Vec<u32>, AllocError>
+pub(crate) fn component(alloc: Global, graph: &[Vertex], root: u32) -> Result<Vec<u32>, AllocError>
     ensures { IfOk result (λ order. order.items ≡ component graph.now root) }
 {
     let mut order = Vec::new(alloc);

@@ -78,6 +78,14 @@ impl Forms {
         Ok(Self { spellings, forms })
     }
 
+    /// What holds of every value: each spelling and each form stands once.
+    pub fn each_form_stands_once(&self)
+        ensures { AreForms self.now }
+    {
+        self.spellings.each_list_stands_once();
+        self.forms.each_list_stands_once();
+    }
+
     /// The number of the form of a graph. A form that is new gets the next number; the first gets 1, unless its graph is empty.
     pub fn enter(&mut self, alloc: Global, graph: &[Vertex]) -> Result<u32, AllocError>
         ensures sound { AreForms self.new }

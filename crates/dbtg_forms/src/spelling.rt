@@ -46,11 +46,7 @@ fn spell_vertex(
 }
 
 /// The component of a vertex, seen from it.
-pub(crate) fn spelling(
-    alloc: Global,
-    graph: &[Vertex],
-    root: u32,
-) -> Result<Vec<u64>, AllocError>
+pub(crate) fn spelling(alloc: Global, graph: &[Vertex], root: u32) -> Result<Vec<u64>, AllocError>
     ensures { IfOk result (λ numbers. numbers.items ≡ spelling graph.now root) }
 {
     let order = component(alloc, graph, root)?;

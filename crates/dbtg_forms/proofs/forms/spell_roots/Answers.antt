@@ -23,7 +23,7 @@ loop-place-preserved c =
             numbers = (λ k. map (slice_get (w.spellings-is k)) (w.numbers-is k).items)
                 ∙ ap (map (slice_get new)) w.in_ok-push.ensures.items
                 ∙ one_root graph old ns i (i + 1) refl c.loop-place.invariant.numbers new w.in_ok-enter.field-0 w.as_slice.result.now (tested ∙ w.if-is_root.true) w.in_ok-enter.ensures.keeps
-                  (w.as_slice.ensures.value ∙ w.in_ok-spelled.ensures ∙ ap (spelling graph) vertex) w.in_ok-enter.ensures.number;
+                (w.as_slice.ensures.value ∙ w.in_ok-spelled.ensures ∙ ap (spelling graph) vertex) w.in_ok-enter.ensures.number;
           }
       | else-is_root w ↦ record {
         sound = subst IsContents (sym w.spellings-is) c.loop-place.invariant.sound;

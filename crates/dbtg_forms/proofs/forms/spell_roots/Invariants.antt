@@ -9,5 +9,5 @@ abbrev pub invariant-loop-place : goal.invariant-loop-place
 invariant-loop-place l = record {
   sound : IsContents l.spellings;
   keeps : Keeps l.initial.spellings l.spellings;
-  numbers : map (slice_get l.spellings) l.numbers.items ≡ map Some (map (spelling l.graph) (filter (is_root l.graph) (range_with_len 0 l.place)))
+  numbers : map (slice_get l.spellings) l.numbers.items ≡ map Some (map (spelling l.graph) (filter (is_root l.graph) (range_with_len 0 l.place)));
 }

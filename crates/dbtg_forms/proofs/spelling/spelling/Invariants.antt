@@ -1,4 +1,4 @@
-use Rattle.std.proofs.Common.{◌≡◌, ◌++◌, take}
+use Rattle.std.proofs.Common.{◌≡◌, take}
 use Rattle.std.specs.Prelude.{flat_map}
 use Rattle.dbtg_forms.specs.Forms.{vertex_numbers}
 use Rattle.dbtg_forms.proofs.spelling.spelling.Given as goal

@@ -1,0 +1,3 @@
+pub mod Agree
+pub mod Drawn
+pub mod Laws
