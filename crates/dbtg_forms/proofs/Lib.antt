@@ -4,4 +4,5 @@ pub mod Carrying
 pub mod Matching
 pub mod Numbering
 pub mod Rooted
+mod Rows
 pub mod Public

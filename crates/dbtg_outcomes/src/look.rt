@@ -26,7 +26,7 @@ fn lists_in(image: &Image, set: usize) -> &[(Owner, Row<DbKey>)]
 }
 
 // The members of an owner, in order.
-pub(crate) fn members_in(image: &Image, set: usize, owner: &Owner) -> &[DbKey]
+pub(crate) fn members_in<'a>(image: &'a Image, set: usize, owner: &Owner) -> &'a [DbKey]
     ensures { result.now ≡ members_in image.now set owner.now }
 {
     let found = lists_in(image, set)
