@@ -2,7 +2,7 @@
 -- t is a test, x and z are numbers.
 use Rattle.std.proofs.Common.{◌≡◌, refl, sym, ◌∙◌, ap, subst, ℕ, zero, suc, ◌+◌, ◌<◌, ◌≤◌, arith, Bool, true, false, List, [], ◌∷◌, ◌++◌, length, map, get_or, inl, inr, ◌⊎◌, Some, None, true≢false}
 use Rattle.std.specs.Prelude.{◌==◌, not, ◌||◌, ◌&&◌, cond, filter, unwrap_or}
-use Rattle.std.specs.List.{position, range_with_len}
+use Rattle.std.specs.List.{position, position_or_len, range_with_len}
 use Rattle.std.proofs.lemmas.Bool.{cases_Bool, cases_lt, eq-eqb, eqb-true, le-ltb, lt-ltb, or_cases, or_left, or_parts, or_right}
 use Rattle.dbtg_forms.specs.Graphs.{has}
 use Rattle.dbtg_forms.specs.Forms.{place}
@@ -319,23 +319,37 @@ some_tally t (x ∷ xs) z h p =
       ]
     ]
 
+position_low : {X : Type 0} (p : X → Bool) (xs : List X) → position_or_len p xs ≤ length xs
+position_low p [] = omega arith
+position_low p (y ∷ ys) =
+    elim (cases_Bool (p y)) [
+      | inl e ↦ let here : position_or_len p (y ∷ ys) ≡ 0 = ap (λ b. cond (not b) (1 + position_or_len p ys) 0) e in omega (arith, here)
+      | inr e ↦ let behind : position_or_len p (y ∷ ys) ≡ 1 + position_or_len p ys = ap (λ b. cond (not b) (1 + position_or_len p ys) 0) e in omega (arith, behind, position_low p ys)
+    ]
+
+-- where one was found, or else the end
+pub position_found : {X : Type 0} (p : X → Bool) (xs : List X) (n : ℕ) → length xs ≡ n → unwrap_or (position p xs) n ≡ position_or_len p xs
+position_found p xs n e =
+    elim (cases_lt (position_or_len p xs) (length xs)) [
+      | inl low ↦ ap (λ b. unwrap_or (cond b (Some (position_or_len p xs)) None) n) (lt-ltb (position_or_len p xs) (length xs) low)
+      | inr high ↦ ap (λ b. unwrap_or (cond b (Some (position_or_len p xs)) None) n) (le-ltb (position_or_len p xs) (length xs) high) ∙ omega (arith, e, high, position_low p xs)
+    ]
+
 -- numbers from a on
 pub range_length : (a n : ℕ) → length (range_with_len a n) ≡ n
 range_length a zero = refl
 range_length a (suc n) = ap suc (range_length (a + 1) n)
 
-place_low : (xs : List ℕ) (x : ℕ) → place xs x ≤ length xs
-place_low [] x = omega arith
-place_low (y ∷ ys) x =
-    elim (cases_Bool (x == y)) [
-      | inl e ↦ omega (arith, place_here y x ys e)
-      | inr e ↦ omega (arith, place_behind y x ys e, place_low ys x)
-    ]
+range_last : (a n : ℕ) → range_with_len a (suc n) ≡ range_with_len a n ++ (a + n) ∷ []
+range_last a zero = let same : a ≡ a + 0 = omega arith in ap (λ k. k ∷ []) same
+range_last a (suc n) =
+    let same : a + 1 + n ≡ a + suc n = omega arith in
+    ap (λ l. a ∷ l) (range_last (a + 1) n ∙ ap (λ k. range_with_len (a + 1) n ++ k ∷ []) same)
 
--- where a number was found, or else the end
-pub place_found : (xs : List ℕ) (x n : ℕ) → length xs ≡ n → unwrap_or (position (λ y. x == y) xs) n ≡ place xs x
-place_found xs x n e =
-    elim (cases_lt (place xs x) (length xs)) [
-      | inl low ↦ ap (λ b. unwrap_or (cond b (Some (place xs x)) None) n) (lt-ltb (place xs x) (length xs) low)
-      | inr high ↦ ap (λ b. unwrap_or (cond b (Some (place xs x)) None) n) (le-ltb (place xs x) (length xs) high) ∙ omega (arith, e, high, place_low xs x)
-    ]
+-- one number more
+pub range_more : (i j : ℕ) → j ≡ i + 1 → range_with_len 0 j ≡ range_with_len 0 i ++ i ∷ []
+range_more i zero e = absurd (omega (arith, e))
+range_more i (suc j) e =
+    let same : j ≡ i = omega (arith, e) in
+    let here : 0 + j ≡ i = omega (arith, e) in
+    range_last 0 j ∙ (λ k. range_with_len 0 (same k) ++ here k ∷ [])

@@ -8,12 +8,7 @@ use Rattle.dbtg_interned.specs.Kept.{Keeps}
 use Rattle.dbtg_interned.proofs.Public.{stays_list}
 use Rattle.dbtg_forms.specs.declared.vertex.Vertex.{Vertex}
 use Rattle.dbtg_forms.specs.Forms.{is_root, spelling}
-
-range_more : (a n : ℕ) → range_with_len a (suc n) ≡ range_with_len a n ++ (a + n) ∷ []
-range_more a zero = let same : a ≡ a + 0 = omega arith in ap (λ k. k ∷ []) same
-range_more a (suc n) =
-    let same : a + 1 + n ≡ a + suc n = omega arith in
-    ap (λ l. a ∷ l) (range_more (a + 1) n ∙ ap (λ k. range_with_len (a + 1) n ++ k ∷ []) same)
+use Rattle.dbtg_forms.proofs.Lists.{range_more}
 
 filter_push : (p : ℕ → Bool) (xs : List ℕ) (y : ℕ) → filter p (xs ++ y ∷ []) ≡ filter p xs ++ cond (p y) (y ∷ []) []
 filter_push p [] y = refl
@@ -28,11 +23,7 @@ abbrev first_roots : List Vertex → ℕ → List ℕ
 first_roots graph n = filter (is_root graph) (range_with_len 0 n)
 
 roots_more : (graph : List Vertex) (i j : ℕ) → j ≡ i + 1 → first_roots graph j ≡ first_roots graph i ++ cond (is_root graph i) (i ∷ []) []
-roots_more graph i zero e = absurd (omega (arith, e))
-roots_more graph i (suc j) e =
-    let same : j ≡ i = omega (arith, e) in
-    let here : 0 + j ≡ i = omega (arith, e) in
-    ap (filter (is_root graph)) (range_more 0 j ∙ (λ k. range_with_len 0 (same k) ++ here k ∷ [])) ∙ filter_push (is_root graph) (range_with_len 0 i) i
+roots_more graph i j e = ap (filter (is_root graph)) (range_more i j e) ∙ filter_push (is_root graph) (range_with_len 0 i) i
 
 -- spellings that are kept stay
 pub spelled_stay : (old new : List (List ℕ)) (ns : List ℕ) (xs : List (List ℕ)) → Keeps old new → map (slice_get old) ns ≡ map Some xs → map (slice_get new) ns ≡ map Some xs

@@ -1,6 +1,6 @@
 -- When two images are the same but for the numbers and generations of their records.
 -- s is a set, k and m are keys, o is an owner; there and back name the records of one image by those of the other.
-use Rattle.std.specs.Prelude.{ℕ, ◌≡◌, ◌↔◌, Bool, true, List, [], Option, Some, map, option_map, slice_index_or, unwrap_or}
+use Rattle.std.specs.Prelude.{ℕ, ◌≡◌, ◌↔◌, Bool, true, List, [], Option, Some, map, length, option_map, slice_get, unwrap_or}
 use Rattle.std.specs.List.{find}
 use Rattle.dbtg_cells.specs.declared.key.DbKey.{DbKey}
 use Rattle.dbtg_cells.specs.declared.key.Owner.{Owner}
@@ -27,7 +27,7 @@ items_in image k = unwrap_or (option_map (λ r. r.1) (find (λ r. key_eq k r.0) 
 
 -- the lists of a set, each with its owner
 abbrev pub lists_in : Image → ℕ → List (Owner × List DbKey)
-lists_in image s = slice_index_or image.lists s []
+lists_in image s = unwrap_or (slice_get image.lists s) []
 
 -- the members of an owner, in order
 abbrev pub members_in : Image → ℕ → Owner → List DbKey
@@ -51,9 +51,11 @@ abbrev pub renamed : (DbKey → DbKey) → Owner → Owner
 renamed there System = System
 renamed there (Rec k) = Rec (there k)
 
--- Records go to records, one to one and within each type, with their items; and each list, renamed, is the list of its owner's new name.
+-- Both have the same sets. Records go to records, one to one and within each type, with their items; and each list, renamed, is the list of
+-- its owner's new name.
 -- Versions, numbers not yet used and usage do not count
 pub record IsRenaming (a b : Image) (there back : DbKey → DbKey) : Type 0 where
+  pub sets : length a.lists ≡ length b.lists
   pub within : (k : DbKey) → has_record a k ≡ true → has_record b (there k) ≡ true
   pub back_within : (k : DbKey) → has_record b k ≡ true → has_record a (back k) ≡ true
   pub there_and_back : (k : DbKey) → has_record a k ≡ true → back (there k) ≡ k
