@@ -23,11 +23,11 @@ use Rattle.dbtg_outcomes.proofs.Naming.{at_owner, items_for, owner_at, owner_low
 use Rattle.dbtg_outcomes.proofs.Linked.{option_cases, vertex_is}
 
 -- what goes along a list of keys
-keys_along : {X : Type 0} (f g : DbKey → X) (ms : List DbKey) → ((m : DbKey) → is_member m ms ≡ true → f m ≡ g m) → map f ms ≡ map g ms
+pub keys_along : {X : Type 0} (f g : DbKey → X) (ms : List DbKey) → ((m : DbKey) → is_member m ms ≡ true → f m ≡ g m) → map f ms ≡ map g ms
 keys_along f g [] same = refl
 keys_along f g (k ∷ ks) same = λ i. same k (or_left (key_eq k k) (is_member k ks) (key_eq_refl k)) i ∷ keys_along f g ks (λ m h. same m (or_right (key_eq m k) (is_member m ks) h)) i
 
-twice : {X Y Z : Type 0} (f : Y → Z) (g : X → Y) (xs : List X) → map f (map g xs) ≡ map (λ x. f (g x)) xs
+pub twice : {X Y Z : Type 0} (f : Y → Z) (g : X → Y) (xs : List X) → map f (map g xs) ≡ map (λ x. f (g x)) xs
 twice f g [] = refl
 twice f g (x ∷ xs) = ap (λ l. f (g x) ∷ l) (twice f g xs)
 

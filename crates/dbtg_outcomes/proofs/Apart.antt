@@ -35,11 +35,11 @@ values_apart (v ∷ vs) (w ∷ ws) e =
     let rest = values_apart vs ws first.1 in
     λ i. first.0 i ∷ rest i
 
-pub record SameLabel (a b : Image) (o p : Owner) (items others : List Value) : Type 0 where
+pub record SameLabel (a b : Image) (o p : Owner) (own others : List Value) : Type 0 where
   pub kinds : kind o ≡ kind p
   pub sets : length a.lists ≡ length b.lists
-  pub counts : counts a o ≡ counts b p
-  pub items : items ≡ others
+  pub numbers : counts a o ≡ counts b p
+  pub items : own ≡ others
 
 counts_length : (image : Image) (o : Owner) (n : ℕ) → length (map (λ s. length (members_in image s o)) (range_with_len 0 n)) ≡ length (range_with_len 0 n)
 counts_length image o n = length-map (range_with_len 0 n) (λ s. length (members_in image s o))
@@ -51,4 +51,4 @@ label_apart a b o p items others e =
     let rest : counts a o ++ flat_map value_numbers items ≡ counts b p ++ flat_map value_numbers others = cc in
     let lengths : length (counts a o) ≡ length (counts b p) = counts_length a o (length a.lists) ∙ ap (λ n. length (range_with_len 0 n)) sets ∙ sym (counts_length b p (length b.lists)) in
     let parts = split (counts a o) (counts b p) (flat_map value_numbers items) (flat_map value_numbers others) lengths rest in
-    record { kinds = kinds; sets = sets; counts = parts.0; items = values_apart items others parts.1 }
+    record { kinds = kinds; sets = sets; numbers = parts.0; items = values_apart items others parts.1 }

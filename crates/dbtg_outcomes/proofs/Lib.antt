@@ -1,3 +1,5 @@
 pub mod Naming
 pub mod Apart
 pub mod Linked
+pub mod Agreeing
+pub mod Recovered

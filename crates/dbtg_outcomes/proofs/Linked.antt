@@ -36,12 +36,12 @@ from_flat f (x ∷ xs) y h =
       | inr e ↦ let rest = from_flat f xs y e in (rest.0, or_right (rest.0 == x) (has xs rest.0) rest.1, rest.2)
     ]
 
-pub keys_go : {f : DbKey → ℕ} (ms : List DbKey) (m : DbKey) → is_member m ms ≡ true → has (map f ms) (f m) ≡ true
-keys_go [] m h = absurd (cc)
-keys_go {f} (k ∷ ks) m h =
+keys_go : (f : DbKey → ℕ) (ms : List DbKey) (m : DbKey) → is_member m ms ≡ true → has (map f ms) (f m) ≡ true
+keys_go f [] m h = absurd (cc)
+keys_go f (k ∷ ks) m h =
     elim (or_cases (key_eq m k) (is_member m ks) h) [
       | inl e ↦ or_left (f m == f k) (has (map f ks) (f m)) (eq-eqb (f m) (f k) (ap f (same_key m k e)))
-      | inr e ↦ or_right (f m == f k) (has (map f ks) (f m)) (keys_go {f = f} ks m e)
+      | inr e ↦ or_right (f m == f k) (has (map f ks) (f m)) (keys_go f ks m e)
     ]
 
 first_member : (k : DbKey) (ks : List DbKey) → is_member k (k ∷ ks) ≡ true
@@ -68,7 +68,7 @@ module _ (image : Image) where
   below_link : (o : Owner) (s : ℕ) (m : DbKey) → has (sets_of image) s ≡ true → is_member m (members_in image s o) ≡ true → has (link_places image o) (record_place image m) ≡ true
   below_link o s m own h =
       has_left (flat_map (member_places image o) (sets_of image)) (flat_map (above image o) (sets_of image)) (record_place image m)
-      (has_flat (member_places image o) (sets_of image) s (record_place image m) own (keys_go {f = record_place image} (members_in image s o) m h))
+      (has_flat (member_places image o) (sets_of image) s (record_place image m) own (keys_go (record_place image) (members_in image s o) m h))
 
   above_link : (k : DbKey) (s : ℕ) (o : Owner) → has (sets_of image) s ≡ true → owner_in image s k ≡ Some o → has (link_places image (Rec k)) (owner_place image o) ≡ true
   above_link k s o own e =

@@ -23,7 +23,7 @@ use Rattle.dbtg_outcomes.specs.Drawn.{AreOutcomes, IsDrawn, IsOf, IsVertex, Keep
 use Rattle.dbtg_outcomes.proofs.Apart.{SameLabel, label_apart}
 use Rattle.dbtg_outcomes.proofs.Naming.{at_owner, items_for, owner_at, owner_low, vertex_owner}
 use Rattle.dbtg_outcomes.proofs.Linked.{drawn_is_graph, vertex_is}
-use Rattle.dbtg_outcomes.proofs.Agreeing.{keys_along, renaming_is_isomorphism, twice}
+use Rattle.dbtg_outcomes.proofs.Agreeing.{renaming_is_isomorphism, twice}
 
 abbrev key_of : Owner → DbKey
 key_of System = record { rtype = 0; number = 0; generation = 0 }
@@ -136,7 +136,7 @@ module _ (labels : List (List ℕ)) (a b : Image) (wa : IsWhole a) (wb : IsWhole
       let same : sets_of b ≡ sets = ap (range_with_len 0) (sym same_sets) in
       let c : ℕ → ℕ = λ t. length (members_in a t o) in
       let d : ℕ → ℕ = λ t. length (members_in b t p) in
-      let counted : map d sets ≡ map c sets = ap (map d) (sym same) ∙ ap (counts b) (sym (owner_goes o m)) ∙ sym (same_label o m).counts in
+      let counted : map d sets ≡ map c sets = ap (map d) (sym same) ∙ ap (counts b) (sym (owner_goes o m)) ∙ sym (same_label o m).numbers in
       let whole : flat_map (member_places b p) sets ++ flat_map (above b p) (sets_of b) ≡ map F (flat_map (member_places a o) sets) ++ map F (flat_map (above a o) sets) =
           ap (λ l. flat_map (member_places b p) l ++ flat_map (above b p) (sets_of b)) (sym same) ∙ links_go o m ∙ map-append F (flat_map (member_places a o) sets) (flat_map (above a o) sets) in
       flat_apart F (member_places a o) (member_places b p) c d sets (map F (flat_map (above a o) sets)) (flat_map (above b p) (sets_of b))
