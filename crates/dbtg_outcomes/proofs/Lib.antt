@@ -3,3 +3,4 @@ pub mod Apart
 pub mod Linked
 pub mod Agreeing
 pub mod Recovered
+pub mod Steps
