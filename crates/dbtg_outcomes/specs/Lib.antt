@@ -1,3 +1,0 @@
-pub mod Agree
-pub mod Drawn
-pub mod Laws
