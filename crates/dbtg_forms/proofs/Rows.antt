@@ -55,14 +55,18 @@ module _ (up down : Vec ℕ) (e : up.items ≡ 1 ∷ []) (f : down.items ≡ 0 �
   links_go (suc (suc x)) low = absurd (omega (arith, low))
 
   exchanged_is_isomorphic : Isomorphic first exchanged
-  exchanged_is_isomorphic = (other, other, record {
-    within = λ x low. omega arith;
-    back_within = λ y low. omega arith;
-    there_and_back = λ x low. omega (arith, low);
-    back_and_there = λ y low. omega (arith, low);
-    labels = labels_go;
-    links = links_go;
-  })
+  exchanged_is_isomorphic = (
+    other,
+    other,
+    record {
+      within = λ x low. omega arith;
+      back_within = λ y low. omega arith;
+      there_and_back = λ x low. omega (arith, low);
+      back_and_there = λ y low. omega (arith, low);
+      labels = labels_go;
+      links = links_go;
+    },
+  )
 
   -- a vertex goes to one with its label
   other_label : Isomorphic (record { label = 5; links = up } ∷ []) (record { label = 6; links = up } ∷ []) → ⊥
