@@ -19,7 +19,7 @@ explains_refusals call = call.explains && not call.no_explain
 
 -- how a picture is drawn, by the command and what it is given; a page names these files
 abbrev pub IsDrawn : Named → List (List ℕ) → Call → Form → Type 0
-IsDrawn named.Page files call (form.Page its) = its.now ≡ files
+IsDrawn named.Page files call (form.Page its whole) = (its.now ≡ files) × (whole ≡ call.whole)
 IsDrawn named.Page files call _ = ⊥
 IsDrawn _ files call drawn = drawn ≡ (if call.svg then form.Svg (explains_refusals call) else form.Text (explains_refusals call))
 

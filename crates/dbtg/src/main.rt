@@ -113,12 +113,15 @@ fn tell_size(told: &mut Vec<u8>, size: usize) -> Result<(), AllocError> {
     told.extend_from_slice(b" MB\n")
 }
 
+// With moves the script that is made first is read again, to tell what was refused of it.
 fn pictured(alloc: Global, files: &Files<HostRuntime>, call: &Call) -> Result<Ended, Fault> {
     let names = names_of_files(alloc, call.schema, call.scripts.as_slice())?;
     let form = picture_form(call, names.as_slice());
-    let text = timeline(alloc, files, call.capacity, &form, call.first)?;
-    let size = text.len();
-    let mut ended = of_run(alloc, files, call, text)?;
+    let mut ended = Ended::of_programs(timeline(alloc, files, run_options(call), &form)?);
+    if matches!(call.order, Order::Moves(_)) {
+        ended.told = told_of_first(alloc, files, call)?;
+    }
+    let size = ended.text.len();
     if size > LARGE_PAGE && matches!(call.named, Named::Page) {
         tell_size(&mut ended.told, size)?;
     }

@@ -26,7 +26,10 @@ pub fn picture_form<'a>(call: &Call, files: &'a [Row<u8>]) -> Form<'a>
 {
     let explained = explains_refusals(call);
     match call.named {
-        Named::Page => Form::Page { files },
+        Named::Page => Form::Page {
+            files,
+            whole: call.whole,
+        },
         _ if call.svg => Form::Svg { explained },
         _ => Form::Text { explained },
     }

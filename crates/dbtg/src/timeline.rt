@@ -1,41 +1,51 @@
-//! A run, shown as a picture of its interleaving or as a page.
-ghost use Rattle.std.specs.Prelude.{◌≡◌, ◌≤◌, ◌++◌, ◌∷◌, false, IfErr, IfOk, length, map, true};
+//! A run, shown as a picture of its interleaving or as a page: of scripts by moves, of programs by turns or one after another.
+ghost use Rattle.std.specs.Prelude.{◌≡◌, ◌≤◌, ◌∷◌, false, IfErr, IfOk, length, map, true};
+ghost use Rattle.std.specs.List.{list_all};
 ghost use Rattle.dbtg_schema.specs.Sound.{IsSound};
 ghost use Rattle.dbtg_script.specs.Lines.{statement_lines};
+ghost use Rattle.dbtg_program.specs.Reading.{program};
 ghost use Rattle.dbtg_step.specs.Laws.{scripts_fit};
-ghost use Rattle.dbtg_replay.specs.Ordering.{StandFor, first_turns};
-ghost use Rattle.dbtg.specs.Picturing.{AreBefore, IsPictured, TimelineHeld, events_shown, picture};
+ghost use Rattle.dbtg_unit.specs.Database.Statements.Fits.{fits};
+ghost use Rattle.dbtg_replay.specs.Ordering.{StandFor};
+ghost use Rattle.dbtg_running.specs.Running.{ToldOfRun as ToldOfPrograms};
+ghost use Rattle.dbtg.specs.Picturing.{IsPictured, PicturesHeld, PicturesMade, PrintsPicture, ShowsMoves, TimelineHeld, ToldOfTimeline};
+ghost use Rattle.dbtg.specs.Picturing.{events_shown, picture, turns_of_first};
 ghost use Rattle.dbtg_command.specs.Refusals.{is_count};
-ghost use Rattle.dbtg_command.specs.Sources.{ReadSchema, ToldOfRun};
+ghost use Rattle.dbtg_command.specs.Sources.{ReadSchema, ToldOfRun as ToldOfScripts};
+ghost use Rattle.dbtg_command.specs.declared.order.OrderKind.TheVariants.{Moves};
 
-use dbtg_command::{Fault, OrderKind, Source, copy_each_script, read_moves, read_turns};
+use dbtg_command::{Fault, OrderKind, Source, copy_each_script, read_moves, read_schema};
 use dbtg_explain::CAUSES;
+use dbtg_going::{Around, ProgramRun, units_in_turn};
 use dbtg_page::{Steps, Told, page_text};
-use dbtg_replay::replay::schema_for_run;
+use dbtg_replay::replay::check_count;
 use dbtg_replay::{
     Scripts, moves_behind_first, moves_of_turns, read_scripts_with_texts, said_of_run,
-    serial_turns, turns_behind_first,
+};
+use dbtg_running::{
+    Printed, Programs, RunOptions, never_ends, read_programs, run_of_read, scripts_made,
+    statements_made, told_of_first,
 };
 use dbtg_schema::{Row, Schema};
 use dbtg_script::statement_lines;
 use dbtg_timeline::{Event, noted_events, timeline_svg, timeline_text, watch};
-use dbtg_unit::{LAST_UNIT, Move, Statement};
+use dbtg_unit::{Entry, LAST_UNIT, Move, Statement};
 use std::alloc::{AllocError, Global};
 
-/// The form in which a run is shown. A picture can say below each refusal what is in its way; a page has the names of its files, first that
-/// of the schema.
+/// The form in which a run is shown. A picture can say below each refusal what is in its way. A page has the names of its files, first that
+/// of the schema; it begins behind the script that is made first, unless it shows the whole run.
 #[derive(Clone, Copy)]
 pub enum Form<'a> {
     Text { explained: bool },
     Svg { explained: bool },
-    Page { files: &'a [Row<u8>] },
+    Page { files: &'a [Row<u8>], whole: bool },
 }
 
-// The turns of the scripts that meet, and whether the last script is made before them.
+// The turns of a run: those of the first program, and all of them.
 #[derive(Clone, Copy)]
 struct Turns<'a> {
-    first: bool,
-    given: &'a [u8],
+    first: &'a [u8],
+    all: &'a [u8],
 }
 
 /// The names of the files of a page: that of the schema, and those of the scripts.
@@ -132,37 +142,60 @@ fn picture_of_moves(
             let events = events_shown(alloc, schema, capacity, statements, explained, moves)?;
             timeline_svg(alloc, scripts, events.as_slice())
         }
-        Form::Page { files } => {
+        Form::Page { files, whole } => {
             let causes = CAUSES.as_bytes();
             let told = Told {
                 files,
                 scripts,
                 causes,
             };
-            page_text(alloc, schema, capacity, statements, &told, steps)
+            let steps = Steps {
+                before: if whole { 0 } else { steps.before },
+                ..*steps
+            };
+            page_text(alloc, schema, capacity, statements, &told, &steps)
         }
     }
 }
 
-// How many moves make the script that is made first.
-fn moves_of_first(
+// The turns of the first program in a history of this many units, if there is one.
+fn turns_of_first(
+    alloc: Global,
+    around: Around,
+    units: u8,
+    history: &[Entry],
+) -> Result<Vec<u8>, AllocError>
+    ensures { IfOk result (λ turns. turns.items ≡ turns_of_first around units history.now) }
+{
+    if !around.first {
+        return Ok(Vec::new(alloc));
+    }
+    let unit = around.others(units) as usize + 1;
+    history
+        .iter()
+        .filter(|entry| entry.unit as usize == unit)
+        .map(|entry| entry.unit)
+        .collect(alloc)
+}
+
+// The moves that these turns stand for.
+fn moves_in_turn(
     alloc: Global,
     schema: &Schema,
     capacity: u16,
     scripts: &[Row<Statement>],
-    first: bool,
-) -> Result<usize, AllocError>
+    turns: &[u8],
+) -> Result<Row<Move>, AllocError>
     requires sound { IsSound schema.now }
     requires units { length scripts.now ≤ LAST_UNIT }
     requires fit { scripts_fit schema.now scripts.now ≡ true }
-    ensures { IfOk result (λ count. AreBefore first schema.now capacity scripts.now count) }
+    ensures { IfOk result (StandFor schema.now capacity scripts.now turns.now) }
 {
-    let none = Vec::new(alloc);
-    let all = moves_behind_first(alloc, first, schema, capacity, scripts, none)?;
-    Ok(all.before)
+    let copies = copy_each_script(alloc, scripts)?;
+    moves_of_turns(alloc, schema, capacity, copies, turns)
 }
 
-// The run of the moves that these turns stand for, after those of the script that is made first.
+// The scripts by turns. A page of them begins behind the first of these.
 fn picture_of_turns(
     alloc: Global,
     schema: &Schema,
@@ -174,76 +207,151 @@ fn picture_of_turns(
     requires sound { IsSound schema.now }
     requires units { length scripts.statements ≤ LAST_UNIT }
     requires fit { scripts_fit schema.now scripts.statements ≡ true }
-    ensures { IfOk result (λ out. IsPictured schema.now capacity scripts.statements scripts.texts form.now false turns.now.first
-        (StandFor schema.now capacity scripts.statements (first_turns turns.now.first scripts.statements ++ turns.now.given.now)) out.items) }
+    ensures { IfOk result (λ out. IsPictured schema.now capacity scripts.statements scripts.texts form.now false
+        (StandFor schema.now capacity scripts.statements turns.now.first) (StandFor schema.now capacity scripts.statements turns.now.all) out.items) }
 {
     let statements = scripts.statements.as_slice();
-    let all = turns_behind_first(alloc, turns.first, statements, turns.given)?;
-    let before = moves_of_first(alloc, schema, capacity, statements, turns.first)?;
-    let copies = copy_each_script(alloc, statements)?;
-    let moves = moves_of_turns(alloc, schema, capacity, copies, all.as_slice())?;
+    let first = moves_in_turn(alloc, schema, capacity, statements, turns.first)?;
+    let moves = moves_in_turn(alloc, schema, capacity, statements, turns.all)?;
     let steps = Steps {
         events: false,
-        before,
+        before: first.len(),
         moves: moves.as_slice(),
     };
     picture_of_moves(alloc, schema, capacity, scripts, form, &steps)
 }
 
-fn timeline_known<S: Source>(
+// The picture of the scripts that the units of a run made.
+fn picture_of_run(
+    alloc: Global,
+    schema: &Schema,
+    programs: &Programs,
+    options: RunOptions,
+    form: &Form<'_>,
+    given: &ProgramRun,
+) -> Result<Vec<u8>, AllocError>
+    requires sound { IsSound schema.now }
+    requires few { length programs.now.texts.items ≤ LAST_UNIT }
+    requires are { programs.now.list.items ≡ map (program schema.now) programs.now.texts.items }
+    requires fit { list_all (λ e. fits schema.now e.statement) given.now.run.history ≡ true }
+    ensures { IfOk result (λ out. PicturesMade schema.now options form.now programs.now.texts.items given.now out.items) }
+{
+    let history = given.run.history.as_slice();
+    let (list, texts) = (programs.list.as_slice(), programs.texts.as_slice());
+    let statements = statements_made(alloc, texts.len() as u8, history)?;
+    let made = scripts_made(alloc, schema, list, texts, history)?;
+    let first = turns_of_first(alloc, options.around, texts.len() as u8, history)?;
+    let all = units_in_turn(alloc, history)?;
+    let scripts = Scripts {
+        statements,
+        texts: Row::of(made),
+    };
+    let turns = Turns {
+        first: first.as_slice(),
+        all: all.as_slice(),
+    };
+    picture_of_turns(alloc, schema, options.capacity, scripts, form, &turns)
+}
+
+// What is printed of a run of these programs.
+fn print_picture(
+    alloc: Global,
+    schema: &Schema,
+    programs: &Programs,
+    options: RunOptions,
+    form: &Form<'_>,
+    given: &ProgramRun,
+) -> Result<Printed, AllocError>
+    requires sound { IsSound schema.now }
+    requires few { length programs.now.texts.items ≤ LAST_UNIT }
+    requires are { programs.now.list.items ≡ map (program schema.now) programs.now.texts.items }
+    requires fit { list_all (λ e. fits schema.now e.statement) given.now.run.history ≡ true }
+    ensures { IfOk result (PrintsPicture schema.now options form.now programs.now.texts.items given.now) }
+{
+    let beside = told_of_first(alloc, schema, programs, options, given)?;
+    let (units, reached) = (
+        programs.texts.as_slice().len() as u8,
+        given.programs.as_slice(),
+    );
+    if never_ends(options.around, units, reached) {
+        return Ok(Printed::nothing(alloc, beside));
+    }
+    Ok(Printed {
+        text: picture_of_run(alloc, schema, programs, options, form, given)?,
+        failed: false,
+        beside,
+    })
+}
+
+// The programs that a source gives.
+fn timeline_of_programs<S: Source>(
     alloc: Global,
     source: &S,
     known: &Schema,
-    capacity: u16,
+    options: RunOptions,
     form: &Form<'_>,
-    first: bool,
-) -> Result<Vec<u8>, Fault>
+) -> Result<Printed, Fault>
     requires counted { is_count (S.count source.now) ≡ true }
     requires read { ReadSchema (S.holds source.now) known.now }
     requires sound { IsSound known.now }
-    ensures done { IfOk result (λ out. TimelineHeld (S.holds source.now) (S.count source.now) (S.order source.now) first capacity form.now out.items) }
-    ensures refused { IfErr result (λ fault. ToldOfRun (S.holds source.now) (S.fails source.now) fault (S.count source.now) (S.order source.now)) }
+    ensures done { IfOk result (PicturesHeld (S.holds source.now) (S.count source.now) (S.order source.now) options form.now) }
+    ensures refused { IfErr result (λ fault. ToldOfPrograms (S.holds source.now) (S.fails source.now) fault (S.count source.now) (S.order source.now)) }
 {
-    let scripts = read_scripts_with_texts(alloc, source, known)?;
-    let statements = scripts.statements.as_slice();
-    match source.order() {
-        OrderKind::Serial => {
-            let serial = serial_turns(alloc, statements)?;
-            let given = serial.as_slice();
-            let turns = Turns { first, given };
-            Ok(picture_of_turns(alloc, known, capacity, scripts, form, &turns)?)
-        }
-        OrderKind::Moves => {
-            let moves = read_moves(alloc, source)?;
-            let all = moves_behind_first(alloc, first, known, capacity, statements, moves)?;
-            let steps = Steps {
-                events: true,
-                before: all.before,
-                moves: all.moves.as_slice(),
-            };
-            Ok(picture_of_moves(alloc, known, capacity, scripts, form, &steps)?)
-        }
-        OrderKind::Turns => {
-            let read = read_turns(alloc, source)?;
-            let given = read.as_slice();
-            let turns = Turns { first, given };
-            Ok(picture_of_turns(alloc, known, capacity, scripts, form, &turns)?)
-        }
-    }
+    let programs = read_programs(alloc, source, known)?;
+    let given = run_of_read(alloc, source, known, &programs, options)?;
+    Ok(print_picture(alloc, known, &programs, options, form, &given)?)
 }
 
-/// What `timeline` or `page` prints of the schema, the scripts and the moves or turns that a source gives, or the first fault. Without
-/// moves and turns one script is made after the other. The last script is made before all others, if it is made first.
+// The scripts that a source gives, by moves.
+fn timeline_of_scripts<S: Source>(
+    alloc: Global,
+    source: &S,
+    known: &Schema,
+    options: RunOptions,
+    form: &Form<'_>,
+) -> Result<Printed, Fault>
+    requires counted { is_count (S.count source.now) ≡ true }
+    requires read { ReadSchema (S.holds source.now) known.now }
+    requires sound { IsSound known.now }
+    requires moves { S.order source.now ≡ Moves }
+    ensures done { IfOk result (ShowsMoves (S.holds source.now) (S.count source.now) options form.now) }
+    ensures refused { IfErr result (λ fault. ToldOfScripts (S.holds source.now) (S.fails source.now) fault (S.count source.now) Moves) }
+{
+    let RunOptions {
+        capacity, around, ..
+    } = options;
+    let scripts = read_scripts_with_texts(alloc, source, known)?;
+    let statements = scripts.statements.as_slice();
+    let moves = read_moves(alloc, source)?;
+    let all = moves_behind_first(alloc, around.first, known, capacity, statements, moves)?;
+    let steps = Steps {
+        events: true,
+        before: all.before,
+        moves: all.moves.as_slice(),
+    };
+    Ok(Printed {
+        text: picture_of_moves(alloc, known, capacity, scripts, form, &steps)?,
+        failed: false,
+        beside: Vec::new(alloc),
+    })
+}
+
+/// What `timeline` or `page` prints of the schema, the scripts or programs, and the moves or turns that a source gives, or the first fault.
+/// With moves these are scripts. Otherwise they are programs, and go by the turns, or each to its end. What is told beside the text is told
+/// of programs alone.
 pub fn timeline<S: Source>(
     alloc: Global,
     source: &S,
-    capacity: u16,
+    options: RunOptions,
     form: &Form<'_>,
-    first: bool,
-) -> Result<Vec<u8>, Fault>
-    ensures done { IfOk result (λ out. TimelineHeld (S.holds source.now) (S.count source.now) (S.order source.now) first capacity form.now out.items) }
-    ensures refused { IfErr result (λ fault. ToldOfRun (S.holds source.now) (S.fails source.now) fault (S.count source.now) (S.order source.now)) }
+) -> Result<Printed, Fault>
+    ensures done { IfOk result (TimelineHeld (S.holds source.now) (S.count source.now) (S.order source.now) options form.now) }
+    ensures refused { IfErr result (λ fault. ToldOfTimeline (S.holds source.now) (S.fails source.now) fault (S.count source.now) (S.order source.now)) }
 {
-    let known = schema_for_run(alloc, source)?;
-    timeline_known(alloc, source, &known, capacity, form, first)
+    check_count(source.count())?;
+    let known = read_schema(alloc, source)?;
+    match source.order() {
+        OrderKind::Moves => timeline_of_scripts(alloc, source, &known, options, form),
+        _ => timeline_of_programs(alloc, source, &known, options, form),
+    }
 }

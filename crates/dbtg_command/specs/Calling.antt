@@ -59,6 +59,7 @@ pub record IsCall (asked : Named) (found : Found) (call : Call) : Type 0 where
   pub echo : IsFlag found (codes "echo") call.echo
   pub trace : IsFlag found (codes "trace") call.trace
   pub svg : IsFlag found (codes "svg") call.svg
+  pub whole : IsFlag found (codes "from-the-beginning") call.whole
   pub brief : IsFlag found (codes "brief") call.brief
   pub replies : IsFlag found (codes "statuses") call.replies
   pub statuses : IsFlag found (codes "status") call.statuses

@@ -53,9 +53,17 @@ explain = flag (codes "explain")
 abbrev pub first : Rule
 first = file_option (codes "first")
 
+-- a page begins with what the first script does
+abbrev pub from_the_beginning : Rule
+from_the_beginning = flag (codes "from-the-beginning")
+
 -- a program that runs after all others have ended
 abbrev pub last : Rule
 last = file_option (codes "then")
+
+-- the same for a command that takes moves, which it excludes
+abbrev pub last_option : Rule
+last_option = record last { is_free = false }
 
 abbrev pub limit : Rule
 limit = number_option (codes "limit") (codes "5000000")
@@ -145,8 +153,8 @@ abbrev pub rules_for : Named → List Rule
 rules_for named.Check = all ∷ first ∷ programs ∷ explain ∷ no_explain ∷ schema ∷ scripts ∷ []
 rules_for named.Replay = capacity ∷ first ∷ moves ∷ turns_option ∷ echo ∷ trace_option ∷ explain ∷ no_explain ∷ schema ∷ scripts ∷ []
 rules_for named.Turns = capacity ∷ explain ∷ no_explain ∷ turns_file ∷ schema ∷ scripts ∷ []
-rules_for named.Timeline = capacity ∷ first ∷ moves ∷ turns_option ∷ svg ∷ explain ∷ no_explain ∷ schema ∷ scripts ∷ []
-rules_for named.Page = capacity ∷ first ∷ moves ∷ turns_option ∷ explain ∷ no_explain ∷ schema ∷ scripts ∷ []
+rules_for named.Timeline = capacity ∷ first ∷ moves ∷ turns_option ∷ last_option ∷ svg ∷ explain ∷ no_explain ∷ schema ∷ scripts ∷ []
+rules_for named.Page = capacity ∷ first ∷ moves ∷ turns_option ∷ last_option ∷ from_the_beginning ∷ explain ∷ no_explain ∷ schema ∷ scripts ∷ []
 rules_for named.Threads = capacity ∷ first ∷ save_turns ∷ trace_alone ∷ explain ∷ no_explain ∷ schema ∷ scripts ∷ []
 rules_for named.Audit = capacity ∷ first ∷ units ∷ status ∷ all ∷ explain ∷ no_explain ∷ schema ∷ trace ∷ []
 rules_for named.Draw = explain ∷ no_explain ∷ schema ∷ []

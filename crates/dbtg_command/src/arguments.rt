@@ -89,9 +89,20 @@ pub const FIRST_PROGRAM: Word = Word::FileOption(
     "A program that runs before the others, by the unit after theirs [default: none]",
 );
 
+pub const FROM_THE_BEGINNING: Word = Word::Flag(
+    "from-the-beginning",
+    "Begins with the statements of --first, and not behind them",
+);
+
 pub const LAST: Word = Word::FileOption(
     "then",
     "A program that runs when all others have ended, by the last unit [default: none]",
+);
+
+pub const LAST_OR_MOVES: Word = Word::FileOptionWithout(
+    "then",
+    "moves",
+    "A program that runs when all others have ended, by the last unit; not with --moves [default: none]",
 );
 
 pub const LIMIT: Word = Word::NumberOption(
@@ -102,7 +113,7 @@ pub const LIMIT: Word = Word::NumberOption(
 
 pub const MOVES: Word = Word::FileOption(
     "moves",
-    "A file of moves, or the moves; - for standard input [default: script after script]",
+    "A file of moves, or the moves; - for standard input [default: one after another]",
 );
 
 pub const NEVER: Word = Word::WishOption(
@@ -125,6 +136,12 @@ pub const ON_THREADS: Word = Word::FlagWithout(
 pub const PROGRAMS: Word = Word::Flag(
     "programs",
     "Reads programs instead of scripts [default: scripts]",
+);
+
+pub const PICTURED: Word = Word::Words(
+    "scripts",
+    "PROGRAM",
+    "Files of the programs of units 1, 2, ..: 1 to 8 in all; scripts with --moves; - for standard input, once",
 );
 
 pub const PROGRAM_FILES: Word = Word::Words(

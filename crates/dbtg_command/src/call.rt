@@ -38,6 +38,8 @@ pub struct Call<'a> {
     pub trace: bool,
     /// A picture is drawn as SVG.
     pub svg: bool,
+    /// A page begins with the statements of the script that is made first.
+    pub whole: bool,
     /// Results are shown as what differs from the first.
     pub brief: bool,
     /// What statements are answered is listed, in place of results.
@@ -217,6 +219,7 @@ fn given_call<'a>(alloc: Global, named: Named, given: &ArgMatches<'a>) -> Result
         echo: given.get_flag("echo"),
         trace: given.get_flag("trace"),
         svg: given.get_flag("svg"),
+        whole: given.get_flag("from-the-beginning"),
         brief: given.get_flag("brief"),
         replies: given.get_flag("statuses"),
         statuses: given.get_flag("status"),

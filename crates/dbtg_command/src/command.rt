@@ -7,7 +7,7 @@ ghost use Rattle.dbtg_command.specs.Inside.Commands.{IsApp, alone, rule_for, wit
 
 use crate::arguments::{
     ALL_FAULTS, ALL_LINES, ALWAYS, BRIEF, CAPACITY, CHECKED_SCRIPTS, ECHO, EXPLAIN, EXPLAIN_ECHO,
-    EXPLAIN_PICTURE, FIRST, FIRST_PROGRAM, LAST, LIMIT, MOVES, NEVER, NO_EXPLAIN, ON_THREADS,
+    EXPLAIN_PICTURE, FIRST, FIRST_PROGRAM, FROM_THE_BEGINNING, LAST, LAST_OR_MOVES, LIMIT, MOVES, NEVER, NO_EXPLAIN, ON_THREADS, PICTURED,
     PROGRAM_FILES, PROGRAMS, SAVE_TURNS, SCHEMA, SCHEMA_ALONE, SCRIPTS, SCRIPTS_ON_THREADS, STATUS,
     STATUSES, SVG, TOPIC, TRACE, TRACE_FILE, TRACE_OR_ECHO, TRACE_UNITS, TURNS, TURNS_BEFORE,
     TURNS_FILE, TURNS_OR_MOVES, UNITS, Word, arg_of,
@@ -131,14 +131,15 @@ fn timeline_command<'a>(alloc: Global, name: &'a str) -> Result<Command<'a>, All
         "Example, in examples/shop: dbtg timeline --moves moves shop.schema unit1.script unit2.script",
         &[
             CAPACITY,
-            FIRST,
+            FIRST_PROGRAM,
             MOVES,
             TURNS_OR_MOVES,
+            LAST_OR_MOVES,
             SVG,
             EXPLAIN_PICTURE,
             NO_EXPLAIN,
             SCHEMA,
-            SCRIPTS,
+            PICTURED,
         ],
     )
 }
@@ -151,16 +152,18 @@ fn page_command<'a>(alloc: Global, name: &'a str) -> Result<Command<'a>, AllocEr
         alloc,
         name,
         "Prints a page for a browser to step through a run: statements, records, sets and what is current",
-        "Example, in examples/shop: dbtg page --moves moves shop.schema unit1.script unit2.script > shop.html",
+        "Example, in examples/clerks: dbtg page --first load.program --turns lost.turns inventory.schema one.program two.program > lost.html",
         &[
             CAPACITY,
-            FIRST,
+            FIRST_PROGRAM,
             MOVES,
             TURNS_OR_MOVES,
+            LAST_OR_MOVES,
+            FROM_THE_BEGINNING,
             EXPLAIN,
             NO_EXPLAIN,
             SCHEMA,
-            SCRIPTS,
+            PICTURED,
         ],
     )
 }

@@ -17,11 +17,10 @@ use Rattle.dbtg_command.specs.declared.place.TextPlace.TheVariants.{Script}
 use Rattle.dbtg_command.specs.Refusals.{is_count}
 use Rattle.dbtg_command.specs.Sources.{ReadSchema}
 use Rattle.dbtg_command.proofs.Public.{held_behind}
-use Rattle.dbtg_running.specs.declared.command.Printed.{Printed}
 use Rattle.dbtg_running.specs.declared.command.RunOptions.{RunOptions}
 use Rattle.dbtg_running.specs.Reading.{AllAccepted, ReadPrograms}
 use Rattle.dbtg_running.specs.declared.threads.PrintedOnThreads.{PrintedOnThreads}
-use Rattle.dbtg_running.specs.Running.{PrintsRun, ReadsTurns, RunsHeld, run_text}
+use Rattle.dbtg_running.specs.Running.{IsRunHeld, ReadsTurns}
 use Rattle.dbtg_running.specs.Threading.{IsPrintedOf, RunsOnThreads}
 use Rattle.dbtg_running.proofs.RunAgain.{saved_again}
 
@@ -46,22 +45,22 @@ programs_behind holds lists n text before after texts texts' so_far held e taken
       text_taken ∙ ap (λ (ts : List (List ℕ)). ts ++ text ∷ []) so_far.2,
     )
 
--- a run of the programs that were read, as it is printed
-pub run_is_read : (holds : TextPlace → List ℕ → Type 0) (lists : Lists) (count : ℕ) (which : OrderKind) (options : RunOptions) (programs : List Program) (texts : List (List ℕ)) (turns : Option (List ℕ)) (given : ProgramRun) (printed : Printed)
-    → is_count count ≡ true → ReadSchema holds lists → (read : ReadPrograms holds lists count) × (programs ≡ map (program lists) read.texts) × (texts ≡ read.texts) → ReadsTurns holds which turns
-    → IsRunOf lists options.capacity programs (turns_of lists options.capacity programs options.around turns) given → PrintsRun lists options texts given (run_text lists options.form texts given) printed
-    → RunsHeld holds count which options printed
-run_is_read holds lists count which options programs texts turns given printed right schema read turns_too run is_printed =
+-- a run of the programs that were read
+pub run_is_held : (holds : TextPlace → List ℕ → Type 0) (lists : Lists) (count : ℕ) (which : OrderKind) (options : RunOptions) (programs : List Program)
+    (texts : List (List ℕ)) (turns : Option (List ℕ)) (given : ProgramRun) → is_count count ≡ true → ReadSchema holds lists
+    → (read : ReadPrograms holds lists count) × (programs ≡ map (program lists) read.texts) × (texts ≡ read.texts) → ReadsTurns holds which turns
+    → IsRunOf lists options.capacity programs (turns_of lists options.capacity programs options.around turns) given
+    → IsRunHeld holds count which options lists texts given
+run_is_held holds lists count which options programs texts turns given right schema read turns_too run =
     record {
       counted = right;
-      lists = lists;
       schema = schema;
       programs = read.0;
+      texts_are = read.2;
       turns = turns;
       turns_too = turns_too;
-      given = given;
-      is_run = subst (λ ps. IsRunOf lists options.capacity ps (turns_of lists options.capacity ps options.around turns) given) read.1 run;
-      is_printed = subst (λ ts. PrintsRun lists options ts given (run_text lists options.form ts given) printed) read.2 is_printed;
+      is_run = subst (λ ps. IsRunOf lists options.capacity ps (turns_of lists options.capacity ps options.around turns) given)
+          (read.1 ∙ ap (map (program lists)) (sym read.2)) run;
     }
 
 -- 1 to 8 programs were read

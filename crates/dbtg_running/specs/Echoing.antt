@@ -1,6 +1,7 @@
--- The statements that units made, as the lines of their programs have them, with the values of their fields: a script for each unit.
+-- The statements that units made; and as the lines of their programs have them, with the values of their fields: a script for each unit.
 -- text and texts are bytes, u is the number of a unit.
-use Rattle.std.specs.Prelude.{ℕ, ◌+◌, List, [], ◌∷◌, ◌++◌}
+use Rattle.std.specs.Prelude.{ℕ, ◌+◌, List, [], ◌∷◌, ◌++◌, map}
+use Rattle.std.specs.List.{range_with_len}
 use Rattle.dbtg_schema.specs.Lists.{Lists}
 use Rattle.dbtg_unit.specs.Database.Laws.Replay.{entries_of}
 use Rattle.dbtg_unit.specs.declared.statement.Statement.{Statement}
@@ -11,6 +12,10 @@ use Rattle.dbtg_program.specs.States.{ProgramState, beginning}
 use Rattle.dbtg_program.specs.Going.{Due, due, ended, next, told}
 use Rattle.dbtg_program.specs.Reading.{program}
 use Rattle.dbtg_going.specs.Spelled.{spelled}
+
+-- for each of this many units, the statements that it made
+abbrev pub statements_made : ℕ → List Entry → List (List Statement)
+statements_made units history = map (λ u. map (λ e. e.statement) (entries_of u history)) (range_with_len 1 units)
 
 -- what is said if a statement is due; nothing at an end
 abbrev pub where_due : Due → (ProgramState → Statement → List ℕ) → List ℕ

@@ -57,17 +57,25 @@ pub record PrintsRun (lists : Lists) (options : RunOptions) (texts : List (List 
   pub failed_is : printed.failed ≡ (never_ends options.around (length texts) given.programs || list_any (λ r. failed r.standing) given.programs)
   pub beside_is : printed.beside.items ≡ told_of_first lists options.capacity options.around texts given
 
--- 1 to 8 programs, nothing is refused, and what is printed is the text of the run of what the texts say
-pub record RunsHeld (holds : TextPlace → List ℕ → Type 0) (count : ℕ) (which : OrderKind) (options : RunOptions) (printed : Printed) : Type 0 where
+-- 1 to 8 programs with these texts, nothing is refused, and this is their run, by the turns that are given, or of each to its end
+pub record IsRunHeld (holds : TextPlace → List ℕ → Type 0) (count : ℕ) (which : OrderKind) (options : RunOptions) (lists : Lists)
+    (texts : List (List ℕ)) (given : ProgramRun) : Type 0 where
   pub counted : is_count count ≡ true
-  pub lists : Lists
   pub schema : ReadSchema holds lists
   pub programs : ReadPrograms holds lists count
+  pub texts_are : texts ≡ programs.texts
   pub turns : Option (List ℕ)
   pub turns_too : ReadsTurns holds which turns
+  pub is_run : IsRunOf lists options.capacity (map (program lists) texts)
+      (turns_of lists options.capacity (map (program lists) texts) options.around turns) given
+
+-- what is printed is the text of such a run
+pub record RunsHeld (holds : TextPlace → List ℕ → Type 0) (count : ℕ) (which : OrderKind) (options : RunOptions) (printed : Printed) : Type 0 where
+  pub lists : Lists
+  pub texts : List (List ℕ)
   pub given : ProgramRun
-  pub is_run : IsRunOf lists options.capacity (map (program lists) programs.texts) (turns_of lists options.capacity (map (program lists) programs.texts) options.around turns) given
-  pub is_printed : PrintsRun lists options programs.texts given (run_text lists options.form programs.texts given) printed
+  pub is_run : IsRunHeld holds count which options lists texts given
+  pub is_printed : PrintsRun lists options texts given (run_text lists options.form texts given) printed
 
 -- WHICH FAULT IS REPORTED
 

@@ -6,7 +6,7 @@ ghost use Rattle.dbtg_going.specs.Turns.{IsRunOf, turns_of};
 ghost use Rattle.dbtg_program.specs.Reading.{program};
 ghost use Rattle.dbtg_replay.specs.Replaying.{CanShow};
 ghost use Rattle.dbtg_running.specs.Reading.{ReadPrograms};
-ghost use Rattle.dbtg_running.specs.Running.{PrintsRun, ReadsTurns, RunsHeld, ToldOfRun, failed, run_text as said_text};
+ghost use Rattle.dbtg_running.specs.Running.{IsRunHeld, PrintsRun, ReadsTurns, RunsHeld, ToldOfRun, failed, run_text as said_text};
 ghost use Rattle.dbtg_schema.specs.Sound.{IsSound};
 ghost use Rattle.std.specs.List.{list_any};
 ghost use Rattle.std.specs.Prelude.{◌≡◌, ◌≤◌, [], IfErr, IfOk, length, map, true};
@@ -181,6 +181,25 @@ fn run_wanted(
     }
 }
 
+/// The run of the programs that were read, by the turns that the source gives, or of each to its end.
+pub fn run_of_read<S: Source>(
+    alloc: Global,
+    source: &S,
+    known: &Schema,
+    programs: &Programs,
+    options: RunOptions,
+) -> Result<ProgramRun, Fault>
+    requires counted { is_count (S.count source.now) ≡ true }
+    requires schema { ReadSchema (S.holds source.now) known.now }
+    requires sound { IsSound known.now }
+    requires programs { (read : ReadPrograms (S.holds source.now) known.now (S.count source.now)) × (programs.now.list.items ≡ map (program known.now) read.texts) × (programs.now.texts.items ≡ read.texts) }
+    ensures run { IfOk result (IsRunHeld (S.holds source.now) (S.count source.now) (S.order source.now) options known.now programs.now.texts.items) }
+    ensures refused { IfErr result (λ fault. ToldOfRun (S.holds source.now) (S.fails source.now) fault (S.count source.now) (S.order source.now)) }
+{
+    let turns = turns_wanted(alloc, source)?;
+    Ok(run_wanted(alloc, known, programs.list.as_slice(), &turns, options)?)
+}
+
 // What is printed of the programs that were read.
 fn run_read<S: Source>(
     alloc: Global,
@@ -196,8 +215,7 @@ fn run_read<S: Source>(
     ensures done { IfOk result (λ printed. RunsHeld (S.holds source.now) (S.count source.now) (S.order source.now) options printed) }
     ensures refused { IfErr result (λ fault. ToldOfRun (S.holds source.now) (S.fails source.now) fault (S.count source.now) (S.order source.now)) }
 {
-    let turns = turns_wanted(alloc, source)?;
-    let given = run_wanted(alloc, known, programs.list.as_slice(), &turns, options)?;
+    let given = run_of_read(alloc, source, known, programs, options)?;
     Ok(print_run(alloc, known, programs, options, &given)?)
 }
 

@@ -1,8 +1,8 @@
-//! The statements that units made, as the lines of their programs have them, with the values of their fields.
+//! The statements that units made; and as the lines of their programs have them, with the values of their fields.
 
 ghost use Rattle.dbtg_program.specs.Reading.{program};
 ghost use Rattle.dbtg_program.specs.States.{beginning};
-ghost use Rattle.dbtg_running.specs.Echoing.{lines_made, scripts_made};
+ghost use Rattle.dbtg_running.specs.Echoing.{lines_made, scripts_made, statements_made};
 ghost use Rattle.dbtg_script.specs.Lines.{lines};
 ghost use Rattle.dbtg_unit.specs.Database.Laws.Replay.{entries_of};
 ghost use Rattle.dbtg_unit.specs.declared.unit.Entry.{Entry as SaidEntry};
@@ -11,7 +11,7 @@ ghost use Rattle.std.specs.Prelude.{◌≡◌, ◌≤◌, ◌++◌, ◌∷◌, [
 use dbtg_going::{lines_of, push_spelled};
 use dbtg_program::{Due, Program, State, next};
 use dbtg_schema::{Row, Schema};
-use dbtg_unit::{Entry, LAST_UNIT};
+use dbtg_unit::{Entry, LAST_UNIT, Statement};
 use std::alloc::{AllocError, Global};
 
 /// A program with the lines of its text.
@@ -117,4 +117,33 @@ pub fn scripts_made(
         made.push(Row::of(script))?;
     }
     Ok(made)
+}
+
+// The statements that a unit made.
+fn statements_of(alloc: Global, unit: u8, history: &[Entry]) -> Result<Row<Statement>, AllocError>
+    ensures { IfOk result (λ made. made ≡ map (λ e. e.statement) (entries_of unit history.now)) }
+{
+    let mut made = Vec::new(alloc);
+    for entry in history {
+        if entry.unit == unit {
+            made.push(entry.statement.copy()?)?;
+        }
+    }
+    Ok(Row::of(made))
+}
+
+/// The statements that each of this many units made.
+pub fn statements_made(
+    alloc: Global,
+    units: u8,
+    history: &[Entry],
+) -> Result<Row<Row<Statement>>, AllocError>
+    requires { units ≤ LAST_UNIT }
+    ensures { IfOk result (λ made. made ≡ statements_made units history.now) }
+{
+    let mut made = Vec::new(alloc);
+    for before in 0..units {
+        made.push(statements_of(alloc, before + 1, history)?)?;
+    }
+    Ok(Row::of(made))
 }

@@ -12,7 +12,8 @@ mod scripts_on_threads;
 mod threads;
 
 pub use check::check_programs;
-pub use command::{Printed, RunOptions, run, turns_wanted};
+pub use command::{Printed, RunOptions, run, run_of_read, turns_wanted};
+pub use echo::{scripts_made, statements_made};
 pub use first::{never_ends, told_of_first};
 pub use laws::a_printed_run_is_read_back;
 pub use programs::{Programs, read_programs};
