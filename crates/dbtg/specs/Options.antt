@@ -40,12 +40,11 @@ abbrev pub wish_of : Wished → Wish
 wish_of wished = record { unit = if nat_le wished.unit LAST_UNIT then wished.unit else LAST_UNIT; line = wished.line; status = wished.status; never = wished.never }
 
 -- what `explore` is asked for
-abbrev pub exploring : Call → Exploring
-exploring call = record {
-  capacity = call.capacity;
-  around = around call;
-  brief = call.brief;
-  statuses = call.replies;
-  limit = call.limit;
-  wish = option_map wish_of call.wish;
-}
+pub record IsAsked (names : List (List ℕ)) (call : Call) (asked : Exploring) : Type 0 where
+  pub capacity_is : asked.capacity ≡ call.capacity
+  pub around_is : asked.around ≡ around call
+  pub brief_is : asked.brief ≡ call.brief
+  pub statuses_is : asked.statuses ≡ call.replies
+  pub limit_is : asked.limit ≡ call.limit
+  pub wish_is : asked.wish ≡ option_map wish_of call.wish
+  pub names_are : asked.names.now ≡ names

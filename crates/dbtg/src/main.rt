@@ -194,8 +194,10 @@ fn of_wish(alloc: Global, call: &Call, codes: &[u8]) -> Result<Ended, Fault> {
 }
 
 fn explored(rt: &HostRuntime, files: &Files<HostRuntime>, call: &Call) -> Result<Ended, Fault> {
+    let names = names_of_files(rt.alloc(), call.schema, call.scripts.as_slice())?;
+    let asked = exploring(call, &names.as_slice()[1..]);
     let progress = Progress::begin(rt);
-    let said = explore_programs(rt.alloc(), &progress, files, exploring(call));
+    let said = explore_programs(rt.alloc(), &progress, files, asked);
     progress.end();
     match said? {
         Said::Listed(printed) => Ok(Ended::of_programs(printed)),

@@ -1,7 +1,7 @@
 //! What each command is handed of a call.
 
 ghost use Rattle.std.specs.Prelude.{◌≡◌, ◌&&◌, not};
-ghost use Rattle.dbtg.specs.Options.{IsPictureForm, answer_form, around, explains_refusals, exploring, wish_of};
+ghost use Rattle.dbtg.specs.Options.{IsAsked, IsPictureForm, answer_form, around, explains_refusals, wish_of};
 
 use crate::timeline::Form;
 use dbtg_command::{Call, Named, Wished};
@@ -88,9 +88,9 @@ fn wish_of(wished: Wished) -> Wish
     }
 }
 
-/// What `explore` is asked for.
-pub fn exploring(call: &Call) -> Exploring
-    ensures { result ≡ exploring call.now }
+/// What `explore` is asked for. The files of its programs have these names.
+pub fn exploring<'a>(call: &Call, names: &'a [Row<u8>]) -> Exploring<'a>
+    ensures { IsAsked names.now call.now result }
 {
     let wish = match call.wish {
         Some(wished) => Some(wish_of(wished)),
@@ -103,5 +103,6 @@ pub fn exploring(call: &Call) -> Exploring
         statuses: call.replies,
         limit: call.limit,
         wish,
+        names,
     }
 }

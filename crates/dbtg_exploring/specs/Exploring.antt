@@ -52,8 +52,8 @@ IsRunBefore schema programs told asked before = IsRunOf schema asked.capacity pr
 
 -- the text lists what the statements of the programs are answered, or the results
 abbrev pub IsTextOf : Bool → Lists → List Program → List (List ℕ) → List ℕ → Exploring → Explored → List ℕ → Type 0
-IsTextOf true schema programs texts told asked all out = out ≡ listing_text asked.around programs texts told all
-IsTextOf false schema programs texts told asked all out = AreTold schema programs told asked all out
+IsTextOf true schema programs texts told asked all out = out ≡ listing_text schema programs texts told asked all
+IsTextOf false schema programs texts told asked all out = AreTold schema programs texts told asked all out
 
 -- the text lists what the programs of a meeting can come to, in no more states than the limit; the flag says whether a program fails, or the
 -- programs can go on for ever

@@ -1,3 +1,5 @@
+pub mod Turning
+pub mod Failing
 pub mod Texts
 pub mod Wishes
 pub mod Statuses

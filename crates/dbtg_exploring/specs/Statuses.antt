@@ -1,10 +1,8 @@
 -- What `explore --statuses` prints: the statements of programs, each with the statuses that it gets.
 -- program is a program, text its text, u its unit, n the number of a line, rs are the replies that come.
-use Rattle.std.specs.Prelude.{ℕ, ◌==◌, ◌+◌, ◌-◌, ◌&&◌, Bool, true, false, List, [], ◌∷◌, ◌++◌, codes, decimal, drop, flat_map, length, option_map, replicate, slice_get, unwrap_or, if◌then◌else◌}
-use Rattle.std.specs.Char.{is_ascii_whitespace}
-use Rattle.std.specs.List.{list_any, prefix_len}
-use Rattle.dbtg_explain.specs.FaultyWord.{line_at}
-use Rattle.dbtg_script.specs.Lines.{trimmed}
+use Rattle.std.specs.Prelude.{ℕ, ◌==◌, ◌+◌, ◌-◌, ◌&&◌, Bool, true, false, List, [], ◌∷◌, ◌++◌, codes, decimal, flat_map, length, option_map, replicate, slice_get, unwrap_or, if◌then◌else◌}
+use Rattle.std.specs.List.{list_any}
+use Rattle.dbtg_schema.specs.Lists.{Lists}
 use Rattle.dbtg_script.specs.Printing.Texts.{four_digits}
 use Rattle.dbtg_program.specs.declared.program.Line.{Line}
 use Rattle.dbtg_program.specs.declared.program.Program.{Program}
@@ -12,16 +10,10 @@ use Rattle.dbtg_going.specs.declared.around.Around.{Around}
 use Rattle.dbtg_explore.specs.declared.explored.Explored.{Explored}
 use Rattle.dbtg_explore.specs.declared.replies.Reply.{Reply}
 use Rattle.dbtg_explore.specs.Wishes.{is_statement}
-use Rattle.dbtg_exploring.specs.Texts.{endless_text, failure_text}
+use Rattle.dbtg_exploring.specs.declared.setting.Exploring.{Exploring}
+use Rattle.dbtg_exploring.specs.Failing.{failure_text, written}
+use Rattle.dbtg_exploring.specs.Texts.{endless_text}
 use Rattle.dbtg_exploring.specs.Wishes.{is_met}
-
--- a line without the spaces before its words
-abbrev pub unindented : List ℕ → List ℕ
-unindented line = drop (prefix_len is_ascii_whitespace line) line
-
--- a statement as it is written
-abbrev pub written : List ℕ → ℕ → List ℕ
-written text n = unindented (trimmed (line_at n text))
 
 -- the reply is to the statement in this line of the unit's program
 abbrev pub is_to : ℕ → ℕ → Reply → Bool
@@ -60,7 +52,7 @@ programs_rows around units rs u (p ∷ ps) [] = []
 programs_rows around units rs u (p ∷ ps) (text ∷ texts) = program_rows around units rs u p text ++ programs_rows around units rs (u + 1) ps texts
 
 -- how many states there are, a way round, the failures, and the programs
-abbrev pub listing_text : Around → List Program → List (List ℕ) → List ℕ → Explored → List ℕ
-listing_text around programs texts told all =
-    codes "states " ++ decimal all.states ++ 10 ∷ endless_text told all.endless ++ flat_map (failure_text told) all.failures
-    ++ programs_rows around (length programs) all.replies 1 programs texts
+abbrev pub listing_text : Lists → List Program → List (List ℕ) → List ℕ → Exploring → Explored → List ℕ
+listing_text schema programs texts told asked all =
+    codes "states " ++ decimal all.states ++ 10 ∷ endless_text told all.endless ++ flat_map (failure_text schema programs texts told asked) all.failures
+    ++ programs_rows asked.around (length programs) all.replies 1 programs texts

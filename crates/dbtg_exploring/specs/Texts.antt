@@ -2,36 +2,27 @@
 -- the first turns to each, and then, result by result, turns that lead to it, and what `run` prints with them.
 -- told are the turns that are given, as `--turns` has them; asked is what an exploration is asked for; k is the number of a result, order
 -- the one that leads to it; before are the earlier results, if results are shown in brief.
-use Rattle.std.specs.Prelude.{ℕ, ◌≡◌, ◌+◌, false, List, [], ◌∷◌, ◌++◌, Option, Some, None, codes, decimal, flat_map, length, map, option_map, take}
+use Rattle.std.specs.Prelude.{ℕ, ◌≡◌, ◌+◌, false, List, [], ◌∷◌, ◌++◌, Option, Some, None, codes, decimal, flat_map, length, map, option_map}
 use Rattle.std.specs.List.{range_with_len}
 use Rattle.dbtg_schema.specs.Lists.{Lists}
 use Rattle.dbtg_script.specs.Printing.Texts.{run_text}
-use Rattle.dbtg_script.specs.Printing.WordTexts.{turns_text}
 use Rattle.dbtg_states.specs.declared.brief.Told.{Told}
 use Rattle.dbtg_states.specs.Brief.{none_before, shown_behind}
 use Rattle.dbtg_states.specs.Named.{named}
 use Rattle.dbtg_states.specs.Users.{by_unit}
 use Rattle.dbtg_program.specs.declared.program.Program.{Program}
 use Rattle.dbtg_going.specs.declared.going.ProgramRun.{ProgramRun}
-use Rattle.dbtg_going.specs.Texts.{end_text, given_text, programs_text}
+use Rattle.dbtg_going.specs.Texts.{given_text, programs_text}
 use Rattle.dbtg_going.specs.Turns.{IsRunOf, turns_of}
 use Rattle.dbtg_explore.specs.declared.explored.Endless.{Endless}
 use Rattle.dbtg_explore.specs.declared.explored.Explored.{Explored}
-use Rattle.dbtg_explore.specs.declared.explored.FirstFailure.{FirstFailure}
 use Rattle.dbtg_exploring.specs.declared.setting.Exploring.{Exploring}
-
--- after a space the words of a line, without its line feed; nothing if there is no line
-abbrev pub spaced : List ℕ → List ℕ
-spaced [] = []
-spaced (c ∷ line) = 32 ∷ take (length line) (c ∷ line)
+use Rattle.dbtg_exploring.specs.Failing.{failure_text}
+use Rattle.dbtg_exploring.specs.Turning.{with_turns}
 
 -- the first line
 abbrev pub count_text : Explored → List ℕ
 count_text all = codes "states " ++ decimal all.states ++ codes ", results " ++ decimal (length all.results) ++ 10 ∷ []
-
--- a word, followed by turns
-unfoldable pub with_turns : List ℕ → List ℕ → List ℕ
-with_turns word turns = word ++ spaced (turns_text turns)
 
 -- turns that lead to a way round, and turns that go round it once
 abbrev pub way_text : List ℕ → List ℕ → List ℕ
@@ -41,11 +32,6 @@ way_text turns round = with_turns (codes "endless turns") turns ++ with_turns (c
 abbrev pub endless_text : List ℕ → Option Endless → List ℕ
 endless_text told None = []
 endless_text told (Some e) = way_text (told ++ e.turns) e.round
-
--- a unit whose program fails, how it ends, and the first turns that lead there
-abbrev pub failure_text : List ℕ → FirstFailure → List ℕ
-failure_text told f =
-    codes "fails " ++ decimal f.failure.unit ++ 32 ∷ end_text f.failure.how ++ with_turns (codes "\nturns") (told ++ f.turns) ++ 10 ∷ []
 
 -- the number of a result, and its turns
 abbrev pub result_head : ℕ → List ℕ → List ℕ
@@ -87,8 +73,8 @@ AreResultTexts schema programs told asked before after k (order ∷ orders) out 
     × AreResultTexts schema programs told asked (and_told schema programs before is.given) after (k + 1) orders back
 
 -- all that is printed of what programs come to
-pub record AreTold (schema : Lists) (programs : List Program) (told : List ℕ) (asked : Exploring) (all : Explored) (out : List ℕ) : Type 0 where
-  pub texts : List ℕ
+pub record AreTold (schema : Lists) (programs : List Program) (texts : List (List ℕ)) (told : List ℕ) (asked : Exploring) (all : Explored) (out : List ℕ) : Type 0 where
+  pub results : List ℕ
   pub after : Option (List Told)
-  pub are_texts : AreResultTexts schema programs told asked (none_before asked.brief) after 1 all.results texts
-  pub is_text : out ≡ count_text all ++ endless_text told all.endless ++ flat_map (failure_text told) all.failures ++ texts
+  pub are_texts : AreResultTexts schema programs told asked (none_before asked.brief) after 1 all.results results
+  pub is_text : out ≡ count_text all ++ endless_text told all.endless ++ flat_map (failure_text schema programs texts told asked) all.failures ++ results

@@ -12,7 +12,7 @@ use Rattle.dbtg_running.specs.declared.command.Printed.{Printed}
 use Rattle.dbtg_explore.specs.declared.wishes.Wish.{Wish}
 use Rattle.dbtg_explore.specs.Orders.{Meeting}
 use Rattle.dbtg_explore.specs.Wishes.{IsJudged, is_there}
-use Rattle.dbtg_exploring.specs.Texts.{with_turns}
+use Rattle.dbtg_exploring.specs.Turning.{with_turns}
 
 -- THE STATEMENT
 

@@ -4,10 +4,12 @@
 
 mod begun;
 mod command;
+mod failing;
 mod laws;
 mod setting;
 mod statuses;
 mod text;
+mod turning;
 mod wishes;
 
 pub use command::{Said, explore_programs};

@@ -1,34 +1,21 @@
 //! The text of the statements of programs, each with the statuses that it gets.
 
-ghost use Rattle.dbtg_exploring.specs.Statuses.{is_to, listing_text, program_rows, programs_rows, right_number, row_text, status_text, statuses_text, unindented, width_of, written};
+ghost use Rattle.dbtg_exploring.specs.Statuses.{is_to, listing_text, program_rows, programs_rows, right_number, row_text, status_text, statuses_text, width_of};
+ghost use Rattle.dbtg_schema.specs.Sound.{IsSound};
 ghost use Rattle.std.specs.List.{list_any};
 ghost use Rattle.std.specs.Prelude.{◌≡◌, ◌≤◌, ◌++◌, IfOk, OnOk, decimal, flat_map, length, replicate};
 
+use crate::failing::written;
 use crate::setting::Setting;
-use crate::text::{push_each_failure, push_endless};
+use crate::text::push_endless;
 use crate::wishes::is_met;
-use dbtg_explain::line_at;
 use dbtg_explore::{Explored, Reply, is_statement};
 use dbtg_going::Around;
 use dbtg_program::{Line, Program};
 use dbtg_schema::Row;
-use dbtg_script::{push_number, push_status, trimmed};
+use dbtg_script::{push_number, push_status};
 use dbtg_unit::LAST_UNIT;
 use std::alloc::{AllocError, Global};
-
-// A line without the spaces before its words.
-fn unindented(line: &[u8]) -> &[u8]
-    ensures { result.now ≡ unindented line.now }
-{
-    line.trim_ascii_start()
-}
-
-// A statement as it is written.
-fn written(text: &[u8], number: u64) -> &[u8]
-    ensures { result.now ≡ written text.now number }
-{
-    unindented(trimmed(line_at(text, number)))
-}
 
 // Is the reply to the statement in this line of the unit's program?
 fn is_to(unit: u8, line: u64, reply: Reply) -> bool
@@ -220,15 +207,16 @@ impl<'a> Setting<'a> {
 
     /// The text of what the statements of the programs are answered.
     pub fn listing_text(&self, alloc: Global, all: &Explored) -> Result<Vec<u8>, AllocError>
-        requires { length self.now.programs.now ≤ LAST_UNIT }
-        ensures { IfOk result (λ out. out.items ≡ listing_text self.now.asked.around self.now.programs.now self.now.texts.now self.now.told.now all.now) }
+        requires sound { IsSound self.now.schema.now }
+        requires few { length self.now.programs.now ≤ LAST_UNIT }
+        ensures { IfOk result (λ out. out.items ≡ listing_text self.now.schema.now self.now.programs.now self.now.texts.now self.now.told.now self.now.asked all.now) }
     {
         let mut out = Vec::new(alloc);
         out.extend_from_slice(b"states ")?;
         push_number(&mut out, all.states)?;
         out.push(b'\n')?;
         push_endless(alloc, &mut out, self.told, &all.endless)?;
-        push_each_failure(alloc, &mut out, self.told, all.failures.as_slice())?;
+        self.push_each_failure(alloc, &mut out, all.failures.as_slice())?;
         self.push_programs(alloc, &mut out, all.replies.as_slice())?;
         Ok(out)
     }

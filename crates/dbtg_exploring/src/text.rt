@@ -1,57 +1,24 @@
 //! The text of everything that programs can come to.
 
 ghost use Rattle.dbtg_exploring.specs.Inside.Shown.{IsShown};
-ghost use Rattle.dbtg_exploring.specs.Texts.{AreResultTexts, AreTold, and_told, count_text, endless_text, failure_text, result_head, shown_text, spaced, told_of, way_text, with_turns};
+ghost use Rattle.dbtg_exploring.specs.Texts.{AreResultTexts, AreTold, and_told, count_text, endless_text, result_head, shown_text, told_of, way_text};
 ghost use Rattle.dbtg_going.specs.Texts.{programs_text};
 ghost use Rattle.dbtg_going.specs.declared.going.ProgramRun.{ProgramRun};
 ghost use Rattle.dbtg_going.specs.Turns.{IsRunOf, turns_of};
 ghost use Rattle.dbtg_states.specs.declared.brief.Told.{Told as GivenTold};
 ghost use Rattle.dbtg_states.specs.Brief.{none_before};
 ghost use Rattle.dbtg_schema.specs.Sound.{IsSound};
-ghost use Rattle.std.specs.Prelude.{◌≡◌, ◌≤◌, ◌++◌, List, IfOk, OnOk, Option, Some, flat_map, length};
+ghost use Rattle.std.specs.Prelude.{◌≡◌, ◌≤◌, ◌++◌, List, IfOk, OnOk, Option, Some, length};
 
 use crate::setting::Setting;
-use dbtg_explore::{Endless, Explored, FirstFailure, told_text};
-use dbtg_going::{ProgramRun, Reached, push_each_program, push_end, run_programs, run_text};
+use crate::turning::{joined, push_with_turns};
+use dbtg_explore::{Endless, Explored, told_text};
+use dbtg_going::{ProgramRun, Reached, push_each_program, run_text};
 use dbtg_schema::Row;
-use dbtg_script::{push_number, turns_text};
+use dbtg_script::push_number;
 use dbtg_states::{Told, as_numbers, named, none_before, push_shown};
 use dbtg_unit::LAST_UNIT;
 use std::alloc::{AllocError, Global};
-
-// The words of a line after a space, without the end of the line.
-fn push_spaced(out: &mut Vec<u8>, line: &[u8]) -> Result<(), AllocError>
-    ensures { OnOk result (out.new.items ≡ out.old.items ++ spaced line.now) }
-{
-    if line.is_empty() {
-        return Ok(());
-    }
-    out.push(b' ')?;
-    out.extend_from_slice(&line[..line.len() - 1])
-}
-
-/// Turns, followed by others.
-pub fn joined(alloc: Global, turns: &[u8], others: &[u8]) -> Result<Vec<u8>, AllocError>
-    ensures { IfOk result (λ all. all.items ≡ turns.now ++ others.now) }
-{
-    let mut all = Vec::from_slice(alloc, turns)?;
-    all.extend_from_slice(others)?;
-    Ok(all)
-}
-
-/// A word, followed by turns.
-#[tactic(auto, unfolding(crate::specs::Texts::with_turns))]
-pub fn push_with_turns(
-    alloc: Global,
-    out: &mut Vec<u8>,
-    word: &[u8],
-    turns: &[u8],
-) -> Result<(), AllocError>
-    ensures { OnOk result (out.new.items ≡ out.old.items ++ with_turns word.now turns.now) }
-{
-    out.extend_from_slice(word)?;
-    push_spaced(out, turns_text(alloc, turns)?.as_slice())
-}
 
 // How many states and results there are.
 fn push_counts(out: &mut Vec<u8>, all: &Explored) -> Result<(), AllocError>
@@ -91,40 +58,6 @@ pub fn push_endless(
         }
         None => Ok(()),
     }
-}
-
-// A unit whose program fails, and the turns that lead there.
-fn push_failure(
-    alloc: Global,
-    out: &mut Vec<u8>,
-    told: &[u8],
-    first: &FirstFailure,
-) -> Result<(), AllocError>
-    ensures { OnOk result (out.new.items ≡ out.old.items ++ failure_text told.now first.now) }
-{
-    out.extend_from_slice(b"fails ")?;
-    push_number(out, first.failure.unit as u64)?;
-    out.push(b' ')?;
-    push_end(out, first.failure.how)?;
-    let turns = joined(alloc, told, first.turns.as_slice())?;
-    push_with_turns(alloc, out, b"\nturns", turns.as_slice())?;
-    out.push(b'\n')?;
-    Ok(())
-}
-
-/// All units whose programs fail.
-pub fn push_each_failure(
-    alloc: Global,
-    out: &mut Vec<u8>,
-    told: &[u8],
-    failures: &[FirstFailure],
-) -> Result<(), AllocError>
-    ensures { OnOk result (out.new.items ≡ out.old.items ++ flat_map (failure_text told.now) failures.now) }
-{
-    for first in failures {
-        push_failure(alloc, out, told, first)?;
-    }
-    Ok(())
 }
 
 // The number of a result, and its turns.
@@ -201,14 +134,7 @@ impl<'a> Setting<'a> {
         requires few { length self.now.programs.now ≤ LAST_UNIT }
         ensures { OnOk result ((given : ProgramRun) × IsRunOf self.now.schema.now self.now.asked.capacity self.now.programs.now (turns_of self.now.schema.now self.now.asked.capacity self.now.programs.now self.now.asked.around (Some turns.now)) given × (out.new.items ≡ out.old.items ++ shown_text self.now.schema.now self.now.programs.now before.old given) × (before.new ≡ and_told self.now.schema.now self.now.programs.now before.old given)) }
     {
-        let mut given = run_programs(
-            alloc,
-            self.schema,
-            self.asked.capacity,
-            self.programs,
-            self.asked.around,
-            Some(turns),
-        )?;
+        let mut given = self.run_by(alloc, turns)?;
         self.push_given(alloc, out, before, &mut given)
     }
 
@@ -250,13 +176,13 @@ impl<'a> Setting<'a> {
     pub fn exploration_text(&self, alloc: Global, all: &Explored) -> Result<Vec<u8>, AllocError>
         requires sound { IsSound self.now.schema.now }
         requires few { length self.now.programs.now ≤ LAST_UNIT }
-        ensures { IfOk result (λ out. AreTold self.now.schema.now self.now.programs.now self.now.told.now self.now.asked all.now out.items) }
+        ensures { IfOk result (λ out. AreTold self.now.schema.now self.now.programs.now self.now.texts.now self.now.told.now self.now.asked all.now out.items) }
     {
         let results = self.results_text(alloc, all.results.as_slice())?;
         let mut out = Vec::new(alloc);
         push_counts(&mut out, all)?;
         push_endless(alloc, &mut out, self.told, &all.endless)?;
-        push_each_failure(alloc, &mut out, self.told, all.failures.as_slice())?;
+        self.push_each_failure(alloc, &mut out, all.failures.as_slice())?;
         out.extend_from_slice(results.as_slice())?;
         Ok(out)
     }

@@ -7,7 +7,7 @@ ghost use Rattle.dbtg_script.specs.Tokens.{tokens};
 ghost use Rattle.dbtg_step.specs.Machine.SequentialDatabase.{unit_at};
 ghost use Rattle.std.specs.Prelude.{◌≡◌, ◌≤◌, ◌++◌, IfOk, OnOk, false, length, option_map};
 
-use crate::text::{joined, push_with_turns};
+use crate::turning::{joined, push_with_turns};
 use dbtg_explain::line_at;
 use dbtg_explore::{Meeting, Wish, is_there};
 use dbtg_going::Around;
@@ -35,8 +35,8 @@ fn first_plain(line: &[u8]) -> &[u8]
     }
 }
 
-// The text of the unit's program, if there is one.
-fn text_of<'a>(texts: &'a [Row<u8>], unit: u8) -> Option<&'a [u8]>
+/// The text of the unit's program, if there is one.
+pub fn text_of<'a>(texts: &'a [Row<u8>], unit: u8) -> Option<&'a [u8]>
     ensures { option_map (λ text. text.now) result ≡ unit_at texts.now unit }
 {
     if unit == 0 {

@@ -31,7 +31,7 @@ pub use grammar::{FormPlace, Keyword, Kind, Role};
 pub use laws::{a_script_is_made_in_order, fields_hold_their_values, only_a_value_does_not_fit};
 pub use program::{Condition, End, Line, Operand, Program, Relation, Sentence, Word};
 pub use reader::read_program;
-pub use spelling::push_said_words;
+pub use spelling::{push_said_words, push_sentence};
 pub use state::State;
 pub use told::{
     counters_in_program, paragraphs_in_program, statement_in_program, wanted_in_program,
