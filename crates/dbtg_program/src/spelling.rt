@@ -1,6 +1,7 @@
 //! How a statement with fields is spelled in a state, and a sentence with the values of its fields.
 
 ghost use Rattle.dbtg_program.specs.Going.{literal_of, said_word};
+ghost use Rattle.dbtg_program.specs.Inside.Views.{view};
 ghost use Rattle.dbtg_program.specs.Spelling.{compared_text, condition_text, relation_text, sentence_text, value_text, word_text, words_text};
 ghost use Rattle.dbtg_program.specs.Conditions.{field_value, value_of};
 ghost use Rattle.std.specs.Prelude.{◌≡◌, ◌++◌, ◌∷◌, [], OnOk, map};
@@ -21,7 +22,7 @@ fn push_literal(out: &mut Vec<u8>, text: &[u8]) -> Result<(), AllocError>
 }
 
 fn push_value(out: &mut Vec<u8>, value: Borrowed<'_>) -> Result<(), AllocError>
-    ensures { OnOk result (out.new.items ≡ out.old.items ++ word_text (literal_of (view value))) }
+    ensures { OnOk result (out.new.items ≡ out.old.items ++ word_text (literal_of (view value.entry))) }
 {
     match value {
         Borrowed::Number(n) => push_number(out, n),
