@@ -21,14 +21,13 @@ use Rattle.dbtg_program.specs.declared.fault.ProgramCause.{ProgramCause}
 use Rattle.dbtg_program.specs.declared.fault.ProgramCause.TheVariants.{AsInScript, UnknownParagraph, ParagraphTwice, UnknownField, CounterName, TwoKinds, CounterBehind, TooManyCounters}
 use Rattle.dbtg_program.specs.declared.fault.Fault.{Fault}
 use Rattle.dbtg_program.specs.declared.grammar.Keyword.{Keyword}
-use Rattle.dbtg_program.specs.declared.grammar.Keyword.TheVariants as keyword
 use Rattle.dbtg_program.specs.declared.grammar.FormPlace.{FormPlace}
 use Rattle.dbtg_program.specs.declared.grammar.Role.{Role}
 use Rattle.dbtg_program.specs.declared.grammar.Role.TheVariants as role
 use Rattle.dbtg_program.specs.Values.{can_hold, stripped}
 use Rattle.dbtg_program.specs.States.{beginning_with}
 use Rattle.dbtg_program.specs.Going.{said_word}
-use Rattle.dbtg_program.specs.Sentences.{Holding, Text, counters_of, cut, field_named, fields_in, is_own_name, is_word, marked, paragraph_at, picture_in, plain_text, sentences_of, text_in, verb_of, word_at, words_in}
+use Rattle.dbtg_program.specs.Sentences.{Holding, Text, counters_of, cut, field_named, fields_in, is_own_name, marked, paragraph_at, picture_in, plain_text, sentences_of, text_in, verb_of, word_at, words_in}
 use Rattle.dbtg_program.specs.Grammar.{fits, form, is_literal}
 use Rattle.dbtg_unit.specs.declared.limits.TheConstants.{MOST_STATEMENTS}
 

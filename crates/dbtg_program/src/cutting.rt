@@ -97,36 +97,26 @@ fn with_equals(sign: Token, next: Token) -> Option<Token<'static>>
     }
 }
 
-/// The first of these words, joined with the second if it is a sign and that is =; and the words behind it.
-fn first_joined<'a, 'b>(
-    first: Token<'a>,
-    rest: &'b [Token<'a>],
-) -> (Token<'a>, &'b [Token<'a>])
-    ensures { view result.0 ∷ joined (map view result.1.now) ≡ joined (view first.entry ∷ map view rest.now) }
+/// Adds words, each sign joined with = behind it.
+fn push_joined<'a>(all: &mut Vec<Token<'a>>, words: &[Token<'a>]) -> Result<(), AllocError>
+    ensures { OnOk result (map view all.new.items ≡ map view all.old.items ++ joined (map view words.now)) }
 {
-    match rest.split_first() {
-        Some((next, further)) => {
-            match with_equals(first, *next) {
-                Some(sign) => (sign, further),
-                None => (first, rest),
-            }
+    let Some((first, rest)) = words.split_first() else {
+        return Ok(());
+    };
+    let Some((next, further)) = rest.split_first() else {
+        return Ok(all.push(*first)?);
+    };
+    match with_equals(*first, *next) {
+        Some(sign) => {
+            all.push(sign)?;
+            push_joined(all, further)
         }
-        None => (first, rest),
+        None => {
+            all.push(*first)?;
+            push_joined(all, rest)
+        }
     }
-}
-
-/// Words, each sign joined with = behind it.
-fn joined<'a>(alloc: Global, words: &[Token<'a>]) -> Result<Vec<Token<'a>>, AllocError>
-    ensures { IfOk result (λ v. map view v.items ≡ joined (map view words.now)) }
-{
-    let mut all = Vec::new(alloc);
-    let mut left = words;
-    while let Some((first, rest)) = left.split_first() {
-        let (word, further) = first_joined(*first, rest);
-        all.push(word)?;
-        left = further;
-    }
-    Ok(all)
 }
 
 /// In IF and ASSERT signs are words of their own.
@@ -136,7 +126,9 @@ fn set_signs_apart<'a>(alloc: Global, words: &mut Vec<Token<'a>>) -> Result<(), 
     let list = words.as_slice();
     if begins(list, Keyword::If) || begins(list, Keyword::Assert) {
         let apart = all_apart(alloc, list)?;
-        *words = joined(alloc, apart.as_slice())?;
+        let mut all = Vec::new(alloc);
+        push_joined(&mut all, apart.as_slice())?;
+        *words = all;
     }
     Ok(())
 }
