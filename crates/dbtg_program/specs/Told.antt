@@ -6,7 +6,6 @@ use Rattle.dbtg_schema.specs.Lookups.{first, some_and}
 use Rattle.dbtg_script.specs.declared.limits.TheConstants.{SCRIPT_BYTES}
 use Rattle.dbtg_script.specs.Tokens.{Token}
 use Rattle.dbtg_program.specs.declared.grammar.Keyword.{Keyword}
-use Rattle.dbtg_program.specs.declared.grammar.Keyword.TheVariants as keyword
 use Rattle.dbtg_program.specs.declared.grammar.Kind.{Kind}
 use Rattle.dbtg_program.specs.declared.grammar.Kind.TheVariants as kind
 use Rattle.dbtg_program.specs.declared.grammar.Role.{Role}
@@ -14,7 +13,7 @@ use Rattle.dbtg_program.specs.declared.grammar.Role.TheVariants as role
 use Rattle.dbtg_program.specs.declared.grammar.FormPlace.{FormPlace}
 use Rattle.dbtg_program.specs.Faults.{said, unknown_word, words_at_first}
 use Rattle.dbtg_program.specs.Grammar.{fits, form}
-use Rattle.dbtg_program.specs.Sentences.{Holding, Text, counters_of, is_word, marked, sentences_of, spelling, verb_of, word_at}
+use Rattle.dbtg_program.specs.Sentences.{Holding, Text, counters_of, marked, sentences_of, spelling, verb_of}
 use Rattle.dbtg_program.specs.Spelling.{words_text}
 
 -- WHERE A SENTENCE STOPS
