@@ -36,7 +36,8 @@ class Program:
             return
         words = re.findall(r'"[^"]*"|=|[^ ="]+', said)
         if words[0] in ("IF", "ASSERT"):
-            words = re.findall(r'"[^"]*"|[=<>]|[^ ="<>]+', said)
+            words = re.findall(r'"[^"]*"|[<>] *=|[=<>]|[^ ="<>]+', said)
+            words = [word.replace(" ", "") if word[0] in "<>" else word for word in words]
         if line.endswith(".") and len(words) == 1 and is_name(words[0]) and words[0] not in SENTENCES:
             self.paragraphs[words[0]] = len(self.sentences)
         if words[0] == "01":
@@ -77,7 +78,7 @@ class Host:
         a, b = self.value(left), self.value(right)
         if isinstance(a, str):
             a, b = a.ljust(64), b.ljust(64)
-        return {"=": a == b, "<": a < b, ">": a > b}[relation] == is_asked
+        return {"=": a == b, "<": a < b, ">": a > b, "<=": a <= b, ">=": a >= b}[relation] == is_asked
 
     def sentence(self, words):
         """Makes a sentence that is no statement, and gives the place of the next; or how the program ends."""
@@ -89,6 +90,8 @@ class Host:
             self.put(words[3], self.values[words[3]] + (more if words[0] == "ADD" else -more))
         elif words[0] == "GO":
             return self.program.paragraphs[words[2]]
+        elif words[0] == "IF" and "STOP" in words:
+            return len(self.program.sentences) if self.holds(words[1 : words.index("STOP")]) else after
         elif words[0] == "IF" and self.holds(words[1:-3]):
             return self.program.paragraphs[words[-1]]
         elif words[0] == "ASSERT" and not self.holds(words[1:]):

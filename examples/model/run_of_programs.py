@@ -14,9 +14,11 @@ class Ended(Exception):
 
 
 def words_of(line):
-    """The words of a sentence; in IF and ASSERT < and > are words by themselves."""
-    apart = "<>" if line.split()[0] in ("IF", "ASSERT") else ""
-    return re.findall(rf'"[^"]*"|[={apart}]|[^ ="{apart}]+', line)
+    """The words of a sentence; in IF and ASSERT < and >, with = behind them or without, are words by themselves."""
+    if line.split()[0] not in ("IF", "ASSERT"):
+        return re.findall(r'"[^"]*"|=|[^ ="]+', line)
+    words = re.findall(r'"[^"]*"|[<>] *=|[=<>]|[^ ="<>]+', line)
+    return [word.replace(" ", "") if word[0] in "<>" else word for word in words]
 
 
 def empty(picture):
@@ -85,7 +87,8 @@ class Program:
         if isinstance(left, str):
             size = max(len(left), len(right))
             left, right = left.ljust(size), right.ljust(size)
-        return {"=": left == right, "<": left < right, ">": left > right}[relation] != negated
+        outcomes = {"=": left == right, "<": left < right, ">": left > right, "<=": left <= right, ">=": left >= right}
+        return outcomes[relation] != negated
 
     def put(self, line, field, value):
         if not has_room(self.pictures[field], value) or isinstance(value, int) and value >= 10**18:
@@ -104,7 +107,7 @@ class Program:
         elif verb == "GO":
             return self.paragraphs[words[2]]
         elif verb == "IF" and self.holds(words[1:]):
-            return self.paragraphs[words[-1]]
+            return len(self.sentences) if "STOP" in words else self.paragraphs[words[-1]]
         elif verb == "ASSERT" and not self.holds(words[1:]):
             raise Ended(f"ASSERT line {line}")
         elif verb == "STOP":

@@ -35,14 +35,15 @@ DISPLAY|; there is none here: each answer is printed
 GOTO|; here GO TO, in two words
 ELSE|; there is none here: a line with IF and GO TO for each case
 END-IF|; there is none here: IF ends with its line
-THEN|; leave it out: GO TO follows the condition
-OR|; there is none here: a line with IF and GO TO for each condition
+THEN|; leave it out: GO TO or STOP follows the condition
+OR|; there is none here: a line with IF for each condition
 AND|; there is none here: a line with IF NOT and GO TO for each condition, past what is for both
 EQUAL|; here =
 EQUALS|; here =
 GREATER|; here >
 LESS|; here <
-<>|; here NOT =
+<|; write NOT = for <>, and <= for =<
+>|; write NOT = for <>, and >= for =>
 EXIT|; leave it out: a paragraph is its name alone
 CONTINUE|; leave it out
 SECTION|; there is none here: a paragraph is its name alone

@@ -7,7 +7,7 @@ use Rattle.dbtg_script.specs.Values.{filled}
 use Rattle.dbtg_program.specs.declared.program.Operand.{Operand}
 use Rattle.dbtg_program.specs.declared.program.Operand.TheVariants.{Literal, Field}
 use Rattle.dbtg_program.specs.declared.program.Relation.{Relation}
-use Rattle.dbtg_program.specs.declared.program.Relation.TheVariants.{Less, Equal, Greater}
+use Rattle.dbtg_program.specs.declared.program.Relation.TheVariants.{Less, Equal, Greater, AtMost, AtLeast}
 use Rattle.dbtg_program.specs.declared.program.Condition.{Condition}
 use Rattle.dbtg_program.specs.declared.program.Condition.TheVariants.{Compare, Status}
 use Rattle.dbtg_program.specs.States.{ProgramState}
@@ -26,6 +26,8 @@ abbrev pub stand_so : Relation → Value → Value → Bool
 stand_so Less v w = is_less v w
 stand_so Equal v w = not (is_less v w) && not (is_less w v)
 stand_so Greater v w = is_less w v
+stand_so AtMost v w = not (is_less w v)
+stand_so AtLeast v w = not (is_less v w)
 
 -- the value of a field
 abbrev pub field_value : ProgramState → ℕ → Value

@@ -21,14 +21,13 @@ use Rattle.dbtg_program.specs.declared.fault.ProgramCause.{ProgramCause}
 use Rattle.dbtg_program.specs.declared.fault.ProgramCause.TheVariants.{AsInScript, UnknownParagraph, ParagraphTwice, UnknownField, CounterName, TwoKinds, CounterBehind, TooManyCounters}
 use Rattle.dbtg_program.specs.declared.fault.Fault.{Fault}
 use Rattle.dbtg_program.specs.declared.grammar.Keyword.{Keyword}
-use Rattle.dbtg_program.specs.declared.grammar.Keyword.TheVariants as keyword
 use Rattle.dbtg_program.specs.declared.grammar.FormPlace.{FormPlace}
 use Rattle.dbtg_program.specs.declared.grammar.Role.{Role}
 use Rattle.dbtg_program.specs.declared.grammar.Role.TheVariants as role
 use Rattle.dbtg_program.specs.Values.{can_hold, stripped}
 use Rattle.dbtg_program.specs.States.{beginning_with}
 use Rattle.dbtg_program.specs.Going.{said_word}
-use Rattle.dbtg_program.specs.Sentences.{Holding, Text, counters_of, cut, field_named, fields_in, is_own_name, is_word, marked, paragraph_at, picture_in, plain_text, sentences_of, text_in, verb_of, word_at, words_in}
+use Rattle.dbtg_program.specs.Sentences.{Holding, Text, counters_of, cut, field_named, fields_in, is_own_name, marked, paragraph_at, picture_in, plain_text, sentences_of, text_in, verb_of, word_at, words_in}
 use Rattle.dbtg_program.specs.Grammar.{fits, form, is_literal}
 use Rattle.dbtg_unit.specs.declared.limits.TheConstants.{MOST_STATEMENTS}
 
@@ -104,7 +103,7 @@ said text at ws w role.CountedTo = when (names_no_field text w) UnknownField ++ 
 abbrev pub faults_from : Text → ℕ → List Token → List FormPlace → List Token → List ProgramCause
 faults_from text at ws [] [] = []
 faults_from text at ws [] (w ∷ left) = AsInScript cause.UnexpectedWord ∷ []
-faults_from text at ws (p ∷ ps) [] = AsInScript cause.UnexpectedWord ∷ []
+faults_from text at ws (p ∷ ps) [] = if p.optional then faults_from text at ws ps [] else AsInScript cause.UnexpectedWord ∷ []
 faults_from text at ws (p ∷ ps) (w ∷ left) =
     if fits p.kind w then said text at ws w p.role ++ faults_from text at ws ps left
     else (if p.optional then faults_from text at ws ps (w ∷ left) else AsInScript cause.UnexpectedWord ∷ [])
@@ -124,7 +123,7 @@ statement_faults text ws = flat_map (unknown_word text) (marked ws) ++ map AsInS
 -- the faults of a sentence that begins a paragraph, has a verb, or is a statement
 abbrev pub faults_of : Text → ℕ → List Token → Option (List ℕ) → Option Keyword → List ProgramCause
 faults_of text at ws (Some name) verb = when (some_and (λ k. nat_lt k at) (paragraph_at text.sentences name)) ParagraphTwice
-faults_of text at ws None (Some verb) = faults_from text at ws (form verb (is_word keyword.Status (word_at 1 ws))) ws
+faults_of text at ws None (Some verb) = faults_from text at ws (form verb ws) ws
 faults_of text at ws None None = statement_faults text ws
 
 -- the faults of sentence number `at`

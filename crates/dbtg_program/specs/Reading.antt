@@ -1,5 +1,5 @@
 -- The program that a text without faults says.
-use Rattle.std.specs.Prelude.{◌≡◌, ℕ, ◌+◌, Bool, List, map, Option, Some, None, if◌then◌else◌, unwrap_or, codes}
+use Rattle.std.specs.Prelude.{◌≡◌, ℕ, ◌+◌, Bool, List, length, map, Option, Some, None, if◌then◌else◌, unwrap_or, codes}
 use Rattle.std.specs.List.{list_any}
 use Rattle.dbtg_schema.specs.Lists.{Lists}
 use Rattle.dbtg_schema.specs.Texts.Forms.{labels}
@@ -14,7 +14,7 @@ use Rattle.dbtg_program.specs.declared.grammar.Keyword.TheVariants as keyword
 use Rattle.dbtg_program.specs.declared.program.Operand.{Operand}
 use Rattle.dbtg_program.specs.declared.program.Operand.TheVariants as operand
 use Rattle.dbtg_program.specs.declared.program.Relation.{Relation}
-use Rattle.dbtg_program.specs.declared.program.Relation.TheVariants.{Less, Equal, Greater}
+use Rattle.dbtg_program.specs.declared.program.Relation.TheVariants.{Less, Equal, Greater, AtMost, AtLeast}
 use Rattle.dbtg_program.specs.declared.program.Condition.{Condition}
 use Rattle.dbtg_program.specs.declared.program.Condition.TheVariants.{Compare, Status}
 use Rattle.dbtg_program.specs.declared.program.Sentence.{Sentence}
@@ -26,7 +26,7 @@ use Rattle.dbtg_program.specs.declared.program.Line.{Line}
 use Rattle.dbtg_program.specs.declared.program.Program.{Program}
 use Rattle.dbtg_program.specs.Values.{records_from}
 use Rattle.dbtg_program.specs.Sentences.{Holding, Text, field_named, fields_in, is_equals, is_spelled, is_word, marked, paragraph_at, sentences_of, text_in, verb_of, word_at, words_in}
-use Rattle.dbtg_program.specs.Grammar.{is_literal}
+use Rattle.dbtg_program.specs.Grammar.{is_literal, is_negated, relation_at, stops}
 use Rattle.dbtg_program.specs.Faults.{literal_value, words_at_first}
 
 -- the number of the field that a word names
@@ -43,15 +43,9 @@ target_of text w = unwrap_or (paragraph_at text.sentences (text_in w)) 0
 
 -- the relation that a word asks for
 abbrev pub relation_of : Token → Relation
-relation_of w = if is_equals w then Equal else (if is_spelled (codes "<") w then Less else Greater)
-
--- NOT follows the verb and the first value
-abbrev pub is_negated : List Token → Bool
-is_negated ws = is_word keyword.Not (word_at 2 ws)
-
--- the place of the relation in a sentence with a condition
-abbrev pub relation_at : List Token → ℕ
-relation_at ws = if is_negated ws then 3 else 2
+relation_of w =
+    if is_equals w then Equal
+    else (if is_spelled (codes "<") w then Less else (if is_spelled (codes ">") w then Greater else (if is_spelled (codes "<=") w then AtMost else AtLeast)))
 
 -- the condition after a verb: STATUS [ NOT ] = dddd, or x [ NOT ] relation x
 abbrev pub condition_of : Text → List Token → Condition
@@ -59,13 +53,17 @@ condition_of text ws =
     if is_word keyword.Status (word_at 1 ws) then Status (is_negated ws) (up_to 9999 (number (text_in (word_at (relation_at ws + 1) ws))))
     else Compare (operand_of text (word_at 1 ws)) (is_negated ws) (relation_of (word_at (relation_at ws) ws)) (operand_of text (word_at (relation_at ws + 1) ws))
 
+-- the sentence to which IF leads; STOP leads to the end of the text
+abbrev pub goal_of : Text → List Token → ℕ
+goal_of text ws = if stops ws then length text.sentences else target_of text (word_at (relation_at ws + 4) ws)
+
 -- the sentence that these words with this verb say; a counter does nothing
 abbrev pub said_by : Text → List Token → Keyword → Sentence
 said_by text ws keyword.Move = Move (operand_of text (word_at 1 ws)) (field_in text (word_at 3 ws))
 said_by text ws keyword.Add = Add (operand_of text (word_at 1 ws)) (field_in text (word_at 3 ws))
 said_by text ws keyword.Subtract = Subtract (operand_of text (word_at 1 ws)) (field_in text (word_at 3 ws))
 said_by text ws keyword.Go = GoTo (target_of text (word_at 2 ws))
-said_by text ws keyword.If = If (condition_of text ws) (target_of text (word_at (relation_at ws + 4) ws))
+said_by text ws keyword.If = If (condition_of text ws) (goal_of text ws)
 said_by text ws keyword.Assert = Assert (condition_of text ws)
 said_by text ws keyword.Stop = Stop
 said_by text ws _ = Heading

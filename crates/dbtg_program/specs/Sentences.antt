@@ -35,6 +35,7 @@ spelling keyword.Stop = codes "STOP"
 spelling keyword.Status = codes "STATUS"
 spelling keyword.Not = codes "NOT"
 spelling keyword.Is = codes "IS"
+spelling keyword.Run = codes "RUN"
 
 -- the words that begin a sentence that scripts do not have
 abbrev pub verbs : List Keyword
@@ -96,9 +97,21 @@ word_at k ws = unwrap_or (slice_get ws k) equals
 abbrev pub begins : Keyword → List Token → Bool
 begins k ws = is_word k (word_at 0 ws)
 
+-- a sign and = behind it, as one word
+abbrev pub with_equals : Token → Token → Option Token
+with_equals w v =
+    if not (is_equals v) then None
+    else (if is_spelled (codes "<") w then Some (plain (codes "<=")) else (if is_spelled (codes ">") w then Some (plain (codes ">=")) else None))
+
+-- words, each sign joined with = behind it
+abbrev pub joined : List Token → List Token
+joined [] = []
+joined (w ∷ []) = w ∷ []
+joined (w ∷ v ∷ ws) = unwrap_or (option_map (λ sign. sign ∷ joined ws) (with_equals w v)) (w ∷ joined (v ∷ ws))
+
 -- in IF and ASSERT signs are words of their own
 abbrev pub with_signs : List Token → List Token
-with_signs ws = if begins keyword.If ws || begins keyword.Assert ws then flat_map apart ws else ws
+with_signs ws = if begins keyword.If ws || begins keyword.Assert ws then joined (flat_map apart ws) else ws
 
 -- the verb with which words begin
 abbrev pub verb_of : List Token → Option Keyword

@@ -6,7 +6,6 @@ use Rattle.dbtg_schema.specs.Lookups.{first, some_and}
 use Rattle.dbtg_script.specs.declared.limits.TheConstants.{SCRIPT_BYTES}
 use Rattle.dbtg_script.specs.Tokens.{Token}
 use Rattle.dbtg_program.specs.declared.grammar.Keyword.{Keyword}
-use Rattle.dbtg_program.specs.declared.grammar.Keyword.TheVariants as keyword
 use Rattle.dbtg_program.specs.declared.grammar.Kind.{Kind}
 use Rattle.dbtg_program.specs.declared.grammar.Kind.TheVariants as kind
 use Rattle.dbtg_program.specs.declared.grammar.Role.{Role}
@@ -14,7 +13,7 @@ use Rattle.dbtg_program.specs.declared.grammar.Role.TheVariants as role
 use Rattle.dbtg_program.specs.declared.grammar.FormPlace.{FormPlace}
 use Rattle.dbtg_program.specs.Faults.{said, unknown_word, words_at_first}
 use Rattle.dbtg_program.specs.Grammar.{fits, form}
-use Rattle.dbtg_program.specs.Sentences.{Holding, Text, counters_of, is_word, marked, sentences_of, spelling, verb_of, word_at}
+use Rattle.dbtg_program.specs.Sentences.{Holding, Text, counters_of, marked, sentences_of, spelling, verb_of}
 use Rattle.dbtg_program.specs.Spelling.{words_text}
 
 -- WHERE A SENTENCE STOPS
@@ -38,7 +37,7 @@ stop_from text at ws (p ∷ ps) (w ∷ left) =
 
 -- the same for a sentence with this verb
 abbrev pub stop_with : Text → ℕ → Keyword → List Token → Stop
-stop_with text at verb ws = stop_from text at ws (form verb (is_word keyword.Status (word_at 1 ws))) ws
+stop_with text at verb ws = stop_from text at ws (form verb ws) ws
 
 -- the first field word of a statement that names no field
 abbrev pub unknown_in : Text → List Token → Option Token
@@ -62,22 +61,18 @@ abbrev pub in_words : Kind → Role → List ℕ
 in_words (kind.Key k) r = spelling k
 in_words kind.Any r = name_in_words r
 in_words kind.EqualSign r = codes "="
-in_words kind.Relation r = codes "=, <, >"
+in_words kind.Relation r = codes "=, <, >, <=, >="
 in_words kind.Field r = codes "a field"
 in_words kind.Value r = codes "a number, a text in double quotes, a field"
 in_words kind.PictureWord r = codes "PICTURE, PIC"
 in_words kind.Picture r = codes "a picture"
 in_words kind.Code r = codes "four digits"
+in_words kind.GoOrStop r = codes "GO, STOP"
 
--- what can come in the first of these places, and in those behind it up to one that is not optional
-abbrev pub places_in_words : List FormPlace → List (List ℕ)
-places_in_words [] = []
-places_in_words (p ∷ ps) = in_words p.kind p.role ∷ (if p.optional then places_in_words ps else [])
-
--- what can come where these places are left
+-- what can come where these places are left: in the first, and in those behind it up to one that is not optional
 abbrev pub things : List FormPlace → List (List ℕ)
 things [] = codes "the line's end" ∷ []
-things (p ∷ ps) = places_in_words (p ∷ ps)
+things (p ∷ ps) = in_words p.kind p.role ∷ (if p.optional then things ps else [])
 
 -- what is wanted where a sentence with a verb stops; of other sentences nothing is said
 abbrev pub wanted_by : Text → ℕ → List Token → Option (List ℕ) → Option Keyword → List (List ℕ)

@@ -93,5 +93,7 @@ pub fn stand_so(relation: Relation, a: Borrowed, b: Borrowed) -> bool
         Relation::Less => is_less(a, b),
         Relation::Equal => !is_less(a, b) && !is_less(b, a),
         Relation::Greater => is_less(b, a),
+        Relation::AtMost => !is_less(b, a),
+        Relation::AtLeast => !is_less(a, b),
     }
 }

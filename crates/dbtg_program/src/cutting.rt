@@ -2,13 +2,13 @@
 
 ghost use Rattle.dbtg_script.specs.Lines.{ends_with, lines};
 ghost use Rattle.dbtg_script.specs.Tokens.{plain, tokens, view};
-ghost use Rattle.dbtg_program.specs.Sentences.{apart, is_sign, paragraph_in, parts, sentences_of, with_signs};
+ghost use Rattle.dbtg_program.specs.Sentences.{apart, is_sign, joined, paragraph_in, parts, sentences_of, with_equals, with_signs};
 ghost use Rattle.dbtg_program.specs.Inside.Views.{view_holding};
 ghost use Rattle.std.specs.List.{flat_map};
 ghost use Rattle.std.specs.Prelude.{◌≡◌, ◌==◌, ◌&&◌, ◌<◌, ◌≤◌, ◌∷◌, ◌++◌, ℕ, [], IfOk, OnOk, drop, false, true, length, map, option_map, slice_index, take};
 
 use crate::grammar::Keyword;
-use crate::word::{begins, is_own_name};
+use crate::word::{begins, is_equals, is_own_name, is_spelled};
 use dbtg_script::{Lines, Token, Tokens, is_statement, trimmed, without_last};
 use std::alloc::{AllocError, Global};
 
@@ -82,13 +82,53 @@ fn all_apart<'a>(alloc: Global, words: &[Token<'a>]) -> Result<Vec<Token<'a>>, A
     Ok(all)
 }
 
+/// A sign and = behind it, as one word.
+fn with_equals(sign: Token, next: Token) -> Option<Token<'static>>
+    ensures { option_map view result ≡ with_equals (view sign.entry) (view next.entry) }
+{
+    if !is_equals(next) {
+        None
+    } else if is_spelled(sign, "<") {
+        Some(Token::Plain("<=".as_bytes()))
+    } else if is_spelled(sign, ">") {
+        Some(Token::Plain(">=".as_bytes()))
+    } else {
+        None
+    }
+}
+
+/// Adds words, each sign joined with = behind it.
+fn push_joined<'a>(all: &mut Vec<Token<'a>>, words: &[Token<'a>]) -> Result<(), AllocError>
+    ensures { OnOk result (map view all.new.items ≡ map view all.old.items ++ joined (map view words.now)) }
+{
+    let Some((first, rest)) = words.split_first() else {
+        return Ok(());
+    };
+    let Some((next, further)) = rest.split_first() else {
+        return Ok(all.push(*first)?);
+    };
+    match with_equals(*first, *next) {
+        Some(sign) => {
+            all.push(sign)?;
+            push_joined(all, further)
+        }
+        None => {
+            all.push(*first)?;
+            push_joined(all, rest)
+        }
+    }
+}
+
 /// In IF and ASSERT signs are words of their own.
 fn set_signs_apart<'a>(alloc: Global, words: &mut Vec<Token<'a>>) -> Result<(), AllocError>
     ensures { OnOk result (map view words.new.items ≡ with_signs (map view words.old.items)) }
 {
     let list = words.as_slice();
     if begins(list, Keyword::If) || begins(list, Keyword::Assert) {
-        *words = all_apart(alloc, list)?;
+        let apart = all_apart(alloc, list)?;
+        let mut all = Vec::new(alloc);
+        push_joined(&mut all, apart.as_slice())?;
+        *words = all;
     }
     Ok(())
 }

@@ -7,7 +7,7 @@ ghost use Rattle.dbtg_schema.specs.Lookups.{some_and};
 ghost use Rattle.dbtg_program.specs.Sentences.{plain_text};
 ghost use Rattle.std.specs.Prelude.{◌≡◌};
 
-use crate::grammar::Kind;
+use crate::grammar::{Keyword, Kind};
 use crate::word::{is_equals, is_own_name, is_spelled, is_word};
 use dbtg_schema::spelled_picture;
 use dbtg_script::{Token, has_byte, is_number};
@@ -37,7 +37,11 @@ pub fn is_literal(token: Token) -> bool
 fn is_relation_word(token: Token) -> bool
     ensures { result ≡ is_relation_word (view token.entry) }
 {
-    is_equals(token) || is_spelled(token, "<") || is_spelled(token, ">")
+    is_equals(token)
+        || is_spelled(token, "<")
+        || is_spelled(token, ">")
+        || is_spelled(token, "<=")
+        || is_spelled(token, ">=")
 }
 
 fn is_picture_word(token: Token) -> bool
@@ -91,5 +95,6 @@ pub fn fits(kind: Kind, token: Token) -> bool
         Kind::PictureWord => is_picture_word(token),
         Kind::Picture => is_picture(token),
         Kind::Code => is_code(token),
+        Kind::GoOrStop => is_word(token, Keyword::Go) || is_word(token, Keyword::Stop),
     }
 }

@@ -1,8 +1,12 @@
 //! The sentences that scripts do not have: which word may come in each place, and how it is judged there.
 
-ghost use Rattle.dbtg_program.specs.Grammar.{form};
+ghost use Rattle.dbtg_script.specs.Tokens.{view};
+ghost use Rattle.dbtg_program.specs.Grammar.{condition, consequence, form, is_negated, relation_at, say, stops};
 ghost use Rattle.dbtg_program.specs.Sentences.{spelling};
-ghost use Rattle.std.specs.Prelude.{◌≡◌};
+ghost use Rattle.std.specs.Prelude.{◌≡◌, ◌≤◌, ◌++◌, ◌∷◌, map};
+
+use crate::word::{is_word, word_at};
+use dbtg_script::Token;
 
 /// A word of the sentences that scripts do not have.
 #[derive(Clone, Copy)]
@@ -21,6 +25,7 @@ pub enum Keyword {
     Status,
     Not,
     Is,
+    Run,
 }
 
 /// What a word must be.
@@ -31,7 +36,7 @@ pub enum Kind {
     /// a plain word
     Any,
     EqualSign,
-    /// =, < or >
+    /// =, <, >, <= or >=
     Relation,
     Field,
     /// a literal or a field
@@ -41,6 +46,8 @@ pub enum Kind {
     Picture,
     /// the four digits of a status
     Code,
+    /// what follows the condition of IF
+    GoOrStop,
 }
 
 /// How a word is judged.
@@ -88,6 +95,7 @@ impl Keyword {
             Keyword::Status => "STATUS",
             Keyword::Not => "NOT",
             Keyword::Is => "IS",
+            Keyword::Run => "RUN",
         }
     }
 }
@@ -122,10 +130,59 @@ macro_rules! maybe {
     };
 }
 
-/// The places of the sentence that begins with this verb; the flag says that it asks for STATUS.
-pub fn form(verb: Keyword, of_status: bool) -> &'static [FormPlace]
-    ensures { result.now ≡ form verb of_status }
+macro_rules! of_status {
+    ($verb:ident $(, $place:expr)*) => {
+        &[
+            say!($verb),
+            say!(Status),
+            maybe!(Not),
+            one!(EqualSign, Plain),
+            one!(Code, Plain)
+            $(, $place)*
+        ]
+    };
+}
+
+macro_rules! of_values {
+    ($verb:ident $(, $place:expr)*) => {
+        &[
+            say!($verb),
+            one!(Value, FirstValue),
+            maybe!(Not),
+            one!(Relation, Plain),
+            one!(Value, SecondValue)
+            $(, $place)*
+        ]
+    };
+}
+
+/// Does NOT follow the verb and the first value?
+pub fn is_negated(words: &[Token]) -> bool
+    ensures { result ≡ is_negated (map view words.now) }
 {
+    is_word(word_at(words, 2), Keyword::Not)
+}
+
+/// The place of the relation in a sentence with a condition.
+pub fn relation_at(words: &[Token]) -> usize
+    ensures place { result ≡ relation_at (map view words.now) }
+    ensures bound { result ≤ 3 }
+{
+    if is_negated(words) { 3 } else { 2 }
+}
+
+/// Does STOP follow the condition?
+pub fn stops(words: &[Token]) -> bool
+    ensures { result ≡ stops (map view words.now) }
+{
+    is_word(word_at(words, relation_at(words) + 2), Keyword::Stop)
+}
+
+/// The places of the sentence of these words, which begins with this verb.
+pub fn form(verb: Keyword, words: &[Token]) -> &'static [FormPlace]
+    ensures { result.now ≡ form verb (map view words.now) }
+{
+    let asks_status = is_word(word_at(words, 1), Keyword::Status);
     match verb {
         Keyword::Level => &[
             FormPlace {
@@ -157,59 +214,30 @@ pub fn form(verb: Keyword, of_status: bool) -> &'static [FormPlace]
             one!(Field, CountedTo),
         ],
         Keyword::Go => &[say!(Go), say!(To), one!(Any, Paragraph)],
-        Keyword::If => if_form(of_status),
-        Keyword::Assert => assert_form(of_status),
-        Keyword::Stop => &[say!(Stop)],
+        Keyword::If => if_form(asks_status, stops(words)),
+        Keyword::Assert => assert_form(asks_status),
+        Keyword::Stop => &[say!(Stop), maybe!(Run)],
         _ => &[],
     }
 }
 
-fn if_form(of_status: bool) -> &'static [FormPlace]
-    ensures { result.now ≡ form Keyword.If of_status }
+fn if_form(asks_status: bool, stops: bool) -> &'static [FormPlace]
+    ensures { result.now ≡ say Keyword.If ∷ condition asks_status ++ consequence stops }
 {
-    if of_status {
-        &[
-            say!(If),
-            say!(Status),
-            maybe!(Not),
-            one!(EqualSign, Plain),
-            one!(Code, Plain),
-            say!(Go),
-            say!(To),
-            one!(Any, Paragraph),
-        ]
-    } else {
-        &[
-            say!(If),
-            one!(Value, FirstValue),
-            maybe!(Not),
-            one!(Relation, Plain),
-            one!(Value, SecondValue),
-            say!(Go),
-            say!(To),
-            one!(Any, Paragraph),
-        ]
+    match (asks_status, stops) {
+        (true, true) => of_status!(If, one!(GoOrStop, Plain), maybe!(Run)),
+        (true, false) => of_status!(If, one!(GoOrStop, Plain), say!(To), one!(Any, Paragraph)),
+        (false, true) => of_values!(If, one!(GoOrStop, Plain), maybe!(Run)),
+        (false, false) => of_values!(If, one!(GoOrStop, Plain), say!(To), one!(Any, Paragraph)),
     }
 }
 
-fn assert_form(of_status: bool) -> &'static [FormPlace]
-    ensures { result.now ≡ form Keyword.Assert of_status }
+fn assert_form(asks_status: bool) -> &'static [FormPlace]
+    ensures { result.now ≡ say Keyword.Assert ∷ condition asks_status }
 {
-    if of_status {
-        &[
-            say!(Assert),
-            say!(Status),
-            maybe!(Not),
-            one!(EqualSign, Plain),
-            one!(Code, Plain),
-        ]
+    if asks_status {
+        of_status!(Assert)
     } else {
-        &[
-            say!(Assert),
-            one!(Value, FirstValue),
-            maybe!(Not),
-            one!(Relation, Plain),
-            one!(Value, SecondValue),
-        ]
+        of_values!(Assert)
     }
 }

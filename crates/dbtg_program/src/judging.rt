@@ -218,7 +218,12 @@ pub fn fault_from(
         None => when(!left.is_empty(), UNEXPECTED),
         Some((place, further)) => {
             match left.split_first() {
-                None => Some(UNEXPECTED),
+                None => {
+                    if place.optional {
+                        return fault_from(text, at, words, further, left);
+                    }
+                    Some(UNEXPECTED)
+                }
                 Some((token, rest)) => {
                     if fits(place.kind, *token) {
                         if let Some(cause) = said(text, at, words, *token, place.role) {

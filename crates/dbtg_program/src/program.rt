@@ -20,6 +20,8 @@ pub enum Relation {
     Less,
     Equal,
     Greater,
+    AtMost,
+    AtLeast,
 }
 
 /// The question of IF and ASSERT.

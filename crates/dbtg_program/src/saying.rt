@@ -1,7 +1,8 @@
 //! What the words of a sentence without faults say.
 
 ghost use Rattle.dbtg_script.specs.Tokens.{view};
-ghost use Rattle.dbtg_program.specs.Reading.{condition_of, field_in, is_negated, operand_of, relation_at, relation_of, said_by, target_of};
+ghost use Rattle.dbtg_program.specs.Reading.{condition_of, field_in, goal_of, operand_of, relation_of, said_by, target_of};
+ghost use Rattle.dbtg_program.specs.Grammar.{is_negated, relation_at};
 ghost use Rattle.dbtg_script.specs.Printing.Spelling.{number};
 ghost use Rattle.dbtg_script.specs.Values.{up_to};
 ghost use Rattle.dbtg_program.specs.Faults.{literal_value};
@@ -12,7 +13,7 @@ ghost use Rattle.std.specs.Prelude.{◌≡◌, ◌+◌, ◌≤◌, IfOk, map, un
 
 use crate::borrowed::{Borrowed, owned};
 use crate::fitting::is_literal;
-use crate::grammar::Keyword;
+use crate::grammar::{Keyword, is_negated, relation_at, stops};
 use crate::judging::literal_value;
 use crate::program::{Condition, Operand, Relation, Sentence};
 use crate::text::Text;
@@ -60,24 +61,24 @@ fn relation_of(token: Token) -> Relation
         Relation::Equal
     } else if is_spelled(token, "<") {
         Relation::Less
-    } else {
+    } else if is_spelled(token, ">") {
         Relation::Greater
+    } else if is_spelled(token, "<=") {
+        Relation::AtMost
+    } else {
+        Relation::AtLeast
     }
 }
 
-/// Does NOT follow the verb and the first value?
-fn is_negated(words: &[Token]) -> bool
-    ensures { result ≡ is_negated (map view words.now) }
+/// The sentence to which IF leads; STOP leads to the end of the text.
+fn goal_of(text: &Text, words: &[Token]) -> usize
+    ensures { result ≡ goal_of text.now (map view words.now) }
 {
-    is_word(word_at(words, 2), Keyword::Not)
-}
-
-/// The place of the relation in a sentence with a condition.
-fn relation_at(words: &[Token]) -> usize
-    ensures place { result ≡ relation_at (map view words.now) }
-    ensures bound { result ≤ 3 }
-{
-    if is_negated(words) { 3 } else { 2 }
+    if stops(words) {
+        text.sentences().len()
+    } else {
+        target_of(text, word_at(words, relation_at(words) + 4))
+    }
 }
 
 /// The status that four digits spell.
@@ -147,8 +148,7 @@ pub fn said_by(
         Keyword::Go => Ok(Sentence::GoTo(target_of(text, word_at(words, 2)))),
         Keyword::If => {
             let condition = Shared::new(alloc, condition_of(alloc, text, words)?)?;
-            let target = target_of(text, word_at(words, relation_at(words) + 4));
-            Ok(Sentence::If(condition, target))
+            Ok(Sentence::If(condition, goal_of(text, words)))
         }
         Keyword::Assert => {
             let condition = Shared::new(alloc, condition_of(alloc, text, words)?)?;

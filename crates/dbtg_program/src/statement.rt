@@ -8,7 +8,7 @@ ghost use Rattle.dbtg_script.specs.Tokens.{view};
 ghost use Rattle.dbtg_program.specs.Faults.{faults_from, when};
 ghost use Rattle.dbtg_program.specs.Grammar.{form};
 ghost use Rattle.dbtg_program.specs.Reading.{said_by, sentence_of, statement_in};
-ghost use Rattle.dbtg_program.specs.Sentences.{is_word, marked, paragraph_at, word_at};
+ghost use Rattle.dbtg_program.specs.Sentences.{marked, paragraph_at};
 ghost use Rattle.dbtg_program.specs.Inside.Reading.{Refuses, as_in_script, at_first, sentence_verdict, statement_verdict, words_verdict};
 ghost use Rattle.dbtg_program.specs.Inside.Views.{view_holding};
 ghost use Rattle.std.specs.List.{list_any};
@@ -23,7 +23,7 @@ use crate::program::{Sentence, Word};
 use crate::said::read_said;
 use crate::saying::said_by;
 use crate::text::Text;
-use crate::word::{is_word, verb_of, word_at};
+use crate::word::verb_of;
 use dbtg_schema::Row;
 use dbtg_script::{LineFault as ScriptLineFault, Token, read_statement_words};
 use dbtg_unit::Statement;
@@ -121,12 +121,11 @@ fn read_verb(
     words: &[Token],
     verb: Keyword,
 ) -> Result<Sentence, LineFault>
-    ensures accepted { OnOk result (first (faults_from text.now at (map view words.now) (form verb (is_word Keyword.Status (word_at 1 (map view words.now)))) (map view words.now)) ≡ None) }
+    ensures accepted { OnOk result (first (faults_from text.now at (map view words.now) (form verb (map view words.now)) (map view words.now)) ≡ None) }
     ensures sentence { IfOk result (λ s. s ≡ said_by text.now (map view words.now) verb) }
-    ensures refused { IfErr result (λ e. Refuses e (first (faults_from text.now at (map view words.now) (form verb (is_word Keyword.Status (word_at 1 (map view words.now)))) (map view words.now)))) }
+    ensures refused { IfErr result (λ e. Refuses e (first (faults_from text.now at (map view words.now) (form verb (map view words.now)) (map view words.now)))) }
 {
-    let places = form(verb, is_word(word_at(words, 1), Keyword::Status));
-    if let Some(cause) = fault_from(text, at, words, places, words) {
+    if let Some(cause) = fault_from(text, at, words, form(verb, words), words) {
         return Err(LineFault::Refused(cause));
     }
     Ok(said_by(alloc, text, words, verb)?)

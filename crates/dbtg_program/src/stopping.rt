@@ -3,7 +3,7 @@
 ghost use Rattle.dbtg_script.specs.Tokens.{view};
 ghost use Rattle.dbtg_program.specs.Faults.{unknown_word};
 ghost use Rattle.dbtg_program.specs.Grammar.{form};
-ghost use Rattle.dbtg_program.specs.Sentences.{is_word, marked, word_at};
+ghost use Rattle.dbtg_program.specs.Sentences.{marked};
 ghost use Rattle.dbtg_program.specs.Told.{can_begin, stop_from, stop_with, unknown_in};
 ghost use Rattle.dbtg_program.specs.Inside.Views.{view_marked};
 ghost use Rattle.dbtg_schema.specs.Lookups.{first};
@@ -15,7 +15,6 @@ use crate::grammar::{FormPlace, Keyword, form};
 use crate::judging::said;
 use crate::marking::{Marked, mark, unknown_word};
 use crate::text::Text;
-use crate::word::{is_word, word_at};
 use dbtg_script::Token;
 use std::alloc::{AllocError, Global};
 
@@ -75,8 +74,7 @@ pub fn stop_with<'a, 'b>(
     ensures places { result.places.now ≡ (stop_with text.now at verb (map view words.now)).places }
     ensures left { map view result.left.now ≡ (stop_with text.now at verb (map view words.now)).left }
 {
-    let places = form(verb, is_word(word_at(words, 1), Keyword::Status));
-    stop_from(text, at, words, places, words)
+    stop_from(text, at, words, form(verb, words), words)
 }
 
 /// The first of these words that is a field word and names no field.

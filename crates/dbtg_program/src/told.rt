@@ -6,7 +6,7 @@ ghost use Rattle.dbtg_script.specs.Tokens.{view};
 ghost use Rattle.dbtg_program.specs.Faults.{words_at_first};
 ghost use Rattle.dbtg_program.specs.Sentences.{counters_of, verb_of};
 ghost use Rattle.dbtg_program.specs.Spelling.{words_text};
-ghost use Rattle.dbtg_program.specs.Told.{counters_in_program, in_words, met_by, name_in_words, on_line, paragraphs_in_program, places_in_words, statement_by, statement_in_program, things, wanted_by, wanted_in_program, word_in_program};
+ghost use Rattle.dbtg_program.specs.Told.{counters_in_program, in_words, met_by, name_in_words, on_line, paragraphs_in_program, statement_by, statement_in_program, things, wanted_by, wanted_in_program, word_in_program};
 ghost use Rattle.dbtg_program.specs.Inside.Views.{view_holding};
 ghost use Rattle.std.specs.List.{flat_map, position_from};
 ghost use Rattle.std.specs.Prelude.{◌≡◌, ◌==◌, ◌≤◌, ◌++◌, [], IfOk, OnOk, length, map, option_map, option_to_list, take};
@@ -39,46 +39,39 @@ fn in_words(place: FormPlace) -> &'static str
         Kind::Key(keyword) => keyword.text(),
         Kind::Any => name_in_words(place.role),
         Kind::EqualSign => "=",
-        Kind::Relation => "=, <, >",
+        Kind::Relation => "=, <, >, <=, >=",
         Kind::Field => "a field",
         Kind::Value => "a number, a text in double quotes, a field",
         Kind::PictureWord => "PICTURE, PIC",
         Kind::Picture => "a picture",
         Kind::Code => "four digits",
+        Kind::GoOrStop => "GO, STOP",
     }
 }
 
-/// What can come in the first of these places, and in those behind it up to one that is not optional.
-fn places_in_words(alloc: Global, places: &[FormPlace]) -> Result<Vec<&'static [u8]>, AllocError>
-    ensures { IfOk result (λ list. map (λ thing. thing.now) list.items ≡ places_in_words places.now) }
+/// Appends what can come where these places are left: in the first, and in those behind it up to one that is not optional.
+fn push_things(list: &mut Vec<&'static [u8]>, places: &[FormPlace]) -> Result<(), AllocError>
+    ensures { OnOk result (map (λ thing. thing.now) list.new.items ≡ map (λ thing. thing.now) list.old.items ++ things places.now) }
 {
-    let mut list = Vec::new(alloc);
-    for place in places {
-        list.push(in_words(*place).as_bytes())?;
-        if !place.optional {
-            return Ok(list);
+    match places.split_first() {
+        None => Ok(list.push("the line's end".as_bytes())?),
+        Some((place, further)) => {
+            list.push(in_words(*place).as_bytes())?;
+            if place.optional {
+                push_things(list, further)
+            } else {
+                Ok(())
+            }
         }
     }
-    Ok(list)
 }
 
-fn the_end(alloc: Global) -> Result<Vec<&'static [u8]>, AllocError>
-    ensures { IfOk result (λ list. map (λ thing. thing.now) list.items ≡ things []) }
-{
-    let mut list = Vec::new(alloc);
-    list.push("the line's end".as_bytes())?;
-    Ok(list)
-}
-
-/// What can come where these places are left.
 fn things(alloc: Global, places: &[FormPlace]) -> Result<Vec<&'static [u8]>, AllocError>
     ensures { IfOk result (λ list. map (λ thing. thing.now) list.items ≡ things places.now) }
 {
-    if places.is_empty() {
-        the_end(alloc)
-    } else {
-        places_in_words(alloc, places)
-    }
+    let mut list = Vec::new(alloc);
+    push_things(&mut list, places)?;
+    Ok(list)
 }
 
 /// The bytes of a text that are read: at most as many as a program has.

@@ -54,6 +54,20 @@ comparisons : played card (of_lines card (
 unfolding within verdict onto into digits
 comparisons = refl
 
+-- <= and >= hold at the bound; each is one word, and a space may part its signs
+bounds : played card (of_lines card (
+    "ASSERT 5 >= 5" ∷ "ASSERT 5<=05" ∷ "ASSERT 6 > = 5" ∷ "ASSERT 5 NOT >= 6" ∷ "ASSERT \"B\" NOT <= \"AB\"" ∷ "ASSERT 5 <= 4" ∷ [])) []
+    ≡ record { statements = []; values = Num 0 ∷ text "" ∷ []; end = Some (Assert 6) }
+unfolding within verdict onto into digits
+bounds = refl
+
+-- IF with STOP ends a program if its condition holds, and only then
+stop_behind_a_condition : played card (of_lines card (
+    "IF STATUS NOT = 0000 STOP" ∷ "MOVE 5 TO CUSTOMER.CNO" ∷ "IF CUSTOMER.CNO >= 5 STOP RUN" ∷ "ASSERT 1 = 2" ∷ [])) []
+    ≡ record { statements = []; values = Num 5 ∷ text "" ∷ []; end = Some Stop }
+unfolding within verdict onto into digits
+stop_behind_a_condition = refl
+
 -- a text without a sentence has an end; so has a paragraph that is the last line
 nothing_there : played card (of_lines card ("* nothing" ∷ "" ∷ [])) [] ≡ record { statements = []; values = Num 0 ∷ text "" ∷ []; end = Some Stop }
 unfolding within verdict onto into digits

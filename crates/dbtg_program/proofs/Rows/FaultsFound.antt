@@ -31,6 +31,15 @@ stop_is_a_sentence : fault_of ("STOP." ∷ "STOP." ∷ []) ≡ None
 unfolding onto into digits
 stop_is_a_sentence = refl
 
+run_follows_stop : fault_of ("STOP RUN." ∷ "IF STATUS = 0307 STOP RUN." ∷ "RUN." ∷ "IF 1 <= 2 STOP." ∷ "STOP GO" ∷ []) ≡ Some (5, 3)
+unfolding onto into digits
+run_follows_stop = refl
+
+-- the sign = is no bound by itself, and stands behind the other
+signs_turned_round : fault_of ("IF 1 <= 2 GO TO RUN" ∷ "RUN." ∷ "IF 1 => 2 GO TO RUN" ∷ []) ≡ Some (3, 3)
+unfolding onto into digits
+signs_turned_round = refl
+
 no_period : fault_of ("AGAIN" ∷ []) ≡ Some (1, 2)
 unfolding onto into digits
 no_period = refl

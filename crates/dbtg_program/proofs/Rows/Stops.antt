@@ -35,9 +35,18 @@ no_word : word_on 2 ("* A NOTE" ∷ "ASSERT CUSTOMER.CNO" ∷ []) ≡ None
 unfolding onto into digits
 no_word = refl
 
-not_or_a_relation : wanted_on 2 ("* A NOTE" ∷ "ASSERT CUSTOMER.CNO" ∷ []) ≡ codes "NOT" ∷ codes "=, <, >" ∷ []
+not_or_a_relation : wanted_on 2 ("* A NOTE" ∷ "ASSERT CUSTOMER.CNO" ∷ []) ≡ codes "NOT" ∷ codes "=, <, >, <=, >=" ∷ []
 unfolding onto into digits
 not_or_a_relation = refl
+
+-- where a place may be left out at the line's end, that is wanted too
+run_or_the_end : wanted_on 1 ("STOP NOW" ∷ []) ≡ codes "RUN" ∷ codes "the line's end" ∷ []
+unfolding onto into digits
+run_or_the_end = refl
+
+go_or_stop : wanted_on 1 ("IF 1 >= 2 THEN STOP" ∷ []) ≡ codes "GO, STOP" ∷ []
+unfolding onto into digits
+go_or_stop = refl
 
 -- a name that is no field stops the sentence before its later words do
 unknown_field : word_on 1 ("MOVE CNO OF CUSTOMER" ∷ []) ≡ Some (plain (codes "CNO"))
