@@ -6,7 +6,7 @@ use Rattle.dbtg_script.specs.Tokens.{Token, plain, equals, literal}
 use Rattle.dbtg_program.specs.declared.program.Condition.{Condition}
 use Rattle.dbtg_program.specs.declared.program.Condition.TheVariants.{Compare, Status}
 use Rattle.dbtg_program.specs.declared.program.Relation.{Relation}
-use Rattle.dbtg_program.specs.declared.program.Relation.TheVariants.{Less, Equal, Greater}
+use Rattle.dbtg_program.specs.declared.program.Relation.TheVariants.{Less, Equal, Greater, AtMost, AtLeast}
 use Rattle.dbtg_program.specs.declared.program.Sentence.{Sentence}
 use Rattle.dbtg_program.specs.declared.program.Sentence.TheVariants.{Filled, Move, Add, Subtract, Assert}
 use Rattle.dbtg_program.specs.Conditions.{field_value, value_of}
@@ -40,6 +40,8 @@ abbrev pub relation_text : Relation → List ℕ
 relation_text Less = codes "<"
 relation_text Equal = codes "="
 relation_text Greater = codes ">"
+relation_text AtMost = codes "<="
+relation_text AtLeast = codes ">="
 
 -- a comparison, as it is negated or not
 abbrev pub compared_text : Bool → Relation → List ℕ

@@ -63,6 +63,8 @@ fn relation_text(relation: Relation) -> &'static [u8]
         Relation::Less => b"<",
         Relation::Equal => b"=",
         Relation::Greater => b">",
+        Relation::AtMost => b"<=",
+        Relation::AtLeast => b">=",
     }
 }
 
