@@ -95,7 +95,7 @@ PicturesMade lists options form texts given =
     let history = given.run.history in
     let made = statements_made (length texts) history in
     IsPictured lists options.capacity made (scripts_made lists 1 texts history) form false
-        (StandFor lists options.capacity made (turns_of_first options.around (length texts) history)) (StandFor lists options.capacity made (map (λ e. e.unit) history))
+    (StandFor lists options.capacity made (turns_of_first options.around (length texts) history)) (StandFor lists options.capacity made (map (λ e. e.unit) history))
 
 -- such a text is printed of a run, unless the first program does not end; and beside the text it is told of the first program
 pub record PrintsPicture (lists : Lists) (options : RunOptions) (form : Form) (texts : List (List ℕ)) (given : ProgramRun) (printed : Printed) : Type 0 where

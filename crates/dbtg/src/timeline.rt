@@ -318,7 +318,9 @@ fn timeline_of_scripts<S: Source>(
     ensures refused { IfErr result (λ fault. ToldOfScripts (S.holds source.now) (S.fails source.now) fault (S.count source.now) Moves) }
 {
     let RunOptions {
-        capacity, around, ..
+        capacity,
+        around,
+        ..
     } = options;
     let scripts = read_scripts_with_texts(alloc, source, known)?;
     let statements = scripts.statements.as_slice();

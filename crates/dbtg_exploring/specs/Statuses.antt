@@ -6,7 +6,7 @@ use Rattle.dbtg_schema.specs.Lists.{Lists}
 use Rattle.dbtg_script.specs.Printing.Texts.{four_digits}
 use Rattle.dbtg_program.specs.declared.program.Line.{Line}
 use Rattle.dbtg_program.specs.declared.program.Program.{Program}
-use Rattle.dbtg_going.specs.declared.around.Around.{Around}
+use Rattle.dbtg_step.specs.Machine.SequentialDatabase.{unit_at}
 use Rattle.dbtg_explore.specs.declared.explored.Explored.{Explored}
 use Rattle.dbtg_explore.specs.declared.replies.Reply.{Reply}
 use Rattle.dbtg_explore.specs.Wishes.{is_statement}
@@ -40,19 +40,19 @@ row_text width text rs u line =
 abbrev pub width_of : List Line → ℕ
 width_of lines = unwrap_or (option_map (λ line. length (decimal line.number)) (slice_get lines (length lines - 1))) 0
 
--- a program that meets the others: its number, and the rows of its statements
-abbrev pub program_rows : Around → ℕ → List Reply → ℕ → Program → List ℕ → List ℕ
-program_rows around units rs u program text =
-    if is_met around units u then codes "program " ++ decimal u ++ 10 ∷ flat_map (row_text (width_of program.lines) text rs u) program.lines else []
+-- a program that meets the others: its number, its file, and the rows of its statements
+abbrev pub program_rows : Exploring → ℕ → List Reply → ℕ → Program → List ℕ → List ℕ
+program_rows asked units rs u program text =
+    if is_met asked.around units u then codes "program " ++ decimal u ++ 32 ∷ unwrap_or (unit_at asked.names.now u) [] ++ 10 ∷ flat_map (row_text (width_of program.lines) text rs u) program.lines else []
 
 -- so each program, the first of them number u
-abbrev pub programs_rows : Around → ℕ → List Reply → ℕ → List Program → List (List ℕ) → List ℕ
-programs_rows around units rs u [] texts = []
-programs_rows around units rs u (p ∷ ps) [] = []
-programs_rows around units rs u (p ∷ ps) (text ∷ texts) = program_rows around units rs u p text ++ programs_rows around units rs (u + 1) ps texts
+abbrev pub programs_rows : Exploring → ℕ → List Reply → ℕ → List Program → List (List ℕ) → List ℕ
+programs_rows asked units rs u [] texts = []
+programs_rows asked units rs u (p ∷ ps) [] = []
+programs_rows asked units rs u (p ∷ ps) (text ∷ texts) = program_rows asked units rs u p text ++ programs_rows asked units rs (u + 1) ps texts
 
 -- how many states there are, a way round, the failures, and the programs
 abbrev pub listing_text : Lists → List Program → List (List ℕ) → List ℕ → Exploring → Explored → List ℕ
 listing_text schema programs texts told asked all =
     codes "states " ++ decimal all.states ++ 10 ∷ endless_text told all.endless ++ flat_map (failure_text schema programs texts told asked) all.failures
-    ++ programs_rows asked.around (length programs) all.replies 1 programs texts
+    ++ programs_rows asked (length programs) all.replies 1 programs texts

@@ -33,8 +33,8 @@ pub fn written(text: &[u8], number: u64) -> &[u8]
     unindented(trimmed(line_at(text, number)))
 }
 
-// That of the unit among these texts; nothing if there is none.
-fn text_or_nothing(texts: &[Row<u8>], unit: u8) -> &[u8]
+/// That of the unit among these texts; nothing if there is none.
+pub fn text_or_nothing(texts: &[Row<u8>], unit: u8) -> &[u8]
     ensures { result.now ≡ unwrap_or (unit_at texts.now unit) [] }
 {
     match text_of(texts, unit) {
@@ -146,8 +146,7 @@ impl<'a> Setting<'a> {
             return Ok(());
         }
         let place = unit as usize - 1;
-        let (Some(program), Some(reached)) =
-            (self.programs.get(place), given.programs.get(place))
+        let (Some(program), Some(reached)) = (self.programs.get(place), given.programs.get(place))
         else {
             return Ok(());
         };

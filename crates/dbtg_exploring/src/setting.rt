@@ -47,7 +47,9 @@ impl<'a> Setting<'a> {
         ensures { IfOk result (IsRunOf self.now.schema.now self.now.asked.capacity self.now.programs.now (turns_of self.now.schema.now self.now.asked.capacity self.now.programs.now self.now.asked.around (Some turns.now))) }
     {
         let Exploring {
-            capacity, around, ..
+            capacity,
+            around,
+            ..
         } = self.asked;
         let turns = Some(turns);
         run_programs(alloc, self.schema, capacity, self.programs, around, turns)

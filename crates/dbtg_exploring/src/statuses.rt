@@ -5,12 +5,11 @@ ghost use Rattle.dbtg_schema.specs.Sound.{IsSound};
 ghost use Rattle.std.specs.List.{list_any};
 ghost use Rattle.std.specs.Prelude.{◌≡◌, ◌≤◌, ◌++◌, IfOk, OnOk, decimal, flat_map, length, replicate};
 
-use crate::failing::written;
+use crate::failing::{text_or_nothing, written};
 use crate::setting::Setting;
 use crate::text::push_endless;
 use crate::wishes::is_met;
 use dbtg_explore::{Explored, Reply, is_statement};
-use dbtg_going::Around;
 use dbtg_program::{Line, Program};
 use dbtg_schema::Row;
 use dbtg_script::{push_number, push_status};
@@ -170,13 +169,15 @@ impl<'a> Setting<'a> {
         program: &Program,
     ) -> Result<(), AllocError>
         requires { length self.now.programs.now ≤ LAST_UNIT }
-        ensures { OnOk result (out.new.items ≡ out.old.items ++ program_rows self.now.asked.around (length self.now.programs.now) rows.now.replies.now rows.now.unit program.now rows.now.text.now) }
+        ensures { OnOk result (out.new.items ≡ out.old.items ++ program_rows self.now.asked (length self.now.programs.now) rows.now.replies.now rows.now.unit program.now rows.now.text.now) }
     {
         if !is_met(self.asked.around, self.programs.len() as u8, rows.unit) {
             return Ok(());
         }
         out.extend_from_slice(b"program ")?;
         push_number(out, rows.unit as u64)?;
+        out.push(b' ')?;
+        out.extend_from_slice(text_or_nothing(self.asked.names, rows.unit))?;
         out.push(b'\n')?;
         rows.push_rows(alloc, out, program.lines.as_slice())
     }
@@ -189,7 +190,7 @@ impl<'a> Setting<'a> {
         replies: &[Reply],
     ) -> Result<(), AllocError>
         requires { length self.now.programs.now ≤ LAST_UNIT }
-        ensures { OnOk result (out.new.items ≡ out.old.items ++ programs_rows self.now.asked.around (length self.now.programs.now) replies.now 1 self.now.programs.now self.now.texts.now) }
+        ensures { OnOk result (out.new.items ≡ out.old.items ++ programs_rows self.now.asked (length self.now.programs.now) replies.now 1 self.now.programs.now self.now.texts.now) }
     {
         for (i, program) in self.programs.iter().enumerate() {
             if i >= self.texts.len() {

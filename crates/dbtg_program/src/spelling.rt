@@ -78,11 +78,7 @@ fn push_compared(out: &mut Vec<u8>, negated: bool, relation: Relation) -> Result
     Ok(())
 }
 
-fn push_condition(
-    out: &mut Vec<u8>,
-    state: &State,
-    condition: &Condition,
-) -> Result<(), AllocError>
+fn push_condition(out: &mut Vec<u8>, state: &State, condition: &Condition) -> Result<(), AllocError>
     ensures { OnOk result (out.new.items ≡ out.old.items ++ condition_text state.now condition.now) }
 {
     match condition {

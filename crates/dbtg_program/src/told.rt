@@ -50,7 +50,7 @@ fn in_words(place: FormPlace) -> &'static str
 }
 
 /// Appends what can come where these places are left: in the first, and in those behind it up to one that is not optional.
-fn push_things(list: &mut Vec<&'static [u8]>, places: &[FormPlace]) -> Result<(), AllocError>
+fn push_things<'a>(list: &mut Vec<&'a [u8]>, places: &[FormPlace]) -> Result<(), AllocError>
     ensures { OnOk result (map (λ thing. thing.now) list.new.items ≡ map (λ thing. thing.now) list.old.items ++ things places.now) }
 {
     match places.split_first() {
