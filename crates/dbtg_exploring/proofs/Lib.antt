@@ -3,3 +3,4 @@ mod MeetingsRead
 mod OnThreads
 mod Results
 mod Rows
+mod Sentences

@@ -146,8 +146,10 @@ impl<'a> Setting<'a> {
             return Ok(());
         }
         let place = unit as usize - 1;
-        let (Some(program), Some(reached)) = (self.programs.get(place), given.programs.get(place))
-        else {
+        let Some(program) = self.programs.get(place) else {
+            return Ok(());
+        };
+        let Some(reached) = given.programs.as_slice().get(place) else {
             return Ok(());
         };
         let named = Named {

@@ -1,11 +1,23 @@
 -- Lines of an exploration, as they are printed.
 use Rattle.std.specs.Prelude.{◌≡◌, refl, List, [], ◌∷◌, ◌++◌, Some, None, codes}
 use Rattle.std.specs.Fmt.{digits}
-use Rattle.dbtg_program.specs.declared.program.End.TheVariants.{Assert, Size}
+use Rattle.dbtg_schema.specs.Lists.{Lists}
+use Rattle.dbtg_cells.specs.declared.key.Value.TheVariants.{Num}
+use Rattle.dbtg_program.specs.declared.program.Condition.TheVariants.{Compare, Status}
+use Rattle.dbtg_program.specs.declared.program.End.TheVariants.{Assert, Astray, Size}
+use Rattle.dbtg_program.specs.declared.program.Operand.TheVariants.{Field, Literal}
+use Rattle.dbtg_program.specs.declared.program.Program.{Program}
+use Rattle.dbtg_program.specs.declared.program.Relation.TheVariants.{Greater}
+use Rattle.dbtg_program.specs.declared.program.Sentence.{Sentence}
+use Rattle.dbtg_program.specs.declared.program.Sentence.TheVariants as sentence
+use Rattle.dbtg_program.specs.States.{ProgramState}
 use Rattle.dbtg_explore.specs.declared.explored.Endless.{Endless}
 use Rattle.dbtg_explore.specs.declared.replies.Reply.{Reply}
-use Rattle.dbtg_exploring.specs.Statuses.{right_number, statuses_text, written}
-use Rattle.dbtg_exploring.specs.Texts.{count_text, endless_text, failure_text, result_head, with_turns}
+use Rattle.dbtg_exploring.specs.declared.setting.Exploring.{Exploring}
+use Rattle.dbtg_exploring.specs.Failing.{failure_text, sentence_of, written}
+use Rattle.dbtg_exploring.specs.Statuses.{right_number, statuses_text}
+use Rattle.dbtg_exploring.specs.Texts.{count_text, endless_text, result_head}
+use Rattle.dbtg_exploring.specs.Turning.{with_turns}
 
 -- a way round that begins after two given turns
 abbrev pub way : Endless
@@ -23,12 +35,43 @@ ways : endless_text (3 ∷ 1 ∷ []) (Some way) ++ endless_text [] (Some at_once
 unfolding digits with_turns
 ways = refl
 
--- a failure after given turns, and one before any turn
-failures :
-    failure_text (1 ∷ []) (record { failure = record { unit = 2; how = Assert 12 }; turns = 1 ∷ 2 ∷ [] }) ++ failure_text [] (record { failure = record { unit = 3; how = Size 9 }; turns = [] })
+-- a failure after given turns, and one before any turn; there are no programs here whose sentences could follow
+failures : (schema : Lists) (asked : Exploring)
+    → failure_text schema [] [] (1 ∷ []) asked (record { failure = record { unit = 2; how = Assert 12 }; turns = 1 ∷ 2 ∷ [] }) ++ failure_text schema [] [] [] asked (record { failure = record { unit = 3; how = Size 9 }; turns = [] })
     ≡ codes "fails 2 ASSERT line 12" ++ 10 ∷ codes "turns 1*2 2" ++ 10 ∷ codes "fails 3 SIZE line 9" ++ 10 ∷ codes "turns" ++ 10 ∷ []
 unfolding digits with_turns
-failures = refl
+failures schema asked = refl
+
+-- THE SENTENCE AT WHICH A PROGRAM FAILS
+
+-- a program with this one sentence, in its line 2
+abbrev pub with_sentence : Sentence → Program
+with_sentence s = record { lines = record { number = 2; sentence = s } ∷ []; fields = []; records = [] }
+
+-- it stands there, its field has the value 8, and the last status was 0505
+abbrev pub standing : ProgramState
+standing = record { at = 0; values = Num 8 ∷ []; status = 505 }
+
+-- a question, with the value of its field
+asks : sentence_of (codes "left.program") (codes "GET\n ASSERT LEFT NOT > 7.\n") (with_sentence (sentence.Assert (Compare (Field 0) true Greater (Literal (Num 7))))) standing (Assert 2)
+    ≡ codes "left.program:2: ASSERT LEFT NOT > 7 (8 NOT > 7)" ++ 10 ∷ []
+unfolding digits
+asks = refl
+
+-- a question for the status
+asks_for_status : sentence_of (codes "a") (codes "GET\nASSERT STATUS = 0000") (with_sentence (sentence.Assert (Status false 0))) standing (Assert 2) ≡ codes "a:2: ASSERT STATUS = 0000 (0505 = 0000)" ++ 10 ∷ []
+unfolding digits
+asks_for_status = refl
+
+-- a reckoning that does not fit: what is subtracted stands second
+reckons : sentence_of (codes "a") (codes "GET\nSUBTRACT 9 FROM LEFT") (with_sentence (sentence.Subtract (Literal (Num 9)) 0)) standing (Size 2) ≡ codes "a:2: SUBTRACT 9 FROM LEFT (8 - 9)" ++ 10 ∷ []
+unfolding digits
+reckons = refl
+
+-- one that is astray has gone on from its last sentence
+goes_astray : sentence_of (codes "a") (codes "GET\nGO TO ON") (with_sentence (sentence.GoTo 0)) standing (Astray 2) ≡ codes "a:2: GO TO ON" ++ 10 ∷ []
+unfolding digits
+goes_astray = refl
 
 heads : result_head 1 (1 ∷ 1 ∷ 2 ∷ []) ++ result_head 2 [] ≡ codes "result 1" ++ 10 ∷ codes "turns 1*2 2" ++ 10 ∷ codes "result 2" ++ 10 ∷ codes "turns" ++ 10 ∷ []
 unfolding digits with_turns

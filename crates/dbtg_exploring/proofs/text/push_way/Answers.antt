@@ -1,6 +1,6 @@
 use Rattle.std.proofs.Common.{◌++◌, ℕ, List, [], ◌∷◌, ap, ◌∙◌}
 use Rattle.std.specs.Prelude.{codes}
-use Rattle.dbtg_exploring.specs.Texts.{with_turns}
+use Rattle.dbtg_exploring.specs.Turning.{with_turns}
 use Rattle.dbtg_exploring.proofs.Results.{texts_behind}
 use Rattle.dbtg_exploring.proofs.text.push_way.Goals as goal
 

@@ -1,5 +1,5 @@
 use Rattle.std.proofs.lemmas.Str.Ascii.{trim_ascii_start_is}
-use Rattle.dbtg_exploring.proofs.statuses.unindented.Goals as goal
+use Rattle.dbtg_exploring.proofs.failing.unindented.Goals as goal
 
 pub returns : goal.returns
 returns c = trim_ascii_start_is c.args.line.now c.trim_ascii_start.result.now c.trim_ascii_start.ensures.value
