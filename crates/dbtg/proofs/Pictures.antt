@@ -1,78 +1,89 @@
--- The picture of what was read is the one of what the texts say.
-use Rattle.std.proofs.Common.{◌≡◌, ℕ, Bool, false, true, List, ◌++◌, length, map, ap, sym, ◌∙◌, subst}
+-- The picture of scripts that were read is the one of what the texts say; and what the units of a run made can be pictured.
+use Rattle.std.proofs.Common.{◌≡◌, ℕ, Bool, false, true, List, [], ◌∷◌, ◌++◌, length, map, refl, ap, sym, ◌∙◌, subst}
+use Rattle.std.specs.Prelude.{◌==◌, ◌&&◌, if◌then◌else◌, filter}
+use Rattle.std.specs.List.{list_all, range_with_len}
+use Rattle.std.proofs.lemmas.Bool.{and_parts}
+use Rattle.std.proofs.lemmas.List.FromFn.{length-map-range_with_len}
 use Rattle.dbtg_schema.specs.Lists.{Lists}
 use Rattle.dbtg_unit.specs.declared.moves.Move.{Move}
 use Rattle.dbtg_unit.specs.declared.statement.Statement.{Statement}
+use Rattle.dbtg_unit.specs.declared.unit.Entry.{Entry}
+use Rattle.dbtg_unit.specs.Database.Statements.Fits.{fits}
+use Rattle.dbtg_unit.specs.Database.Laws.Replay.{entries_of}
 use Rattle.dbtg_script.specs.Statements.{script}
-use Rattle.dbtg_step.specs.declared.results.Run.{Run}
-use Rattle.dbtg_step.specs.Core.Turns.{IsRunByTurns}
+use Rattle.dbtg_step.specs.Laws.{scripts_fit}
+use Rattle.dbtg_command.specs.declared.fault.Fault.{Fault}
 use Rattle.dbtg_command.specs.declared.place.TextPlace.{TextPlace}
-use Rattle.dbtg_command.specs.declared.order.Order.{Order}
-use Rattle.dbtg_command.specs.declared.order.Order.TheVariants.{Moves, Serial, Turns}
+use Rattle.dbtg_command.specs.declared.order.Order.TheVariants.{Moves}
+use Rattle.dbtg_command.specs.declared.order.OrderKind.{OrderKind}
 use Rattle.dbtg_command.specs.declared.order.OrderKind.TheVariants as kind
-use Rattle.dbtg.specs.declared.timeline.Form.{Form}
-use Rattle.dbtg_replay.specs.Ordering.{AreFirstMoves, StandFor, first_turns, serial_turns}
-use Rattle.dbtg.specs.Picturing.{AreInOrder, IsPictured, TimelineHeld, has_events, picture}
-use Rattle.dbtg_command.specs.Refusals.{AcceptsOrder, is_count}
-use Rattle.dbtg_command.specs.Sources.{HoldsOrder, ReadMoves, ReadSchema, ReadScripts, ReadTurns, kind_of}
+use Rattle.dbtg_command.specs.Refusals.{is_count, moves_in, schema_in}
+use Rattle.dbtg_command.specs.Sources.{ReadMoves, ReadSchema, ReadScripts}
 use Rattle.dbtg_command.proofs.Public.{all_accepted, read_texts}
+use Rattle.dbtg_replay.specs.Ordering.{AreFirstMoves}
+use Rattle.dbtg_running.specs.declared.command.Printed.{Printed}
+use Rattle.dbtg_running.specs.declared.command.RunOptions.{RunOptions}
+use Rattle.dbtg_running.specs.Echoing.{statements_made}
+use Rattle.dbtg.specs.declared.timeline.Form.{Form}
+use Rattle.dbtg.specs.Picturing.{AreMoves, IsPictured, ShowsMoves, picture}
 
--- these moves are those of a run by turns
-pub stands_for : (lists : Lists) (capacity : ℕ) (scripts : List (List Statement)) (turns : List ℕ) (moves said : List Move) (given : Run) → said ≡ moves → IsRunByTurns lists capacity scripts turns moves given → StandFor lists capacity scripts turns said
-stands_for lists capacity scripts turns moves said given e run = (given, subst (λ ms. IsRunByTurns lists capacity scripts turns ms given) (sym e) run)
+-- BY MOVES
 
-picture_is_made : (holds : TextPlace → List ℕ → Type 0) (lists : Lists) (count : ℕ) (order : Order (List ℕ)) (first : Bool) (form : Form) (capacity : ℕ) (out : List ℕ)
-    → is_count count ≡ true → ReadSchema holds lists → (scripts : ReadScripts holds lists count) → HoldsOrder holds order → AcceptsOrder order
-    → IsPictured lists capacity (map (script lists) scripts.texts) scripts.texts form (has_events order) first (AreInOrder first lists capacity (map
-    (script lists) scripts.texts) order) out
-    → TimelineHeld holds count (kind_of order) first capacity form out
-picture_is_made holds lists count order first form capacity out right read scripts held accepted pictured = (
-  read_texts holds lists count read scripts order held,
-  record {
-    count = ap is_count scripts.many ∙ right;
-    texts = all_accepted holds lists count read scripts;
-    order_too = accepted;
-    pictured = subst (λ (s : Lists). IsPictured s capacity (map (script s) scripts.texts) scripts.texts form (has_events order) first
-        (AreInOrder first s capacity (map (script s) scripts.texts) order) out) read.says pictured;
-  },
-)
+-- the picture of scripts, as it is said of a text of moves
+abbrev PicturedBy : Bool → List ℕ → ℕ → Form → List ℕ → Lists → List (List Statement) → List (List ℕ) → Type 0
+PicturedBy first moves capacity form out lists statements texts =
+    IsPictured lists capacity statements texts form true (AreFirstMoves first lists capacity statements) (AreMoves first lists capacity statements (moves_in moves)) out
 
--- the same for what was read, with no order, moves, or turns
-module _ (holds : TextPlace → List ℕ → Type 0) (lists : Lists) (count capacity : ℕ) (first : Bool) (form : Form) (out : List ℕ) (right : is_count count ≡ true) (read : ReadSchema holds lists) (scripts : ReadScripts holds lists count)
-    (statements : List (List Statement)) (same : statements ≡ map (script lists) scripts.texts) (texts : List (List ℕ)) (are : texts ≡ scripts.texts) where
-  pictures_in : (order : Order (List ℕ)) → HoldsOrder holds order → AcceptsOrder order
-      → IsPictured lists capacity statements texts form (has_events order) first (AreInOrder first lists capacity statements order) out
-      → TimelineHeld holds count (kind_of order) first capacity form out
-  pictures_in order held accepted pictured =
-      let of_all = subst (λ ss. IsPictured lists capacity ss texts form (has_events order) first
-      (AreInOrder first lists capacity ss order) out) same pictured in
-      picture_is_made holds lists count order first form capacity out right read scripts held accepted
-      (subst (λ ts. IsPictured lists capacity (map (script lists) scripts.texts) ts form (has_events order) first (AreInOrder first lists capacity (map
-      (script lists) scripts.texts) order) out) are of_all)
-
-  pub pictures_serially : (given : List ℕ) → given ≡ serial_turns 1 statements
-      → IsPictured lists capacity statements texts form false first (StandFor lists capacity statements (first_turns first statements ++ given)) out
-      → TimelineHeld holds count kind.Serial first capacity form out
-  pictures_serially given e pictured =
-      pictures_in Serial tt tt (subst (λ us. IsPictured lists capacity statements texts form false first (StandFor lists capacity statements
-      (first_turns first statements ++ us)) out) e pictured)
-
-  pub pictures_moves : (moves before used : List Move) (passed : ℕ) → ReadMoves holds moves → AreFirstMoves first lists capacity statements before → used
-      ≡ before ++ moves → passed ≡ length before
-      → out ≡ picture form lists capacity statements texts true passed used → TimelineHeld holds count kind.Moves first capacity form out
-  pictures_moves moves before used passed by are_first e many is_text =
-      pictures_in (Moves by.text) by.held by.accepted (record {
+module _ (holds : TextPlace → List ℕ → Type 0) (lists : Lists) (count : ℕ) (options : RunOptions) (form : Form) (right : is_count count ≡ true) (read : ReadSchema holds lists)
+    (scripts : ReadScripts holds lists count) (statements : List (List Statement)) (same : statements ≡ map (script lists) scripts.texts) (texts : List (List ℕ)) (are : texts ≡ scripts.texts) where
+  pub shows_moves : (moves before used : List Move) (passed : ℕ) (printed : Printed) → ReadMoves holds moves → AreFirstMoves options.around.first lists options.capacity statements before
+      → used ≡ before ++ moves → passed ≡ length before → printed.text.items ≡ picture form lists options.capacity statements texts true passed used → printed.failed ≡ false → printed.beside.items ≡ []
+      → ShowsMoves holds count options form printed
+  shows_moves moves before used passed printed by are_first e many is_text failed beside =
+      let first = options.around.first in
+      let Pictured = PicturedBy first by.text options.capacity form printed.text.items in
+      let made : Pictured lists statements texts = record {
         moves = used;
         are = (before, are_first, e ∙ ap (λ (ms : List Move). before ++ ms) by.says);
-        before = passed;
-        are_before = (before, are_first, many);
-        is_text = is_text;
-      })
+        before = before;
+        are_before = are_first;
+        is_text = is_text ∙ ap (λ (n : ℕ). picture form lists options.capacity statements texts true n used) many;
+      } in
+      let of_read = subst (λ (ts : List (List ℕ)). Pictured lists (map (script lists) scripts.texts) ts) are (subst (λ (ss : List (List Statement)). Pictured lists ss texts) same made) in
+      record {
+        texts = read_texts holds lists count read scripts (Moves by.text) by.held;
+        moves = by.text;
+        moves_are = refl;
+        is_timeline = record {
+          count = ap is_count scripts.many ∙ right;
+          texts = all_accepted holds lists count read scripts;
+          moves_too = by.accepted;
+          pictured = subst (λ (s : Lists). Pictured s (map (script s) scripts.texts) scripts.texts) read.says of_read;
+        };
+        failed_is = failed;
+        beside_is = beside;
+      }
 
-  pub pictures_turns : (turns given : List ℕ) → ReadTurns holds turns → given ≡ turns
-      → IsPictured lists capacity statements texts form false first (StandFor lists capacity statements (first_turns first statements ++ given)) out
-      → TimelineHeld holds count kind.Turns first capacity form out
-  pictures_turns turns given by same_turns pictured =
-      pictures_in (Turns by.text) by.held by.accepted
-      (subst (λ us. IsPictured lists capacity statements texts form false first (StandFor lists capacity statements (first_turns first statements
-      ++ us)) out) (same_turns ∙ by.says) pictured)
+-- OF PROGRAMS
+
+made_fit : (schema : Lists) (u : ℕ) (es : List Entry) → list_all (λ e. fits schema e.statement) es ≡ true → list_all (fits schema) (map (λ e. e.statement) (entries_of u es)) ≡ true
+made_fit schema u [] h = refl
+made_fit schema u (e ∷ es) h = let parts = and_parts (fits schema e.statement) (list_all (λ x. fits schema x.statement) es) h in by (e.unit == u) parts.0 (made_fit schema u es parts.1) where
+  by : (own : Bool) → fits schema e.statement ≡ true → list_all (fits schema) (map (λ x. x.statement) (entries_of u es)) ≡ true
+      → list_all (fits schema) (map (λ x. x.statement) (if own then e ∷ entries_of u es else entries_of u es)) ≡ true
+  by true one rest = ap (λ b. b && list_all (fits schema) (map (λ x. x.statement) (entries_of u es))) one ∙ rest
+  by false one rest = rest
+
+each_fits : (schema : Lists) (us : List ℕ) (es : List Entry) → list_all (λ e. fits schema e.statement) es ≡ true
+    → list_all (list_all (fits schema)) (map (λ u. map (λ e. e.statement) (entries_of u es)) us) ≡ true
+each_fits schema [] es h = refl
+each_fits schema (u ∷ us) es h =
+    ap (λ b. b && list_all (list_all (fits schema)) (map (λ v. map (λ e. e.statement) (entries_of v es)) us)) (made_fit schema u es h) ∙ each_fits schema us es h
+
+-- the statements of a history fit
+pub statements_fit : (schema : Lists) (n : ℕ) (es : List Entry) → list_all (λ e. fits schema e.statement) es ≡ true → scripts_fit schema (statements_made n es) ≡ true
+statements_fit schema n es h = each_fits schema (range_with_len 1 n) es h
+
+-- each unit has its statements
+pub as_many : (n : ℕ) (es : List Entry) → length (statements_made n es) ≡ n
+as_many n es = length-map-range_with_len (λ (u : ℕ). map (λ (e : Entry). e.statement) (entries_of u es)) 1 n

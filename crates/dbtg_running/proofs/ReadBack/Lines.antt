@@ -172,6 +172,7 @@ verb_makes_none schema program state line text ws keyword.Stop s h = absurd cc
 verb_makes_none schema program state line text ws keyword.Status s h = absurd cc
 verb_makes_none schema program state line text ws keyword.Not s h = absurd cc
 verb_makes_none schema program state line text ws keyword.Is s h = absurd cc
+verb_makes_none schema program state line text ws keyword.Run s h = absurd cc
 
 -- THE LINE OF A STATEMENT
 

@@ -1,5 +1,5 @@
 -- The words and the values that the lines of a program hold can be spelled in a line.
-use Rattle.std.proofs.Common.{◌≡◌, ℕ, ◌^◌, Bool, true, false, ◌&&◌, ◌||◌, List, [], ◌∷◌, length, map, Option, Some, None, refl, sym, subst, ◌∙◌, arith}
+use Rattle.std.proofs.Common.{◌≡◌, ℕ, ◌^◌, Bool, true, false, not, ◌&&◌, ◌||◌, List, [], ◌∷◌, length, map, Option, Some, None, refl, sym, subst, ◌∙◌, arith}
 use Rattle.std.specs.Prelude.{codes, if◌then◌else◌, nat_le, nat_lt, option_map, unwrap_or}
 use Rattle.std.specs.List.{flat_map, list_all, list_any}
 use Rattle.std.specs.Str.{bytes_eq}
@@ -23,7 +23,7 @@ use Rattle.dbtg_program.specs.declared.program.Sentence.TheVariants.{Filled, Sta
 use Rattle.dbtg_program.specs.declared.program.Word.TheVariants as word
 use Rattle.dbtg_program.specs.Faults.{literal_value, words_at_first}
 use Rattle.dbtg_program.specs.Reading.{field_in, operand_of, said_by, sentence_with, statement_in}
-use Rattle.dbtg_program.specs.Sentences.{Text, apart, as_it_is, begins, field_named, fields_in, is_equals, is_spelled, marked, marked_from, parts, text_in, verb_of, with_signs, word_at, word_of, words_in}
+use Rattle.dbtg_program.specs.Sentences.{Text, apart, as_it_is, begins, field_named, fields_in, is_equals, is_spelled, joined, marked, marked_from, parts, text_in, verb_of, with_signs, word_at, word_of, words_in}
 use Rattle.dbtg_program.specs.Values.{stripped}
 use Rattle.dbtg_trace.proofs.Public.{number_is_low}
 use Rattle.dbtg_running.proofs.ReadBack.Values.{at_or, can_say, operand_says, sentence_says, stripped_says, word_says}
@@ -60,11 +60,26 @@ apart_texts (w ∷ ws) h =
     one equals e = refl
     one (literal t) e = and_from _ _ e refl
 
+joined_texts : (ws : List Token) → list_all text_says ws ≡ true → list_all text_says (joined ws) ≡ true
+joined_texts [] h = refl
+joined_texts (w ∷ []) h = h
+joined_texts (w ∷ v ∷ ws) h =
+    let p = and_parts (text_says w) (list_all text_says (v ∷ ws)) h in
+    let q = and_parts (text_says v) (list_all text_says ws) p.1 in
+    by p.0 (joined_texts ws q.1) (joined_texts (v ∷ ws) p.1) (is_equals v) (is_spelled (codes "<") w) (is_spelled (codes ">") w)
+  where
+    by : text_says w ≡ true → list_all text_says (joined ws) ≡ true → list_all text_says (joined (v ∷ ws)) ≡ true → (e l g : Bool)
+        → list_all text_says (unwrap_or (option_map (λ sign. sign ∷ joined ws) (if not e then None else (if l then Some (plain (codes "<=")) else (if g then Some (plain (codes ">=")) else None)))) (w ∷ joined (v ∷ ws))) ≡ true
+    by own behind further false l g = and_from _ _ own further
+    by own behind further true true g = behind
+    by own behind further true false true = behind
+    by own behind further true false false = and_from _ _ own further
+
 signed_texts : (ws : List Token) → list_all is_word ws ≡ true → list_all text_says (with_signs ws) ≡ true
 signed_texts ws h = by (begins keyword.If ws || begins keyword.Assert ws)
   where
-    by : (k : Bool) → list_all text_says (if k then flat_map apart ws else ws) ≡ true
-    by true = apart_texts ws (texts_of ws h)
+    by : (k : Bool) → list_all text_says (if k then joined (flat_map apart ws) else ws) ≡ true
+    by true = joined_texts (flat_map apart ws) (apart_texts ws (texts_of ws h))
     by false = texts_of ws h
 
 -- OPERANDS
@@ -103,18 +118,31 @@ verb_says text ws keyword.Stop h = refl
 verb_says text ws keyword.Status h = refl
 verb_says text ws keyword.Not h = refl
 verb_says text ws keyword.Is h = refl
+verb_says text ws keyword.Run h = refl
 
 -- STATEMENTS HAVE NO SIGNS OF CONDITIONS
 
+if_is_first : (ws : List Token) → verb_of (joined (plain (codes "IF") ∷ ws)) ≡ Some keyword.If
+if_is_first [] = refl
+if_is_first (plain t ∷ ws) = refl
+if_is_first (equals ∷ ws) = refl
+if_is_first (literal t ∷ ws) = refl
+
+assert_is_first : (ws : List Token) → verb_of (joined (plain (codes "ASSERT") ∷ ws)) ≡ Some keyword.Assert
+assert_is_first [] = refl
+assert_is_first (plain t ∷ ws) = refl
+assert_is_first (equals ∷ ws) = refl
+assert_is_first (literal t ∷ ws) = refl
+
 if_has_verb : (t : List ℕ) (ws : List Token) → t ≡ codes "IF" → verb_of (with_signs (plain t ∷ ws)) ≡ None → ⊥
 if_has_verb t ws is none =
-    let has : verb_of (with_signs (plain (codes "IF") ∷ ws)) ≡ Some keyword.If = refl in
+    let has : verb_of (with_signs (plain (codes "IF") ∷ ws)) ≡ Some keyword.If = if_is_first (flat_map apart ws) in
     let wrong : Some keyword.If ≡ None = sym has ∙ subst (λ (x : List ℕ). verb_of (with_signs (plain x ∷ ws)) ≡ None) is none in
     absurd cc
 
 assert_has_verb : (t : List ℕ) (ws : List Token) → t ≡ codes "ASSERT" → verb_of (with_signs (plain t ∷ ws)) ≡ None → ⊥
 assert_has_verb t ws is none =
-    let has : verb_of (with_signs (plain (codes "ASSERT") ∷ ws)) ≡ Some keyword.Assert = refl in
+    let has : verb_of (with_signs (plain (codes "ASSERT") ∷ ws)) ≡ Some keyword.Assert = assert_is_first (flat_map apart ws) in
     let wrong : Some keyword.Assert ≡ None = sym has ∙ subst (λ (x : List ℕ). verb_of (with_signs (plain x ∷ ws)) ≡ None) is none in
     absurd cc
 
@@ -128,7 +156,7 @@ no_signs (plain t ∷ ws) none = by (bytes_eq t (codes "IF")) (bytes_eq t (codes
     by : (i a : Bool) → bytes_eq t (codes "IF") ≡ i → bytes_eq t (codes "ASSERT") ≡ a → with_signs (plain t ∷ ws) ≡ plain t ∷ ws
     by true a e f = absurd (if_has_verb t ws ((bytes_eq-Decides t (codes "IF")).0 e) none)
     by false true e f = absurd (assert_has_verb t ws ((bytes_eq-Decides t (codes "ASSERT")).0 f) none)
-    by false false e f = (λ i. if e i || f i then flat_map apart (plain t ∷ ws) else plain t ∷ ws)
+    by false false e f = (λ i. if e i || f i then joined (flat_map apart (plain t ∷ ws)) else plain t ∷ ws)
 
 -- WORDS OF STATEMENTS
 
