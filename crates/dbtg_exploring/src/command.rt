@@ -290,8 +290,8 @@ fn explore_known<S: Source, W: Watch>(
     requires counted { is_count (S.count source.now) ≡ true }
     requires schema { ReadSchema (S.holds source.now) known.now }
     requires sound { IsSound known.now }
-    ensures done { IfOk result (λ said. ExploresHeld (S.holds source.now) (S.count source.now) (S.order source.now) asked said) }
-    ensures refused { IfErr result (λ fault. ToldOfExploring (S.holds source.now) (S.fails source.now) fault (S.count source.now) (S.order source.now) asked) }
+    ensures done { IfOk result (λ said. ExploresHeld (S.holds source.now) (S.count source.now) (S.order source.now) asked.entry said) }
+    ensures refused { IfErr result (λ fault. ToldOfExploring (S.holds source.now) (S.fails source.now) fault (S.count source.now) (S.order source.now) asked.entry) }
 {
     let programs = read_programs(alloc, source, known)?;
     let turns = turns_wanted(alloc, source)?;
@@ -314,8 +314,8 @@ pub fn explore_programs<S: Source, W: Watch>(
     source: &S,
     asked: Exploring,
 ) -> Result<Said, Fault>
-    ensures done { IfOk result (λ said. ExploresHeld (S.holds source.now) (S.count source.now) (S.order source.now) asked said) }
-    ensures refused { IfErr result (λ fault. ToldOfExploring (S.holds source.now) (S.fails source.now) fault (S.count source.now) (S.order source.now) asked) }
+    ensures done { IfOk result (λ said. ExploresHeld (S.holds source.now) (S.count source.now) (S.order source.now) asked.entry said) }
+    ensures refused { IfErr result (λ fault. ToldOfExploring (S.holds source.now) (S.fails source.now) fault (S.count source.now) (S.order source.now) asked.entry) }
 {
     check_count(source.count())?;
     let known = read_schema(alloc, source)?;
