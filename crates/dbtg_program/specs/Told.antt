@@ -3,10 +3,10 @@ use Rattle.std.specs.Prelude.{ℕ, Bool, ◌&&◌, ◌==◌, List, [], ◌∷◌
 use Rattle.std.specs.List.{find, flat_map, position_from}
 use Rattle.dbtg_schema.specs.Lists.{Lists}
 use Rattle.dbtg_schema.specs.Lookups.{first, some_and}
+use Rattle.dbtg_schema.specs.declared.shape.Picture.{Picture}
 use Rattle.dbtg_script.specs.declared.limits.TheConstants.{SCRIPT_BYTES}
 use Rattle.dbtg_script.specs.Tokens.{Token}
 use Rattle.dbtg_program.specs.declared.grammar.Keyword.{Keyword}
-use Rattle.dbtg_program.specs.declared.grammar.Keyword.TheVariants as keyword
 use Rattle.dbtg_program.specs.declared.grammar.Kind.{Kind}
 use Rattle.dbtg_program.specs.declared.grammar.Kind.TheVariants as kind
 use Rattle.dbtg_program.specs.declared.grammar.Role.{Role}
@@ -14,7 +14,7 @@ use Rattle.dbtg_program.specs.declared.grammar.Role.TheVariants as role
 use Rattle.dbtg_program.specs.declared.grammar.FormPlace.{FormPlace}
 use Rattle.dbtg_program.specs.Faults.{said, unknown_word, words_at_first}
 use Rattle.dbtg_program.specs.Grammar.{fits, form}
-use Rattle.dbtg_program.specs.Sentences.{Holding, Text, counters_of, is_word, marked, sentences_of, spelling, verb_of, word_at}
+use Rattle.dbtg_program.specs.Sentences.{Holding, Text, counters_of, fields_in, marked, picture_in, sentences_of, spelling, verb_of, word_at}
 use Rattle.dbtg_program.specs.Spelling.{words_text}
 
 -- WHERE A SENTENCE STOPS
@@ -118,6 +118,14 @@ abbrev pub statement_in_program : Lists → ℕ → List ℕ → List ℕ
 statement_in_program schema line bytes =
     let text = text_within schema bytes in
     unwrap_or (option_map (λ s. statement_by text s.1.words s.1.paragraph (verb_of s.1.words)) (on_line text line)) []
+
+-- the first value of the sentence on this line, behind its verb
+abbrev pub first_value_in_program : Lists → ℕ → List ℕ → Option Token
+first_value_in_program schema line bytes = option_map (λ s. word_at 1 s.1.words) (on_line (text_within schema bytes) line)
+
+-- the picture of the field that a word names
+abbrev pub picture_in_program : Lists → List ℕ → Token → Option Picture
+picture_in_program schema bytes w = picture_in (fields_in (text_within schema bytes)) w
 
 -- THE NAMES THAT THERE ARE
 

@@ -34,7 +34,7 @@ pub use reader::read_program;
 pub use spelling::push_said_words;
 pub use state::State;
 pub use told::{
-    counters_in_program, paragraphs_in_program, statement_in_program, wanted_in_program,
-    word_in_program,
+    counters_in_program, first_value_in_program, paragraphs_in_program, picture_in_program,
+    statement_in_program, wanted_in_program, word_in_program,
 };
 pub use word::is_own_name;

@@ -6,7 +6,7 @@ ghost use Rattle.dbtg_script.specs.Tokens.{view};
 ghost use Rattle.dbtg_program.specs.Faults.{words_at_first};
 ghost use Rattle.dbtg_program.specs.Sentences.{counters_of, verb_of};
 ghost use Rattle.dbtg_program.specs.Spelling.{words_text};
-ghost use Rattle.dbtg_program.specs.Told.{counters_in_program, in_words, met_by, name_in_words, on_line, paragraphs_in_program, statement_by, statement_in_program, things, wanted_by, wanted_in_program, word_in_program};
+ghost use Rattle.dbtg_program.specs.Told.{counters_in_program, first_value_in_program, in_words, met_by, name_in_words, on_line, paragraphs_in_program, picture_in_program, statement_by, statement_in_program, things, wanted_by, wanted_in_program, word_in_program};
 ghost use Rattle.dbtg_program.specs.Inside.Views.{view_holding};
 ghost use Rattle.std.specs.List.{flat_map, position_from};
 ghost use Rattle.std.specs.Prelude.{◌≡◌, ◌==◌, ◌≤◌, ◌++◌, [], IfOk, OnOk, length, map, option_map, option_to_list, take};
@@ -18,7 +18,7 @@ use crate::spelling::push_said_words;
 use crate::stopping::{stop_with, unknown_in};
 use crate::text::Text;
 use crate::word::{begins, text_in, verb_of, word_at};
-use dbtg_schema::Schema;
+use dbtg_schema::{Picture, Schema};
 use dbtg_script::{SCRIPT_BYTES, Token};
 use std::alloc::{AllocError, Global};
 
@@ -245,6 +245,37 @@ pub fn statement_in_program(
         }
         None => Ok(Vec::new(alloc)),
     }
+}
+
+/// The first value of the sentence on this line of a program, behind its verb.
+pub fn first_value_in_program<'a>(
+    alloc: Global,
+    schema: &'a Schema,
+    bytes: &'a [u8],
+    line: u64,
+) -> Result<Option<Token<'a>>, AllocError>
+    ensures { IfOk result (λ word. option_map view word ≡ first_value_in_program schema.now line bytes.now) }
+{
+    let text = Text::gather(alloc, schema, within(bytes))?;
+    match on_line(&text, line) {
+        Some((_, sentence)) => {
+            let words = words_in(alloc, &sentence)?;
+            Ok(Some(word_at(words.as_slice(), 1)))
+        }
+        None => Ok(None),
+    }
+}
+
+/// The picture of the field of a program that a word names.
+pub fn picture_in_program(
+    alloc: Global,
+    schema: &Schema,
+    bytes: &[u8],
+    word: Token,
+) -> Result<Option<Picture>, AllocError>
+    ensures { IfOk result (λ picture. picture ≡ picture_in_program schema.now bytes.now (view word.entry)) }
+{
+    Ok(Text::gather(alloc, schema, within(bytes))?.picture(word))
 }
 
 fn push_counter_names<'a>(
