@@ -1,10 +1,10 @@
 -- Hints for a word that the grammar does not want: that capital letters are missing, or what to write in its place.
-use Rattle.std.specs.Prelude.{ℕ, ◌==◌, ◌&&◌, ◌||◌, Bool, List, [], Option, codes, find, length, option_map, slice_get, unwrap_or, if◌then◌else◌}
+use Rattle.std.specs.Prelude.{ℕ, ◌==◌, ◌&&◌, ◌||◌, Bool, List, [], ◌∷◌, Option, codes, find, length, option_map, slice_get, unwrap_or, if◌then◌else◌}
 use Rattle.std.specs.List.{list_any}
 use Rattle.std.specs.Str.{bytes_eq, str_eq_ignore_ascii_case}
 use Rattle.dbtg_script.specs.Lines.{lines}
 use Rattle.dbtg_script.specs.Printing.Spelling.{has_byte, in_front}
-use Rattle.dbtg_explain.specs.declared.hints.TheConstants.{HINTS}
+use Rattle.dbtg_explain.specs.declared.hints.TheConstants.{HINTS, HINTS_WANTED}
 use Rattle.dbtg_explain.specs.declared.idms.TheConstants.{WORDS_THERE}
 use Rattle.dbtg_explain.specs.Explaining.{field}
 
@@ -16,9 +16,20 @@ row_of_word word table = find (λ row. bytes_eq (in_front 124 row) word) (lines 
 abbrev pub lacks_capitals : List (List ℕ) → List ℕ → Bool
 lacks_capitals wanted word = list_any (λ thing. str_eq_ignore_ascii_case thing word) wanted
 
--- the hint for a word, if these are wanted
+-- the key of a word: what begins with a parenthesis has the hint of one
+abbrev pub word_key : List ℕ → List ℕ
+word_key [] = []
+word_key (b ∷ bs) = if b == 40 then codes "(" else b ∷ bs
+
+-- the hint for what is wanted
+abbrev pub wanted_hint : List ℕ → List ℕ
+wanted_hint thing = unwrap_or (option_map (field 1) (row_of_word thing HINTS_WANTED.now)) []
+
+-- the hint for a word, if these are wanted; for a word without one that for what is wanted first
 abbrev pub hint_for : List (List ℕ) → List ℕ → List ℕ
-hint_for wanted word = if lacks_capitals wanted word then codes "; write it in capital letters" else unwrap_or (option_map (field 1) (row_of_word word HINTS.now)) []
+hint_for wanted word =
+    if lacks_capitals wanted word then codes "; write it in capital letters"
+    else unwrap_or (option_map (field 1) (row_of_word (word_key word) HINTS.now)) (wanted_hint (unwrap_or (slice_get wanted 0) []))
 
 -- FOR THE WORDS OF A SCHEMA OF IDMS
 

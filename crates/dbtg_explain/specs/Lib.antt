@@ -4,6 +4,7 @@ pub mod Verbs
 pub mod Hints
 pub mod Offered
 pub mod Saying
+pub mod Particulars
 pub mod Misfits
 pub mod InProgram
 pub mod Units

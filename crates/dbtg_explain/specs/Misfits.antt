@@ -1,5 +1,5 @@
 -- The explanation of a word that the grammar does not want, or of a line or a text that ends too early, and so of the word of any fault.
-use Rattle.std.specs.Prelude.{ℕ, ◌==◌, ◌||◌, false, List, [], ◌∷◌, codes, length, nat_lt, if◌then◌else◌}
+use Rattle.std.specs.Prelude.{ℕ, ◌==◌, ◌||◌, false, true, List, [], ◌∷◌, codes, length, nat_lt, if◌then◌else◌}
 use Rattle.dbtg_schema.specs.Lists.{Lists}
 use Rattle.dbtg_schema.specs.Texts.SchemaFaults.{refusal}
 use Rattle.dbtg_schema.specs.Texts.Wanted.{wanted_in_schema}
@@ -9,6 +9,7 @@ use Rattle.dbtg_explain.specs.Explaining.{filled}
 use Rattle.dbtg_explain.specs.FaultyWord.{laid_out, line_at, line_in}
 use Rattle.dbtg_explain.specs.Hints.{hint_for, schema_hint}
 use Rattle.dbtg_explain.specs.Offered.{separated}
+use Rattle.dbtg_explain.specs.Particulars.{either, of_bytes, particulars}
 use Rattle.dbtg_explain.specs.Saying.{faulty_text, said_of_name, said_of_schema_name}
 
 -- the form for a word that does not fit: the first word of a line must begin a statement, otherwise it has fault 2
@@ -52,8 +53,9 @@ said_of_schema_misfit text =
 
 -- the explanation of the word of a script's line that is at fault
 abbrev pub said_of_word : Lists → ℕ → List ℕ → List ℕ
-said_of_word schema number line = if number == 2 || number == 3 then said_of_line_misfit schema number line else said_of_name schema number line
+said_of_word schema number line = if number == 2 || number == 3 then said_of_line_misfit schema number line else either (particulars schema number line) (said_of_name schema number line)
 
 -- the explanation of the word of a schema's text that is at fault
 abbrev pub said_of_schema_word : ℕ → List ℕ → List ℕ
-said_of_schema_word number text = if number == 3 then said_of_schema_misfit text else said_of_schema_name number text
+said_of_schema_word number text = if number == 3 then said_of_schema_misfit text
+    else (if number == 1 then of_bytes true (line_at (line_in 1 (refusal text)) text) else said_of_schema_name number text)

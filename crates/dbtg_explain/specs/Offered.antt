@@ -79,6 +79,10 @@ last_of words = unwrap_or (slice_get words (length words - 1)) []
 abbrev pub type_wanted : List (List ℕ) → List ℕ
 type_wanted front = last_of (if bytes_eq (last_of front) (codes "KEY") then words_behind (codes "MEMBER") front else names_of_entries (codes "RECORD") front)
 
+-- what the word of a fault with this number belongs to: of a misplaced KEY the set, otherwise the record type whose item is wanted
+abbrev pub holder_of : ℕ → List (List ℕ) → List ℕ
+holder_of number front = if number == 15 then last_of (names_of_entries (codes "SET") front) else type_wanted front
+
 -- the names that a fault with this number asks for: of the areas or record types before the word; of the items of a record type, each
 -- after its level; or of all sets
 abbrev pub names_in : ℕ → List ℕ → List (List ℕ) → List (List ℕ) → List (List ℕ)

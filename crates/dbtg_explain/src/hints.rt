@@ -1,7 +1,7 @@
 //! Hints for words that the grammar does not want: words of another language, and what to write in their place.
 ghost use Rattle.std.specs.Prelude.{◌≡◌, [], map, option_map, slice_get, unwrap_or};
 ghost use Rattle.std.specs.Str.{str_eq_ignore_ascii_case};
-ghost use Rattle.dbtg_explain.specs.Hints.{hint_for, hint_there, lacks_capitals, misfit_key, name_hint, name_key, row_of_word, schema_hint};
+ghost use Rattle.dbtg_explain.specs.Hints.{hint_for, hint_there, lacks_capitals, misfit_key, name_hint, name_key, row_of_word, schema_hint, wanted_hint, word_key};
 
 use crate::idms::WORDS_THERE;
 use crate::row::{field, next_row};
@@ -65,9 +65,17 @@ DB-REC-NOT-FOUND|; here STATUS = 0326
 VALUE|; leave it out: a counter begins with 0, or with the empty text
 COMP|; leave it out
 COMP-3|; leave it out: a number is 9(n)
+,|; leave the comma out
+(|; leave the parentheses out
 *|; a note has its star at the beginning of its line, and a schema has no notes
 --|; a note begins with a star, and a schema has no notes
 #|; a note begins with a star, and a schema has no notes";
+
+// What is wanted, and the hint for it if the word has none.
+const HINTS_WANTED: &str = "\
+a number|; a number has digits alone: no sign, no point, no comma
+a key|; a key is a record type, a colon and a number
+four digits|; as 0307, without quotes";
 
 fn row_of_word(table: &'static str, word: &[u8]) -> Option<&'static [u8]>
     ensures { option_map (λ row. row.now) result ≡ row_of_word word.now table.now }
@@ -99,6 +107,24 @@ fn lacks_capitals(wanted: &[&[u8]], word: &[u8]) -> bool
     false
 }
 
+fn word_key(word: &[u8]) -> &[u8]
+    ensures { result.now ≡ word_key word.now }
+{
+    match word.split_first() {
+        Some((b'(', _)) => b"(",
+        _ => word,
+    }
+}
+
+fn wanted_hint(thing: &[u8]) -> &'static [u8]
+    ensures { result.now ≡ wanted_hint thing.now }
+{
+    match row_of_word(HINTS_WANTED, thing) {
+        Some(row) => field(row, 1),
+        None => &[],
+    }
+}
+
 /// The hint for a word that the grammar does not want, if it wants one of these.
 pub fn hint_for(wanted: &[&[u8]], word: &[u8]) -> &'static [u8]
     ensures { result.now ≡ hint_for (map (λ thing. thing.now) wanted.now) word.now }
@@ -106,9 +132,9 @@ pub fn hint_for(wanted: &[&[u8]], word: &[u8]) -> &'static [u8]
     if lacks_capitals(wanted, word) {
         return "; write it in capital letters".as_bytes();
     }
-    match row_of_word(HINTS, word) {
+    match row_of_word(HINTS, word_key(word)) {
         Some(row) => field(row, 1),
-        None => &[],
+        None => wanted_hint(first_of(wanted)),
     }
 }
 

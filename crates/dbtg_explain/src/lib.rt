@@ -9,6 +9,7 @@ mod idms;
 mod laid;
 mod misfit;
 mod offered;
+mod particular;
 mod program_word;
 mod row;
 mod schema_word;

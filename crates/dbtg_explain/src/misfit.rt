@@ -7,6 +7,7 @@ ghost use Rattle.dbtg_explain.specs.Misfits.{misfit_form, said_in_line, said_of_
 use crate::hints::{hint_for, schema_hint};
 use crate::laid::{fault_line, laid_out, line_at};
 use crate::offered::separated;
+use crate::particular::{of_bytes, particulars};
 use crate::row::push_form;
 use crate::schema_word::said_of_schema_name;
 use crate::word::{faulty_text, said_of_name};
@@ -154,7 +155,11 @@ pub fn said_of_word(
     if number == 2 || number == 3 {
         return said_of_line_misfit(alloc, schema, line, number);
     }
-    said_of_name(alloc, schema, line, number)
+    let told = particulars(alloc, schema, line, number)?;
+    if told.is_empty() {
+        return said_of_name(alloc, schema, line, number);
+    }
+    Ok(told)
 }
 
 /// The explanation of the word of a schema's text that is at fault, or of its end; empty if no single word is.
@@ -163,6 +168,10 @@ pub fn said_of_schema_word(alloc: Global, text: &[u8], number: u8) -> Result<Vec
 {
     if number == 3 {
         return said_of_schema_misfit(alloc, text);
+    }
+    if number == 1 {
+        let line = fault_line(alloc, text, 1)?;
+        return of_bytes(alloc, true, line_at(text, line));
     }
     said_of_schema_name(alloc, text, number)
 }

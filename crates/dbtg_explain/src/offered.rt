@@ -2,7 +2,7 @@
 ghost use Rattle.std.specs.List.{flat_map, prefix_len};
 ghost use Rattle.std.specs.Prelude.{◌≡◌, ◌≤◌, ◌++◌, IfOk, OnOk, codes, drop, length, map, not, option_map, take_while};
 ghost use Rattle.std.specs.Str.{bytes_eq};
-ghost use Rattle.dbtg_explain.specs.Offered.{begins_type, entry_name, names_of_entries, is_seen, items_named, last_of, listed, name_behind, names_for, names_in, seen_words, separated, type_entry, type_wanted, word_behind, words_behind};
+ghost use Rattle.dbtg_explain.specs.Offered.{begins_type, entry_name, holder_of, names_of_entries, is_seen, items_named, last_of, listed, name_behind, names_for, names_in, seen_words, separated, type_entry, type_wanted, word_behind, words_behind};
 
 use dbtg_schema::Schema;
 use std::alloc::{AllocError, Global};
@@ -256,8 +256,8 @@ pub fn last_of<'a>(words: &[&'a [u8]]) -> &'a [u8]
     }
 }
 
-/// The record type of which an item is wanted after these words: after KEY that of the last member, otherwise the last one declared.
-pub fn type_wanted<'a>(alloc: Global, front: &[&'a [u8]]) -> Result<&'a [u8], AllocError>
+// The record type of which an item is wanted after these words: after KEY that of the last member, otherwise the last one declared.
+fn type_wanted<'a>(alloc: Global, front: &[&'a [u8]]) -> Result<&'a [u8], AllocError>
     ensures { IfOk result (λ rtype. rtype.now ≡ type_wanted (map (λ word. word.now) front.now)) }
 {
     if last_of(front) == b"KEY".as_slice() {
@@ -266,6 +266,21 @@ pub fn type_wanted<'a>(alloc: Global, front: &[&'a [u8]]) -> Result<&'a [u8], Al
     }
     let types = names_of_entries(alloc, front, b"RECORD")?;
     Ok(last_of(types.as_slice()))
+}
+
+/// What the word of a fault with this number belongs to: of a misplaced KEY the set, otherwise the record type whose item is wanted.
+pub fn holder_of<'a>(
+    alloc: Global,
+    number: u8,
+    front: &[&'a [u8]],
+) -> Result<&'a [u8], AllocError>
+    ensures { IfOk result (λ name. name.now ≡ holder_of number (map (λ word. word.now) front.now)) }
+{
+    if number != 15 {
+        return type_wanted(alloc, front);
+    }
+    let sets = names_of_entries(alloc, front, b"SET")?;
+    Ok(last_of(sets.as_slice()))
 }
 
 /// The names that a fault with this number in a schema's text asks for, given the words of the text and those before the fault.

@@ -1,36 +1,34 @@
 //! The explanation of the word of a program's line that is at fault. The reader of programs says which word it is, and what it wants there.
-ghost use Rattle.std.specs.Prelude.{◌≡◌, ◌==◌, ◌++◌, ◌∷◌, [], flat_map, IfOk, OnOk, length, map, not, unwrap_or};
+ghost use Rattle.std.specs.Prelude.{◌≡◌, ◌==◌, ◌++◌, ◌∷◌, ◌||◌, [], codes, flat_map, if◌then◌else◌, IfOk, OnOk, length, map, not, unwrap_or};
 ghost use Rattle.std.specs.List.{list_any};
 ghost use Rattle.std.specs.Str.{bytes_eq};
 ghost use Rattle.dbtg_schema.specs.Lookups.{first};
-ghost use Rattle.dbtg_program.specs.Told.{counters_in_program, paragraphs_in_program, statement_in_program};
-ghost use Rattle.dbtg_explain.specs.InProgram.{counter_form, is_of_sentence, item_form, met, name_form, name_with, said_of_closed, said_of_field, said_of_item, said_of_other, said_of_plain, said_of_program_misfit, said_of_program_word, said_of_stop, said_with_wanted, types_with};
+ghost use Rattle.dbtg_program.specs.Told.{counters_in_program, statement_in_program};
+ghost use Rattle.dbtg_script.specs.Tokens.{view};
+ghost use Rattle.dbtg_explain.specs.InProgram.{counter_form, is_near, is_of_sentence, item_form, kind_text, longest, met, name_form, name_with, nearest, of_values, paragraph_form, room_told, said_at_name, said_of_closed, said_of_field, said_of_item, said_of_other, said_of_plain, said_of_program_misfit, said_of_program_word, said_of_stop, said_of_values, said_with_wanted, types_with};
 ghost use Rattle.dbtg_explain.specs.Explaining.{fault_field, filled};
 ghost use Rattle.dbtg_explain.specs.FaultyWord.{line_at};
-ghost use Rattle.dbtg_explain.specs.Hints.{hint_for};
 ghost use Rattle.dbtg_explain.specs.Misfits.{said_in_line, said_of_line_misfit, said_of_word};
 ghost use Rattle.dbtg_explain.specs.Offered.{items_named, listed};
-ghost use Rattle.dbtg_explain.specs.Saying.{form_for, said_by};
 ghost use Rattle.dbtg_explain.specs.declared.topic.Kind.TheVariants as kind;
 
 use crate::hints::hint_for;
 use crate::laid::line_at;
 use crate::misfit::{said_in_line, said_of_early_line, said_of_line_misfit, said_of_word};
 use crate::offered::{items_named, listed, names_for};
-use crate::row::push_form;
+use crate::particular::{filled, picture_text, value_told};
 use crate::topic::{Kind, advice_for, meaning_of};
-use crate::word::{said_by, written_if_any};
+use crate::word::{said_by, said_in_form, written, written_if_any};
 use dbtg_program::{
-    counters_in_program, is_own_name, paragraphs_in_program, statement_in_program,
-    wanted_in_program, word_in_program,
+    counters_in_program, first_value_in_program, is_own_name, paragraphs_in_program,
+    picture_in_program, statement_in_program, wanted_in_program, word_in_program,
 };
-use dbtg_schema::{Item, RecordType, Schema};
-use dbtg_script::{behind, ends_in_text, has_byte, in_front, is_number, trimmed};
+use dbtg_schema::{Item, Picture, RecordType, Schema};
+use dbtg_script::{Token, behind, ends_in_text, has_byte, in_front, is_number, trimmed};
 use std::alloc::{AllocError, Global};
 
-// The form for a fault's number: 0 is the word, 1 the paragraphs, 2 a hint, 3 the meaning of the fault.
+// The form for a fault's number: 0 is the word, 3 the meaning of the fault.
 const FORMS: &str = "\
-21|0 is no paragraph (paragraphs: 1)2
 22|0 is a paragraph already
 26|3
 27|3";
@@ -106,11 +104,13 @@ fn item_form(schema: &Schema, rtype: &[u8]) -> &'static str
 }
 
 // The form for a word without a period that is no field.
-fn name_form(hint: &[u8], holders: &[&[u8]]) -> &'static str
-    ensures { result.now ≡ name_form hint.now (map (λ name. name.now) holders.now) }
+fn name_form(hint: &[u8], holders: &[&[u8]], counters: &[&[u8]]) -> &'static str
+    ensures { result.now ≡ name_form hint.now (map (λ name. name.now) holders.now) (map (λ name. name.now) counters.now) }
 {
     if !hint.is_empty() {
         "0 is no field4"
+    } else if holders.is_empty() && counters.is_empty() {
+        "0 is no field: there are no counters, and no record type has such an item"
     } else if holders.is_empty() {
         "0 is no field: no counter (counters: 3), and no item of a record type"
     } else {
@@ -125,14 +125,6 @@ fn first_of<'a>(names: &[&'a [u8]]) -> &'a [u8]
         Some((name, _)) => *name,
         None => &[],
     }
-}
-
-fn filled(alloc: Global, parts: &[&[u8]], form: &'static str) -> Result<Vec<u8>, AllocError>
-    ensures { IfOk result (λ out. out.items ≡ filled (map (λ part. part.now) parts.now) form.now) }
-{
-    let mut out = Vec::new(alloc);
-    push_form(&mut out, form.as_bytes(), parts)?;
-    Ok(out)
 }
 
 fn listed_items(alloc: Global, schema: &Schema, rtype: &[u8]) -> Result<Vec<u8>, AllocError>
@@ -170,7 +162,7 @@ fn said_of_plain(
 {
     let holders = types_with(alloc, schema, word)?;
     let hint = hint_for(&[], word);
-    let form = name_form(hint, holders.as_slice());
+    let form = name_form(hint, holders.as_slice(), counters);
     let word = Vec::from_slice(alloc, word)?;
     let one = Vec::from_slice(alloc, first_of(holders.as_slice()))?;
     let all = listed(alloc, holders.as_slice())?;
@@ -290,17 +282,174 @@ fn said_of_program_misfit(
     said_of_closed(alloc, schema, text, line, wanted)
 }
 
-// The explanation of a fault with one of the forms.
-fn said_by_form(alloc: Global, text: &[u8], word: &[u8], number: u8) -> Result<Vec<u8>, AllocError>
-    ensures { IfOk result (λ out. out.items ≡ said_by (form_for number FORMS.now) word.now (word.now ∷ listed (paragraphs_in_program text.now) ∷ hint_for [] word.now ∷ fault_field kind.Program number 1 ∷ [])) }
+// Are the words equal but for one byte more, one less or another?
+fn is_near(word: &[u8], name: &[u8]) -> bool
+    ensures { result ≡ is_near word.now name.now }
 {
-    let names = paragraphs_in_program(alloc, text)?;
-    let names = listed(alloc, names.as_slice())?;
+    let Some((b, rest)) = word.split_first() else {
+        return name.len() == 1;
+    };
+    let Some((c, others)) = name.split_first() else {
+        return rest.is_empty();
+    };
+    if b == c {
+        return is_near(rest, others);
+    }
+    rest == name || word == others || rest == others
+}
+
+// The first of these names that is near to the word; nothing if there is none.
+fn nearest<'a>(word: &[u8], names: &[&'a [u8]]) -> &'a [u8]
+    ensures { result.now ≡ nearest word.now (map (λ name. name.now) names.now) }
+{
+    for name in names {
+        if is_near(word, name) {
+            return *name;
+        }
+    }
+    b""
+}
+
+// The form for a name that is no paragraph: 1 are the paragraphs, 2 is a hint, 4 the nearest.
+fn paragraph_form(names: &[&[u8]], near: &[u8]) -> &'static str
+    ensures { result.now ≡ paragraph_form (map (λ name. name.now) names.now) near.now }
+{
+    if names.is_empty() {
+        "0 is no paragraph: there are no paragraphs2"
+    } else if near.is_empty() {
+        "0 is no paragraph (paragraphs: 1)2"
+    } else {
+        "0 is no paragraph (nearest: 4; paragraphs: 1)2"
+    }
+}
+
+// The explanation of a name, or of its line, given the paragraphs.
+fn said_at_name(
+    alloc: Global,
+    names: &[&[u8]],
+    word: &[u8],
+    number: u8,
+) -> Result<Vec<u8>, AllocError>
+    ensures { IfOk result (λ out. out.items ≡ said_at_name number (map (λ name. name.now) names.now) word.now) }
+{
+    let list = listed(alloc, names)?;
+    let near = Vec::from_slice(alloc, nearest(word, names))?;
     let hint = hint_for(&[], word);
     let meaning = meaning_of(Kind::Program, number);
     let shown = Vec::from_slice(alloc, word)?;
-    let parts = [shown.as_slice(), names.as_slice(), hint, meaning];
+    let parts = [shown.as_slice(), list.as_slice(), hint, meaning, near.as_slice()];
+    if number == 21 {
+        let form = paragraph_form(names, near.as_slice());
+        return said_in_form(alloc, form.as_bytes(), word, &parts);
+    }
     said_by(alloc, FORMS, number, word, &parts)
+}
+
+// What a value is: the picture of the field that it names, or a text or a number.
+fn kind_text(alloc: Global, picture: Option<Picture>, word: Token) -> Result<Vec<u8>, AllocError>
+    ensures { IfOk result (λ out. out.items ≡ kind_text picture (view word.entry)) }
+{
+    match picture {
+        Some(picture) => picture_text(alloc, picture),
+        None => {
+            if matches!(word, Token::Literal(_)) {
+                return Vec::from_slice(alloc, b"a text");
+            }
+            Vec::from_slice(alloc, b"a number")
+        }
+    }
+}
+
+fn kinds_form(is_one: bool) -> &'static str
+    ensures { result.now ≡ if is_one then codes "0 is 1: only numbers are added and subtracted" else codes "0 is 1, 2 is 3" }
+{
+    if is_one {
+        "0 is 1: only numbers are added and subtracted"
+    } else {
+        "0 is 1, 2 is 3"
+    }
+}
+
+// What is said of the value behind the verb and the word at which the sentence stops, of two kinds.
+fn said_of_kinds(
+    alloc: Global,
+    schema: &Schema,
+    text: &[u8],
+    value: Token,
+    word: Token,
+) -> Result<Vec<u8>, AllocError>
+    ensures { IfOk result (λ out. out.items ≡ of_values schema.now 25 text.now (view value.entry) (view word.entry)) }
+{
+    let kind = kind_text(alloc, picture_in_program(alloc, schema, text, value)?, value)?;
+    let other = kind_text(alloc, picture_in_program(alloc, schema, text, word)?, word)?;
+    let value = written(alloc, value)?;
+    let word = written(alloc, word)?;
+    let form = kinds_form(value.as_slice() == word.as_slice());
+    let parts = [value.as_slice(), kind.as_slice(), word.as_slice(), other.as_slice()];
+    filled(alloc, &parts, form)
+}
+
+fn longest(word: Token) -> Picture
+    ensures { result ≡ longest (view word.entry) }
+{
+    match word {
+        Token::Literal(_) => Picture::Text(64),
+        Token::Plain(_) | Token::Equals => Picture::Number(18),
+    }
+}
+
+// What is said of the value behind the verb, for which the field has no room, or of a word that is too long for any.
+fn said_of_room(
+    alloc: Global,
+    picture: Option<Picture>,
+    value: Token,
+    word: Token,
+) -> Result<Vec<u8>, AllocError>
+    ensures { IfOk result (λ out. out.items ≡ room_told picture (view value.entry) (view word.entry)) }
+{
+    match picture {
+        Some(picture) => {
+            let field = written(alloc, word)?;
+            value_told(alloc, 10, value, field.as_slice(), picture)
+        }
+        None => value_told(alloc, 10, word, b"the longest field", longest(word)),
+    }
+}
+
+// The explanation of a value that does not fit, at this word.
+fn of_values(
+    alloc: Global,
+    schema: &Schema,
+    text: &[u8],
+    words: (Token, Token),
+    number: u8,
+) -> Result<Vec<u8>, AllocError>
+    ensures { IfOk result (λ out. out.items ≡ of_values schema.now number text.now (view words.entry.0) (view words.entry.1)) }
+{
+    let (value, word) = words;
+    if number == 25 {
+        return said_of_kinds(alloc, schema, text, value, word);
+    }
+    let picture = picture_in_program(alloc, schema, text, word)?;
+    said_of_room(alloc, picture, value, word)
+}
+
+fn said_of_values(
+    alloc: Global,
+    schema: &Schema,
+    text: &[u8],
+    line: u64,
+    number: u8,
+) -> Result<Vec<u8>, AllocError>
+    ensures { IfOk result (λ out. out.items ≡ said_of_values schema.now number line text.now) }
+{
+    let Some(value) = first_value_in_program(alloc, schema, text, line)? else {
+        return Ok(Vec::new(alloc));
+    };
+    match word_in_program(alloc, schema, text, line)? {
+        Some(word) => of_values(alloc, schema, text, (value, word), number),
+        None => Ok(Vec::new(alloc)),
+    }
 }
 
 fn said_of_unknown(
@@ -331,7 +480,8 @@ fn said_of_stop(
     if number == 24 {
         return said_of_counter(alloc, schema, word);
     }
-    said_by_form(alloc, text, word, number)
+    let names = paragraphs_in_program(alloc, text)?;
+    said_at_name(alloc, names.as_slice(), word, number)
 }
 
 // The same at the word at which the line stops.
@@ -342,8 +492,11 @@ fn said_of_sentence(
     line: u64,
     number: u8,
 ) -> Result<Vec<u8>, AllocError>
-    ensures { IfOk result (λ out. out.items ≡ said_of_stop schema.now number text.now (met schema.now line text.now)) }
+    ensures { IfOk result (λ out. out.items ≡ if number == 10 || number == 25 then said_of_values schema.now number line text.now else said_of_stop schema.now number text.now (met schema.now line text.now)) }
 {
+    if number == 10 || number == 25 {
+        return said_of_values(alloc, schema, text, line, number);
+    }
     let word = met(alloc, schema, text, line)?;
     said_of_stop(alloc, schema, text, word.as_slice(), number)
 }
@@ -356,8 +509,11 @@ fn said_of_statement(
     line: u64,
     number: u8,
 ) -> Result<Vec<u8>, AllocError>
-    ensures { IfOk result (λ out. out.items ≡ said_of_word schema.now number (statement_in_program schema.now line text.now)) }
+    ensures { IfOk result (λ out. out.items ≡ said_of_word schema.now number (if number == 1 then line_at line text.now else statement_in_program schema.now line text.now)) }
 {
+    if number == 1 {
+        return said_of_word(alloc, schema, line_at(text, line), number);
+    }
     let statement = statement_in_program(alloc, schema, text, line)?;
     said_of_word(alloc, schema, statement.as_slice(), number)
 }

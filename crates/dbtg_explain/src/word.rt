@@ -3,6 +3,7 @@ ghost use Rattle.std.specs.Prelude.{◌≡◌, ◌++◌, ◌∷◌, [], false, I
 ghost use Rattle.dbtg_script.specs.Tokens.{tokens, view};
 ghost use Rattle.dbtg_explain.specs.Saying.{faulty_text, form_for, is_find, said_by, said_of_name, told_part, type_token, written};
 
+use crate::hints::hint_for;
 use crate::offered::{listed, names_for};
 use crate::row::{field, push_form, row_with};
 use crate::topic::{Kind, meaning_of};
@@ -10,12 +11,12 @@ use dbtg_schema::Schema;
 use dbtg_script::{Token, Tokens, faulty_word, in_front};
 use std::alloc::{AllocError, Global};
 
-// The form for a fault's number: 0 is the word, 1 the record type, 2 the names that exist.
+// The form for a fault's number: 0 is the word, 1 the record type, 2 the names that exist, 4 a hint.
 const FORMS: &str = "\
 4|0 is no area (areas: 2)
 5|0 is no record type (record types: 2)
 6|0 is no set (sets: 2)
-7|0 is no item of 1 (items: 2)
+7|0 is no item of 1 (items: 2)4
 8|0 is named twice";
 
 // The explanation of a word: the form for a fault with this number with these parts, of which 0 is the word and 3 the meaning of the fault;
@@ -29,15 +30,27 @@ pub fn said_by(
 ) -> Result<Vec<u8>, AllocError>
     ensures { IfOk result (λ out. out.items ≡ said_by (form_for number forms.now) word.now (map (λ part. part.now) parts.now)) }
 {
+    said_in_form(alloc, form_for(forms, number), word, parts)
+}
+
+// The same by the form itself.
+pub fn said_in_form(
+    alloc: Global,
+    form: &[u8],
+    word: &[u8],
+    parts: &[&[u8]],
+) -> Result<Vec<u8>, AllocError>
+    ensures { IfOk result (λ out. out.items ≡ said_by form.now word.now (map (λ part. part.now) parts.now)) }
+{
     let mut out = Vec::new(alloc);
     if !word.is_empty() {
-        push_form(&mut out, form_for(forms, number), parts)?;
+        push_form(&mut out, form, parts)?;
     }
     Ok(out)
 }
 
 // The form for a fault with this number.
-fn form_for(forms: &'static str, number: u8) -> &'static [u8]
+pub fn form_for(forms: &'static str, number: u8) -> &'static [u8]
     ensures { result.now ≡ form_for number forms.now }
 {
     match row_with(forms, number as u16) {
@@ -47,7 +60,7 @@ fn form_for(forms: &'static str, number: u8) -> &'static [u8]
 }
 
 // A word as it stands in its line.
-fn written(alloc: Global, token: Token) -> Result<Vec<u8>, AllocError>
+pub fn written(alloc: Global, token: Token) -> Result<Vec<u8>, AllocError>
     ensures { IfOk result (λ out. out.items ≡ written (view token.entry)) }
 {
     match token {
@@ -93,7 +106,7 @@ fn is_find(token: Token) -> bool
 }
 
 // The record type whose items a line names: its second word, and the third after FIND CALC.
-fn type_token(line: &[u8]) -> Option<Token>
+pub fn type_token(line: &[u8]) -> Option<Token>
     ensures { option_map view result ≡ type_token (tokens false line.now) }
 {
     let mut words = Tokens { rest: line };
@@ -132,6 +145,7 @@ pub fn said_of_name(
     let names = names_for(alloc, schema, number, rtype.as_slice())?;
     let names = listed(alloc, names.as_slice())?;
     let meaning = meaning_of(Kind::Script, number);
-    let parts = [word, rtype.as_slice(), names.as_slice(), meaning];
+    let hint = hint_for(&[], word);
+    let parts = [word, rtype.as_slice(), names.as_slice(), meaning, hint];
     said_by(alloc, FORMS, number, word, &parts)
 }
