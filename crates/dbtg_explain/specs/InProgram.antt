@@ -147,11 +147,15 @@ said_of_stop schema number text word =
 abbrev pub is_of_sentence : ℕ → Bool → Bool
 is_of_sentence number has_verb = nat_lt 20 number || number == 10 && has_verb
 
+-- the same where the line stops, or what its values are
+abbrev pub said_where_it_is : Lists → ℕ → ℕ → List ℕ → List ℕ
+said_where_it_is schema number line text = if number == 10 || number == 25 then said_of_values schema number line text else said_of_stop schema number text (met schema line text)
+
 -- the explanation of another fault than 3
 abbrev pub said_of_other : Lists → ℕ → ℕ → List ℕ → Bool → List ℕ
 said_of_other schema number line text has_verb =
-    if is_of_sentence number has_verb then (if number == 10 || number == 25 then said_of_values schema number line text else said_of_stop schema number text (met schema line text))
-    else said_of_word schema number (if number == 1 then line_at line text else statement_in_program schema line text)
+    if is_of_sentence number has_verb then said_where_it_is schema number line text
+    else (if number == 1 then said_of_word schema number (line_at line text) else said_of_word schema number (statement_in_program schema line text))
 
 -- the explanation of a line's fault if these are wanted where its sentence stops: something is where it has a verb
 abbrev pub said_with_wanted : Lists → ℕ → ℕ → List ℕ → List (List ℕ) → List ℕ

@@ -173,13 +173,16 @@ of_bytes in_schema line =
 
 -- WHAT IS SAID
 
--- of a fault of a statement's line with this number; nothing where one sentence says all
-abbrev pub particulars : Lists → ℕ → List ℕ → List ℕ
-particulars schema number line =
-    let words = tokens false (trimmed line) in
+-- of a fault with this number of a statement's line, which has these words; nothing where one sentence says all
+abbrev pub particulars_of : Lists → ℕ → List Token → List ℕ → List ℕ
+particulars_of schema number words line =
     if number == 1 then of_bytes false (trimmed line)
     else (if number == 9 || number == 10 then of_value schema number words (type_text line)
     else (if number == 11 then of_outside schema (text_at 2 words) (text_at 5 words) (place_of (text_at 5 words) (map (λ s. s.name) schema.sets))
     else (if number == 12 then of_misused schema words
     else (if number == 13 then of_range (faulty_text schema line)
     else []))))
+
+-- of a fault of a statement's line
+abbrev pub particulars : Lists → ℕ → List ℕ → List ℕ
+particulars schema number line = particulars_of schema number (tokens false (trimmed line)) line

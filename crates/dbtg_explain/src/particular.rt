@@ -6,8 +6,8 @@ ghost use Rattle.dbtg_script.specs.Tokens.{tokens, view};
 ghost use Rattle.dbtg_script.specs.Labels.{text_of};
 ghost use Rattle.dbtg_script.specs.Lookups.{item_picture, set_no, type_no};
 ghost use Rattle.dbtg_explain.specs.Explaining.{filled};
-ghost use Rattle.dbtg_explain.specs.Offered.{listed};
-ghost use Rattle.dbtg_explain.specs.Particulars.{byte_hint, byte_text, byte_told, calc_names, given_told, hex_digit, is_readable, item_name, member_names, misfit_told, names_within, number_text, of_bytes, of_calc, of_misused, of_outside, of_range, of_unsorted, of_value, order_text, particulars, picture_text, size_of, sort_item, sorted_told, text_at, type_name, value_form, value_told, without_zeros};
+ghost use Rattle.dbtg_explain.specs.Saying.{faulty_text, type_text};
+ghost use Rattle.dbtg_explain.specs.Particulars.{byte_hint, byte_text, byte_told, calc_names, given_told, hex_digit, is_readable, item_name, member_names, misfit_told, names_within, number_text, of_bytes, of_calc, of_misused, of_outside, of_range, of_unsorted, of_value, order_text, particulars, particulars_of, picture_text, size_of, sort_item, sorted_told, text_at, type_name, value_form, value_told, without_zeros};
 
 use crate::offered::listed;
 use crate::row::push_form;
@@ -526,6 +526,46 @@ fn words_of(alloc: Global, line: &[u8]) -> Result<Vec<Token>, AllocError>
     Ok(words)
 }
 
+fn value_in_line(
+    alloc: Global,
+    schema: &Schema,
+    fault: u8,
+    words: &[Token],
+    line: &[u8],
+) -> Result<Vec<u8>, AllocError>
+    ensures { IfOk result (λ out. out.items ≡ of_value schema.now fault (map view words.now) (type_text line.now)) }
+{
+    let rtype = written_if_any(alloc, type_token(line))?;
+    of_value(alloc, schema, fault, words, rtype.as_slice())
+}
+
+fn range_in_line(alloc: Global, schema: &Schema, line: &[u8]) -> Result<Vec<u8>, AllocError>
+    ensures { IfOk result (λ out. out.items ≡ of_range (faulty_text schema.now line.now)) }
+{
+    let word = faulty_text(alloc, schema, line)?;
+    of_range(alloc, word.as_slice())
+}
+
+// What is said of a fault of a line with these words.
+fn particulars_of(
+    alloc: Global,
+    schema: &Schema,
+    words: &[Token],
+    line: &[u8],
+    fault: u8,
+) -> Result<Vec<u8>, AllocError>
+    ensures { IfOk result (λ out. out.items ≡ particulars_of schema.now fault (map view words.now) line.now) }
+{
+    match fault {
+        1 => of_bytes(alloc, false, trimmed(line)),
+        9 | 10 => value_in_line(alloc, schema, fault, words, line),
+        11 => of_outside(alloc, schema, text_at(words, 2), text_at(words, 5)),
+        12 => of_misused(alloc, schema, words),
+        13 => range_in_line(alloc, schema, line),
+        _ => Ok(Vec::new(alloc)),
+    }
+}
+
 /// What is said of a fault of a statement's line; nothing where one sentence says all.
 pub fn particulars(
     alloc: Global,
@@ -536,19 +576,5 @@ pub fn particulars(
     ensures { IfOk result (λ out. out.items ≡ particulars schema.now fault line.now) }
 {
     let words = words_of(alloc, trimmed(line))?;
-    let words = words.as_slice();
-    match fault {
-        1 => of_bytes(alloc, false, trimmed(line)),
-        9 | 10 => {
-            let rtype = written_if_any(alloc, type_token(line))?;
-            of_value(alloc, schema, fault, words, rtype.as_slice())
-        }
-        11 => of_outside(alloc, schema, text_at(words, 2), text_at(words, 5)),
-        12 => of_misused(alloc, schema, words),
-        13 => {
-            let word = faulty_text(alloc, schema, line)?;
-            of_range(alloc, word.as_slice())
-        }
-        _ => Ok(Vec::new(alloc)),
-    }
+    particulars_of(alloc, schema, words.as_slice(), line, fault)
 }

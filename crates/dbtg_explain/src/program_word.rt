@@ -3,9 +3,9 @@ ghost use Rattle.std.specs.Prelude.{◌≡◌, ◌==◌, ◌++◌, ◌∷◌, �
 ghost use Rattle.std.specs.List.{list_any};
 ghost use Rattle.std.specs.Str.{bytes_eq};
 ghost use Rattle.dbtg_schema.specs.Lookups.{first};
-ghost use Rattle.dbtg_program.specs.Told.{counters_in_program, statement_in_program};
+ghost use Rattle.dbtg_program.specs.Told.{counters_in_program, paragraphs_in_program, statement_in_program};
 ghost use Rattle.dbtg_script.specs.Tokens.{view};
-ghost use Rattle.dbtg_explain.specs.InProgram.{counter_form, is_near, is_of_sentence, item_form, kind_text, longest, met, name_form, name_with, nearest, of_values, paragraph_form, room_told, said_at_name, said_of_closed, said_of_field, said_of_item, said_of_other, said_of_plain, said_of_program_misfit, said_of_program_word, said_of_stop, said_of_values, said_with_wanted, types_with};
+ghost use Rattle.dbtg_explain.specs.InProgram.{counter_form, is_near, is_of_sentence, item_form, kind_text, longest, met, name_form, name_with, nearest, of_values, paragraph_form, room_told, said_at_name, said_of_closed, said_of_field, said_of_item, said_of_other, said_of_plain, said_of_program_misfit, said_of_program_word, said_of_stop, said_of_values, said_where_it_is, said_with_wanted, types_with};
 ghost use Rattle.dbtg_explain.specs.Explaining.{fault_field, filled};
 ghost use Rattle.dbtg_explain.specs.FaultyWord.{line_at};
 ghost use Rattle.dbtg_explain.specs.Misfits.{said_in_line, said_of_line_misfit, said_of_word};
@@ -464,6 +464,18 @@ fn said_of_unknown(
     said_of_field(alloc, schema, counters.as_slice(), word)
 }
 
+fn said_at_its_name(
+    alloc: Global,
+    text: &[u8],
+    word: &[u8],
+    number: u8,
+) -> Result<Vec<u8>, AllocError>
+    ensures { IfOk result (λ out. out.items ≡ said_at_name number (paragraphs_in_program text.now) word.now) }
+{
+    let names = paragraphs_in_program(alloc, text)?;
+    said_at_name(alloc, names.as_slice(), word, number)
+}
+
 // The explanation of a fault that a statement does not have, at this word.
 fn said_of_stop(
     alloc: Global,
@@ -480,8 +492,7 @@ fn said_of_stop(
     if number == 24 {
         return said_of_counter(alloc, schema, word);
     }
-    let names = paragraphs_in_program(alloc, text)?;
-    said_at_name(alloc, names.as_slice(), word, number)
+    said_at_its_name(alloc, text, word, number)
 }
 
 // The same at the word at which the line stops.
@@ -492,13 +503,27 @@ fn said_of_sentence(
     line: u64,
     number: u8,
 ) -> Result<Vec<u8>, AllocError>
-    ensures { IfOk result (λ out. out.items ≡ if number == 10 || number == 25 then said_of_values schema.now number line text.now else said_of_stop schema.now number text.now (met schema.now line text.now)) }
+    ensures { IfOk result (λ out. out.items ≡ said_of_stop schema.now number text.now (met schema.now line text.now)) }
 {
-    if number == 10 || number == 25 {
-        return said_of_values(alloc, schema, text, line, number);
-    }
     let word = met(alloc, schema, text, line)?;
     said_of_stop(alloc, schema, text, word.as_slice(), number)
+}
+
+// The same, or what its values are.
+fn said_where_it_is(
+    alloc: Global,
+    schema: &Schema,
+    text: &[u8],
+    line: u64,
+    number: u8,
+) -> Result<Vec<u8>, AllocError>
+    ensures { IfOk result (λ out. out.items ≡ said_where_it_is schema.now number line text.now) }
+{
+    if number == 10 || number == 25 {
+        said_of_values(alloc, schema, text, line, number)
+    } else {
+        said_of_sentence(alloc, schema, text, line, number)
+    }
 }
 
 // The explanation of a fault of a statement, by the reader of scripts.
@@ -509,11 +534,8 @@ fn said_of_statement(
     line: u64,
     number: u8,
 ) -> Result<Vec<u8>, AllocError>
-    ensures { IfOk result (λ out. out.items ≡ said_of_word schema.now number (if number == 1 then line_at line text.now else statement_in_program schema.now line text.now)) }
+    ensures { IfOk result (λ out. out.items ≡ said_of_word schema.now number (statement_in_program schema.now line text.now)) }
 {
-    if number == 1 {
-        return said_of_word(alloc, schema, line_at(text, line), number);
-    }
     let statement = statement_in_program(alloc, schema, text, line)?;
     said_of_word(alloc, schema, statement.as_slice(), number)
 }
@@ -536,7 +558,9 @@ fn said_of_other(
 {
     let (line, number) = place;
     if is_of_sentence(number, has_verb) {
-        said_of_sentence(alloc, schema, text, line, number)
+        said_where_it_is(alloc, schema, text, line, number)
+    } else if number == 1 {
+        said_of_word(alloc, schema, line_at(text, line), number)
     } else {
         said_of_statement(alloc, schema, text, line, number)
     }
