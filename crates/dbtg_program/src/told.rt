@@ -49,18 +49,28 @@ fn in_words(place: FormPlace) -> &'static str
     }
 }
 
-/// What can come where these places are left: in the first, and in those behind it up to one that is not optional.
+/// Appends what can come where these places are left: in the first, and in those behind it up to one that is not optional.
+fn push_things(list: &mut Vec<&'static [u8]>, places: &[FormPlace]) -> Result<(), AllocError>
+    ensures { OnOk result (map (λ thing. thing.now) list.new.items ≡ map (λ thing. thing.now) list.old.items ++ things places.now) }
+{
+    match places.split_first() {
+        None => Ok(list.push("the line's end".as_bytes())?),
+        Some((place, further)) => {
+            list.push(in_words(*place).as_bytes())?;
+            if place.optional {
+                push_things(list, further)
+            } else {
+                Ok(())
+            }
+        }
+    }
+}
+
 fn things(alloc: Global, places: &[FormPlace]) -> Result<Vec<&'static [u8]>, AllocError>
     ensures { IfOk result (λ list. map (λ thing. thing.now) list.items ≡ things places.now) }
 {
     let mut list = Vec::new(alloc);
-    for place in places {
-        list.push(in_words(*place).as_bytes())?;
-        if !place.optional {
-            return Ok(list);
-        }
-    }
-    list.push("the line's end".as_bytes())?;
+    push_things(&mut list, places)?;
     Ok(list)
 }
 
