@@ -8,5 +8,6 @@ mod FirstCauses
 mod RefusedAtOnce
 mod RefusedOnCells
 mod EachRefusal
+mod OtherAreas
 mod JustRefusals
 pub mod Rows

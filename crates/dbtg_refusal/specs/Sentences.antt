@@ -1,13 +1,18 @@
 -- What is said of an obstacle: who or what it is, what is said of it for the cause, and where.
 -- a is an area, t a record type, s a set, k a key, o an owner.
-use Rattle.std.specs.Prelude.{ℕ, List, [], ◌++◌, codes, decimal, option_map, slice_get, unwrap_or}
+use Rattle.std.specs.Prelude.{ℕ, not, ◌&&◌, ◌==◌, List, [], ◌++◌, codes, decimal, flat_map, Option, Some, None, option_map, slice_get, unwrap_or, if◌then◌else◌}
 use Rattle.dbtg_schema.specs.Lists.{Lists}
+use Rattle.dbtg_schema.specs.Lookups.{at}
+use Rattle.dbtg_cells.specs.declared.usage.Mode.{Mode}
+use Rattle.dbtg_cells.specs.Modes.{is_update}
 use Rattle.dbtg_script.specs.Printing.Texts.{key_text, mode_text, owner_text, type_name}
 use Rattle.dbtg_unit.specs.declared.statement.Statement.{Statement}
 use Rattle.dbtg_unit.specs.declared.unit.Cause.{Cause}
 use Rattle.dbtg_unit.specs.declared.unit.Cause.TheVariants as cause
 use Rattle.dbtg_unit.specs.declared.unit.Unit.{Unit}
 use Rattle.dbtg_unit.specs.Database.State.Base.{Database}
+use Rattle.dbtg_unit.specs.Database.Statements.Conditions.{changes_records}
+use Rattle.dbtg_unit.specs.Hands.Needs.{areas_in_order}
 use Rattle.dbtg_refusal.specs.declared.obstacle.Obstacle.{Obstacle}
 use Rattle.dbtg_refusal.specs.declared.obstacle.Obstacle.TheVariants as obstacle
 use Rattle.dbtg_refusal.specs.Obstacles.{obstacle_of}
@@ -74,6 +79,24 @@ whereabouts schema thing = []
 abbrev pub sentence : Lists → Cause → Obstacle → List ℕ
 sentence schema why thing = subject schema thing ++ predicate why thing ++ whereabouts schema thing
 
+-- what is said of another area of the statement, by the mode in which its unit has it open
+abbrev pub other_area : Lists → Statement → ℕ → Option Mode → List ℕ
+other_area schema statement a None = codes "; area " ++ area_name schema a ++ codes " is not open"
+other_area schema statement a (Some mode) =
+    if changes_records statement && not (is_update mode) then codes "; area " ++ area_name schema a ++ codes " is open for " ++ mode_text mode else []
+
+-- of each area of the statement but a, in the order of the schema
+abbrev pub other_areas : Lists → Unit → Statement → ℕ → List ℕ
+other_areas schema unit statement a =
+    flat_map (λ b. if b == a then [] else other_area schema statement b (at unit.modes b)) (areas_in_order schema unit statement)
+
+-- where an area is in the way, what is said of the others that are
+abbrev pub others : Lists → Unit → Statement → Cause → Obstacle → List ℕ
+others schema unit statement cause.AreaNotOpen (obstacle.Area a) = other_areas schema unit statement a
+others schema unit statement cause.UpdateModeNeeded (obstacle.Opened a user mode) = other_areas schema unit statement a
+others schema unit statement why thing = []
+
 -- what is said of a statement that is refused for this cause; nothing if nothing is in the way
 abbrev pub refusal_text : Lists → ℕ → Database → Unit → Statement → Cause → List ℕ
-refusal_text schema capacity db unit statement why = unwrap_or (option_map (sentence schema why) (obstacle_of schema capacity db unit statement why)) []
+refusal_text schema capacity db unit statement why =
+    unwrap_or (option_map (λ thing. sentence schema why thing ++ others schema unit statement why thing) (obstacle_of schema capacity db unit statement why)) []

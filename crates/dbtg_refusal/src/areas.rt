@@ -50,7 +50,7 @@ fn is_opened_so(
     has_area(schema, unit, statement, area) && passes(opening, mode)
 }
 
-fn area_count(schema: &Schema) -> u8
+pub(crate) fn area_count(schema: &Schema) -> u8
     ensures { result ≡ length schema.now.areas }
 {
     schema.areas().len() as u8

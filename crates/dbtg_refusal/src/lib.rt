@@ -8,6 +8,7 @@ mod finding;
 mod imaged;
 mod laws;
 mod obstacle;
+mod others;
 mod placing;
 mod said;
 mod sentence;

@@ -4,17 +4,18 @@ ghost use Rattle.dbtg_unit.specs.Database.State.Base.{Database};
 ghost use Rattle.dbtg_unit.specs.Database.State.Image.{image_of};
 ghost use Rattle.dbtg_unit.specs.Database.State.Legal.{Legal};
 ghost use Rattle.dbtg_script.specs.Printing.Texts.{owner_text, type_name};
-ghost use Rattle.dbtg_refusal.specs.Sentences.{area_name, predicate, refusal_text, sentence, set_name, subject, whereabouts};
+ghost use Rattle.dbtg_refusal.specs.Sentences.{area_name, others, predicate, refusal_text, sentence, set_name, subject, whereabouts};
 
 use crate::causes::obstacle_of;
 use crate::obstacle::Obstacle;
+use crate::others::push_others;
 use dbtg_cells::Owner;
 use dbtg_schema::{AreaNo, RecordNo, Schema, SetNo};
 use dbtg_script::{push_key, push_mode, push_number, push_owner};
 use dbtg_unit::{Cause, Image, Statement, Unit};
 use std::alloc::{AllocError, Global};
 
-fn area_name(schema: &Schema, area: AreaNo) -> &[u8]
+pub(crate) fn area_name(schema: &Schema, area: AreaNo) -> &[u8]
     ensures { result.now ≡ area_name schema.now area }
 {
     match schema.area_name(area) {
@@ -42,7 +43,7 @@ fn type_name(schema: &Schema, rtype: RecordNo) -> &[u8]
 }
 
 // A name after the kind of thing that it names.
-fn push_named(out: &mut Vec<u8>, kind: &[u8], name: &[u8]) -> Result<(), AllocError>
+pub(crate) fn push_named(out: &mut Vec<u8>, kind: &[u8], name: &[u8]) -> Result<(), AllocError>
     ensures { OnOk result (out.new.items ≡ out.old.items ++ kind.now ++ name.now) }
 {
     out.extend_from_slice(kind)?;
@@ -172,18 +173,20 @@ fn push_sentence(
     push_whereabouts(out, schema, obstacle)
 }
 
-// The sentence, if something is in the way.
+// The sentence, if something is in the way, and what is said of other areas.
 fn sentence_of(
     alloc: Global,
     schema: &Schema,
-    cause: Cause,
-    found: Option<Obstacle>,
+    unit: &Unit,
+    statement: &Statement,
+    why: (Cause, Option<Obstacle>),
 ) -> Result<Vec<u8>, AllocError>
-    ensures { IfOk result (λ out. out.items ≡ unwrap_or (option_map (sentence schema.now cause) found) []) }
+    ensures { IfOk result (λ out. out.items ≡ unwrap_or (option_map (λ thing. sentence schema.now why.0 thing ++ others schema.now unit.now statement.now why.0 thing) why.1) []) }
 {
     let mut out = Vec::new(alloc);
-    if let Some(obstacle) = found {
-        push_sentence(&mut out, schema, cause, &obstacle)?;
+    if let Some(obstacle) = why.1 {
+        push_sentence(&mut out, schema, why.0, &obstacle)?;
+        push_others(&mut out, schema, unit, statement, (why.0, obstacle))?;
     }
     Ok(out)
 }
@@ -201,7 +204,7 @@ pub fn refusal_text(
     ensures { IfOk result (λ out. (capacity : ℕ) (db : Database) → Legal schema.now capacity db → image.now ≡ image_of schema.now capacity db → out.items ≡ refusal_text schema.now capacity db unit.now statement.now cause) }
 {
     match obstacle_of(alloc, schema, image, unit, statement, cause) {
-        Ok(found) => sentence_of(alloc, schema, cause, found),
+        Ok(found) => sentence_of(alloc, schema, unit, statement, (cause, found)),
         Err(error) => Err(error),
     }
 }

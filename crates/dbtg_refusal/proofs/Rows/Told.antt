@@ -1,14 +1,18 @@
 -- What is said of a refusal. The sentences were written down before.
-use Rattle.std.specs.Prelude.{◌≡◌, refl, [], ◌∷◌, Some, None, codes}
+use Rattle.std.specs.Prelude.{◌≡◌, refl, ℕ, List, [], ◌∷◌, Option, Some, None, codes}
 use Rattle.std.specs.Fmt.{digits}
 use Rattle.dbtg_cells.specs.declared.key.Owner.TheVariants.{System, Rec}
-use Rattle.dbtg_cells.specs.declared.usage.Mode.TheVariants.{Retrieval, ExclusiveUpdate}
-use Rattle.dbtg_unit.specs.declared.statement.Statement.TheVariants.{OpenArea, Get}
+use Rattle.dbtg_cells.specs.declared.key.Value.TheVariants.{Num}
+use Rattle.dbtg_cells.specs.declared.usage.Mode.TheVariants.{Retrieval, Update, ExclusiveUpdate}
+use Rattle.dbtg_unit.specs.declared.statement.Erase.TheVariants.{Plain}
+use Rattle.dbtg_unit.specs.declared.statement.Statement.{Statement}
+use Rattle.dbtg_unit.specs.declared.statement.Statement.TheVariants.{OpenArea, CloseArea, Get, Delete}
+use Rattle.dbtg_unit.specs.declared.unit.Cause.{Cause}
 use Rattle.dbtg_unit.specs.declared.unit.Cause.TheVariants as cause
 use Rattle.dbtg_unit.specs.Database.Statements.Effect.{effect}
 use Rattle.dbtg_unit.proofs.Rows.Defined.Histories.{history}
-use Rattle.dbtg_unit.proofs.Rows.Defined.Schemas.{card, shop, main, orders, has, watch, lines}
-use Rattle.dbtg_unit.proofs.Rows.Words.{by, customer_key, ordr_key, item_key}
+use Rattle.dbtg_unit.proofs.Rows.Defined.Schemas.{card, shop, main, side, customers, orders, has, watch, lines}
+use Rattle.dbtg_unit.proofs.Rows.Words.{by, customer_key, ordr_key, item_key, store, text}
 use Rattle.dbtg_refusal.specs.declared.obstacle.Obstacle.TheVariants as obstacle
 use Rattle.dbtg_refusal.specs.Said.{said_of_history}
 use Rattle.dbtg_refusal.specs.Sentences.{sentence}
@@ -21,6 +25,26 @@ of_a_unit = refl
 of_an_area : told shop 100 2 (by 2 (OpenArea main ExclusiveUpdate ∷ [])) 1 (OpenArea main Retrieval) ≡ Some (cause.UsageConflict, codes "unit 2 has area MAIN open for EXCLUSIVE-UPDATE")
 unfolding effect digits
 of_an_area = refl
+
+-- a DELETE of a customer wants both areas open for updates; unit 1 has stored it, and then makes these statements
+abbrev told_of_delete : List Statement → Option (Cause × List ℕ)
+told_of_delete statements = told shop 100 1 (by 1 (OpenArea main Update ∷ store customers (Num 1 ∷ text "ADA     " ∷ []) ∷ statements)) 1 (Delete Plain)
+
+one_area_is_closed : told_of_delete [] ≡ Some (cause.AreaNotOpen, codes "area SIDE is not open")
+unfolding effect digits
+one_area_is_closed = refl
+
+both_are_closed : told_of_delete (CloseArea main ∷ []) ≡ Some (cause.AreaNotOpen, codes "area MAIN is not open; area SIDE is not open")
+unfolding effect digits
+both_are_closed = refl
+
+the_other_is_for_retrieval : told_of_delete (CloseArea main ∷ OpenArea main Retrieval ∷ []) ≡ Some (cause.AreaNotOpen, codes "area SIDE is not open; area MAIN is open for RETRIEVAL")
+unfolding effect digits
+the_other_is_for_retrieval = refl
+
+both_are_for_retrieval : told_of_delete (CloseArea main ∷ OpenArea main Retrieval ∷ OpenArea side Retrieval ∷ []) ≡ Some (cause.UpdateModeNeeded, codes "unit 1 has area MAIN open for RETRIEVAL; area SIDE is open for RETRIEVAL")
+unfolding effect digits
+both_are_for_retrieval = refl
 
 closed : sentence shop cause.AreaNotOpen (obstacle.Area main) ≡ codes "area MAIN is not open"
 closed = refl
