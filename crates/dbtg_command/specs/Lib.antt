@@ -6,6 +6,7 @@ pub mod Sources
 pub mod Commands
 pub mod Wishing
 pub mod Calling
+pub mod Kinds
 pub mod Reasons
 pub mod Drawing
 pub mod Inside

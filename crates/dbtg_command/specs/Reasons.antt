@@ -1,20 +1,15 @@
 -- The second line of a fault: its place, and what is said of it. `has` says that reading this many bytes of a path gave a text, `lacks`
 -- that it gave none, as the reader of files says it; for this line files are read again, and standard input is not.
-use Rattle.std.specs.Prelude.{ℕ, ◌≡◌, ◌==◌, ◌||◌, not, Bool, false, List, [], ◌++◌, ◌⊎◌, Some, None, codes, decimal, drop, is_some, length, slice_get, string_bytes, take_while, unwrap_or, ◌-◌, if◌then◌else◌}
-use Rattle.std.specs.Char.{is_ascii_alphabetic, is_ascii_whitespace}
-use Rattle.std.specs.List.{prefix_len}
+use Rattle.std.specs.Prelude.{ℕ, ◌≡◌, ◌==◌, ◌||◌, not, Bool, false, List, [], ◌++◌, ◌⊎◌, Some, None, codes, decimal, length, slice_get, string_bytes, unwrap_or, ◌-◌, if◌then◌else◌}
 use Rattle.std.specs.Str.{bytes_eq}
 use Rattle.std.specs.Str.Lossy.{utf8_lossy}
 use Rattle.dbtg_schema.specs.Texts.Causes.{cause_number as schema_cause_number}
-use Rattle.dbtg_schema.specs.Texts.Forms.{start_with, starts}
 use Rattle.dbtg_schema.specs.Texts.SchemaFaults.{refusal}
 use Rattle.dbtg_schema.specs.declared.fault.Fault.{Fault as SchemaRefusal}
 use Rattle.dbtg_schema.specs.Lists.{Lists}
 use Rattle.dbtg_script.specs.Moves.{cause_number as moves_cause_number}
 use Rattle.dbtg_script.specs.Printing.Causes.{cause_number as script_cause_number}
 use Rattle.dbtg_script.specs.Printing.Spelling.{has_byte, in_front, is_number}
-use Rattle.dbtg_script.specs.StatementGrammar.{fits, statement}
-use Rattle.dbtg_script.specs.Tokens.{plain}
 use Rattle.dbtg_program.specs.Faults.{cause_number as program_cause_number}
 use Rattle.dbtg_trace.specs.Faults.{cause_number as trace_cause_number}
 use Rattle.dbtg_explain.specs.declared.topic.Kind.{Kind}
@@ -27,6 +22,7 @@ use Rattle.dbtg_command.specs.declared.fault.Fault.{Fault}
 use Rattle.dbtg_command.specs.declared.fault.Fault.TheVariants.{Schema, Script, Moves, Turns, Trace, MovesOver, StatesOver, Unreadable, ScriptCount, Memory, Program}
 use Rattle.dbtg_command.specs.declared.order.Order.{Order}
 use Rattle.dbtg_command.specs.declared.order.Order.TheVariants as by
+use Rattle.dbtg_command.specs.Kinds.{other_kind}
 use Rattle.dbtg_command.specs.Refusals.{schema_in}
 
 -- a place in a file: its path, a mark, and the number of the line or word
@@ -78,23 +74,6 @@ abbrev pub SaysOfScript : (List ℕ → ℕ → List ℕ → Type 0) → (List �
 SaysOfScript has lacks which schema path line number said =
     (IsScriptNotRead lacks schema path × (said ≡ [])) ⊎ ((text : List ℕ) × has path 1048577 text × SaysOfLine has lacks which schema number line text said)
 
--- the letters with which a text begins
-abbrev pub first_letters : List ℕ → List ℕ
-first_letters text = take_while is_ascii_alphabetic (drop (prefix_len is_ascii_whitespace text) text)
-
--- a statement can begin with this word
-abbrev pub begins_statement : List ℕ → Bool
-begins_statement word = is_some (start_with fits (plain word) (starts statement))
-
--- what is said of a text as a whole if it is of another kind: a script in a schema's place, or a schema in a script's, as it begins
-abbrev pub other_kind : Kind → List ℕ → List ℕ
-other_kind kind.Schema text = if begins_statement (first_letters text) then codes "; this is a script, and a schema is wanted" else []
-other_kind kind.Script text = if bytes_eq (first_letters text) (codes "SCHEMA") then codes "; this is a schema, and a script is wanted" else []
-other_kind kind.Program text = []
-other_kind kind.Moves text = []
-other_kind kind.Turns text = []
-other_kind kind.Trace text = []
-
 -- this is said of the whole text of the file with this path
 abbrev pub SaysOfFile : (List ℕ → ℕ → List ℕ → Type 0) → (List ℕ → ℕ → Type 0) → Kind → List ℕ → List ℕ → Type 0
 SaysOfFile has lacks which path other =
@@ -105,14 +84,10 @@ abbrev pub IsToldIn : Kind → (List ℕ → Type 0) → (List ℕ → Type 0) �
 IsToldIn which Says Other path line number out =
     (said : List ℕ) × (other : List ℕ) × Says said × Other other × (out ≡ told_at (place_of path (codes ":") line) said (fault_field which number 1) other)
 
--- this is said of a fault at a word of moves or turns
-abbrev pub IsToldOfOrder : Kind → List ℕ → ℕ → ℕ → List ℕ → Type 0
-IsToldOfOrder which path word number out = out ≡ told_at (place_of path (codes ": word ") word) [] (fault_field which number 1) []
-
--- this is said of a fault in a line of a program, given what `Says` allows for a word
-abbrev pub IsToldOfProgram : (List ℕ → Type 0) → List ℕ → ℕ → ℕ → List ℕ → Type 0
-IsToldOfProgram Says path line number out =
-    (said : List ℕ) × Says said × (out ≡ told_at (place_of path (codes ":") line) said (fault_field kind.Program number 1) [])
+-- this is said of a fault at a word of moves or turns, given what `Other` allows for the whole text
+abbrev pub IsToldOfOrder : Kind → (List ℕ → Type 0) → List ℕ → ℕ → ℕ → List ℕ → Type 0
+IsToldOfOrder which Other path word number out =
+    (other : List ℕ) × Other other × (out ≡ told_at (place_of path (codes ": word ") word) [] (fault_field which number 1) other)
 
 -- why a line of a trace names none of the units
 abbrev pub no_unit : List ℕ → List ℕ
@@ -129,11 +104,6 @@ said_of_unit number line text = if number == 31 then no_unit (line_at line text)
 abbrev pub SaysOfTrace : (List ℕ → ℕ → List ℕ → Type 0) → (List ℕ → ℕ → Type 0) → List ℕ → ℕ → ℕ → List ℕ → Type 0
 SaysOfTrace has lacks path line number said =
     (IsNotReadTo lacks 67108865 path × (said ≡ [])) ⊎ ((text : List ℕ) × has path 67108865 text × (said ≡ said_of_unit number line text))
-
--- this is said of a fault in a line of a trace, given what `Says` allows for the line
-abbrev pub IsToldOfTrace : (List ℕ → Type 0) → List ℕ → ℕ → ℕ → List ℕ → Type 0
-IsToldOfTrace Says path line number out =
-    (said : List ℕ) × Says said × (out ≡ told_at (place_of path (codes ":") line) said (fault_field kind.Trace number 1) [])
 
 -- a file that could not be read is named with its path, and the reason
 abbrev pub IsUnreadLine : List ℕ → List ℕ → Type 0
@@ -158,17 +128,21 @@ IsReason has lacks schema scripts order (Script n line cause) out =
     let number = script_cause_number cause in
     let path = script_path scripts n in
     IsToldIn kind.Script (SaysOfScript has lacks kind.Script schema path line number) (SaysOfFile has lacks kind.Script path) path line number out
-IsReason has lacks schema scripts order (Moves word cause) out = IsToldOfOrder kind.Moves (order_path order) word (moves_cause_number cause) out
-IsReason has lacks schema scripts order (Turns word cause) out = IsToldOfOrder kind.Turns (order_path order) word (moves_cause_number cause) out
+IsReason has lacks schema scripts order (Moves word cause) out =
+    let path = order_path order in
+    IsToldOfOrder kind.Moves (SaysOfFile has lacks kind.Moves path) path word (moves_cause_number cause) out
+IsReason has lacks schema scripts order (Turns word cause) out =
+    let path = order_path order in
+    IsToldOfOrder kind.Turns (SaysOfFile has lacks kind.Turns path) path word (moves_cause_number cause) out
 IsReason has lacks schema scripts order (Unreadable path) out = IsUnreadLine (string_bytes path) out
 IsReason has lacks schema scripts order (Trace line cause) out =
     let number = trace_cause_number cause in
     let path = script_path scripts 1 in
-    IsToldOfTrace (SaysOfTrace has lacks path line number) path line number out
+    IsToldIn kind.Trace (SaysOfTrace has lacks path line number) (SaysOfFile has lacks kind.Trace path) path line number out
 IsReason has lacks schema scripts order (Program n line cause) out =
     let number = program_cause_number cause in
     let path = script_path scripts n in
-    IsToldOfProgram (SaysOfScript has lacks kind.Program schema path line number) path line number out
+    IsToldIn kind.Program (SaysOfScript has lacks kind.Program schema path line number) (SaysOfFile has lacks kind.Program path) path line number out
 IsReason has lacks schema scripts order MovesOver out = ⊥
 IsReason has lacks schema scripts order (StatesOver limit) out = ⊥
 IsReason has lacks schema scripts order ScriptCount out = ⊥

@@ -14,6 +14,7 @@ pub mod draw;
 mod fault;
 mod files;
 mod judging;
+mod kinds;
 mod limits;
 mod order;
 mod place;

@@ -1,11 +1,9 @@
 //! The second line that `--explain` asks for: where a fault is, and what it means.
-ghost use Rattle.std.specs.Char.{is_ascii_alphabetic};
-ghost use Rattle.std.specs.List.{prefix_len};
-ghost use Rattle.std.specs.Prelude.{◌≡◌, ◌≤◌, [], IfOk, MatchOption, length, map, string_bytes};
+ghost use Rattle.std.specs.Prelude.{◌≡◌, [], IfOk, MatchOption, map, string_bytes};
 ghost use Rattle.dbtg_explain.specs.FaultyWord.{line_at};
 ghost use Rattle.dbtg_explain.specs.Misfits.{said_of_word};
 ghost use Rattle.dbtg_explain.specs.declared.topic.Kind.TheVariants as text_kind;
-ghost use Rattle.dbtg_command.specs.Reasons.{HasNoReason, IsNotRead, IsNotReadTo, IsReason, IsReasonLine, IsToldIn, IsToldOfOrder, IsScriptNotRead, IsUnreadLine, SaysOfFile, SaysOfLine, SaysOfSchema, SaysOfScript, begins_statement, first_letters, order_path, other_kind, place_of, script_path, told_at, IsToldOfProgram, IsToldOfTrace, SaysOfTrace, no_unit, said_in_text, said_of_unit};
+ghost use Rattle.dbtg_command.specs.Reasons.{HasNoReason, IsNotRead, IsNotReadTo, IsReason, IsReasonLine, IsToldIn, IsToldOfOrder, IsScriptNotRead, IsUnreadLine, SaysOfFile, SaysOfLine, SaysOfSchema, SaysOfScript, order_path, place_of, script_path, told_at, SaysOfTrace, no_unit, said_in_text, said_of_unit};
 ghost use Rattle.dbtg_command.specs.Sources.{order_map};
 ghost use Rattle.dbtg_command.specs.declared.fault.Fault.TheVariants.{Memory};
 
@@ -13,6 +11,7 @@ use crate::fault::Fault;
 use crate::files::{
     FileReader, Files, Paths, SCRIPT_BYTES, STANDARD_INPUT, TRACE_BYTES, is_no_file,
 };
+use crate::kinds::other_kind;
 use crate::order::Order;
 use crate::reading::{moves_of, turns_of};
 use crate::texts::read_schema;
@@ -23,51 +22,6 @@ use dbtg_schema::Schema;
 use dbtg_script::{has_byte, in_front, is_number, push_number};
 use std::alloc::{AllocError, Global};
 use std::io;
-
-fn count_letters(text: &[u8]) -> usize
-    ensures counted { result ≡ prefix_len is_ascii_alphabetic text.now }
-    ensures within { result ≤ length text.now }
-{
-    text.iter().take_while(|b| b.is_ascii_alphabetic()).count()
-}
-
-/// The letters with which a text begins.
-fn first_letters(text: &[u8]) -> &[u8]
-    ensures { result.now ≡ first_letters text.now }
-{
-    let text = text.trim_ascii_start();
-    &text[..count_letters(text)]
-}
-
-fn begins_statement(word: &[u8]) -> bool
-    ensures { result ≡ begins_statement word.now }
-{
-    word == b"OPEN".as_slice()
-        || word == b"CLOSE".as_slice()
-        || word == b"FIND".as_slice()
-        || word == b"GET".as_slice()
-        || word == b"STORE".as_slice()
-        || word == b"INSERT".as_slice()
-        || word == b"REMOVE".as_slice()
-        || word == b"MODIFY".as_slice()
-        || word == b"DELETE".as_slice()
-        || word == b"KEEP".as_slice()
-        || word == b"FREE".as_slice()
-}
-
-/// Says that a file has a text of a kind other than is wanted there.
-fn other_kind(kind: Kind, text: &[u8]) -> &'static str
-    ensures { result.now ≡ other_kind kind text.now }
-{
-    let word = first_letters(text);
-    match kind {
-        Kind::Schema if begins_statement(word) => "; this is a script, and a schema is wanted",
-        Kind::Script if word == b"SCHEMA".as_slice() => {
-            "; this is a schema, and a script is wanted"
-        }
-        _ => "",
-    }
-}
 
 /// Why the system does not give a file.
 pub fn reason_of(kind: io::ErrorKind) -> &'static str {
@@ -90,7 +44,7 @@ fn said_as(
     match fault {
         Some(Fault::Moves { word, cause } | Fault::Turns { word, cause }) => {
             let place = place_of(alloc, what, ", word ", word)?;
-            told_at(place, &[], meaning_of(kind, cause.number()), "")
+            told_at(place, &[], meaning_of(kind, cause.number()), &[])
         }
         Some(Fault::Memory) => Err(AllocError),
         _ => Ok(Vec::new(alloc)),
@@ -184,12 +138,17 @@ fn script_again<F: FileReader>(files: &Files<F>, path: &str) -> Option<Vec<u8>>
 }
 
 /// What is said of this file as a whole; nothing if it is not read again.
-fn said_of_file<F: FileReader>(files: &Files<F>, kind: Kind, path: &str) -> &'static str
-    ensures { SaysOfFile (F.has files.now.reader.now) (F.lacks files.now.reader.now) kind path.now result.now }
+fn said_of_file<F: FileReader>(
+    alloc: Global,
+    files: &Files<F>,
+    kind: Kind,
+    path: &str,
+) -> Result<Vec<u8>, AllocError>
+    ensures { IfOk result (λ other. SaysOfFile (F.has files.now.reader.now) (F.lacks files.now.reader.now) kind path.now other.items) }
 {
     match read_again(files, path) {
-        Some(text) => other_kind(kind, text.as_slice()),
-        None => "",
+        Some(text) => other_kind(alloc, kind, text.as_slice()),
+        None => Ok(Vec::new(alloc)),
     }
 }
 
@@ -205,13 +164,13 @@ fn place_of(alloc: Global, path: &str, mark: &str, number: u64) -> Result<Vec<u8
 }
 
 /// The place of a fault, and what is said of its word; if nothing is said of a word, or something of the text, the fault's meaning.
-fn told_at(place: Vec<u8>, word: &[u8], meaning: &[u8], other: &str) -> Result<Vec<u8>, AllocError>
+fn told_at(place: Vec<u8>, word: &[u8], meaning: &[u8], other: &[u8]) -> Result<Vec<u8>, AllocError>
     ensures { IfOk result (λ out. out.items ≡ told_at place.items word.now meaning.now other.now) }
 {
     let is_plain = word.is_empty() || !other.is_empty();
     let mut out = place;
     out.extend_from_slice(if is_plain { meaning } else { word })?;
-    out.extend_from_slice(other.as_bytes())?;
+    out.extend_from_slice(other)?;
     Ok(out)
 }
 
@@ -301,13 +260,13 @@ fn script_reason<F: FileReader>(
     ensures { IfOk result (λ out. IsToldIn text_kind.Script (SaysOfScript (F.has files.now.reader.now) (F.lacks files.now.reader.now) text_kind.Script files.now.paths.now.schema.now path.now line number) (SaysOfFile (F.has files.now.reader.now) (F.lacks files.now.reader.now) text_kind.Script path.now) path.now line number out.items) }
 {
     let meaning = meaning_of(Kind::Script, number);
-    let other = said_of_file(files, Kind::Script, path);
+    let other = said_of_file(alloc, files, Kind::Script, path)?;
     let said = said_in_script(alloc, files, Kind::Script, path, line, number)?;
     told_at(
         place_of(alloc, path, ":", line)?,
         said.as_slice(),
         meaning,
-        other,
+        other.as_slice(),
     )
 }
 
@@ -337,28 +296,31 @@ fn schema_reason<F: FileReader>(
     ensures { IfOk result (λ out. IsToldIn text_kind.Schema (SaysOfSchema (F.has files.now.reader.now) (F.lacks files.now.reader.now) path.now number) (SaysOfFile (F.has files.now.reader.now) (F.lacks files.now.reader.now) text_kind.Schema path.now) path.now line number out.items) }
 {
     let meaning = meaning_of(Kind::Schema, number);
-    let other = said_of_file(files, Kind::Schema, path);
+    let other = said_of_file(alloc, files, Kind::Schema, path)?;
     let said = said_in_schema(alloc, files, path, number)?;
     told_at(
         place_of(alloc, path, ":", line)?,
         said.as_slice(),
         meaning,
-        other,
+        other.as_slice(),
     )
 }
 
 /// The second line for a fault of the moves or turns.
-fn order_reason(
+fn order_reason<F: FileReader>(
     alloc: Global,
-    path: &str,
+    files: &Files<F>,
     kind: Kind,
     word: u64,
     number: u8,
 ) -> Result<Vec<u8>, AllocError>
-    ensures { IfOk result (λ out. IsToldOfOrder kind path.now word number out.items) }
+    ensures { IfOk result (λ out. IsToldOfOrder kind (SaysOfFile (F.has files.now.reader.now) (F.lacks files.now.reader.now) kind (order_path (order_map (λ path. path.now) files.now.paths.now.order))) (order_path (order_map (λ path. path.now) files.now.paths.now.order)) word number out.items) }
 {
+    let path = order_path(files.paths);
+    let meaning = meaning_of(kind, number);
+    let other = said_of_file(alloc, files, kind, path)?;
     let place = place_of(alloc, path, ": word ", word)?;
-    told_at(place, &[], meaning_of(kind, number), "")
+    told_at(place, &[], meaning, other.as_slice())
 }
 
 /// The second line for a fault of a program.
@@ -369,15 +331,16 @@ fn program_reason<F: FileReader>(
     line: u64,
     number: u8,
 ) -> Result<Vec<u8>, AllocError>
-    ensures { IfOk result (λ out. IsToldOfProgram (SaysOfScript (F.has files.now.reader.now) (F.lacks files.now.reader.now) text_kind.Program files.now.paths.now.schema.now path.now line number) path.now line number out.items) }
+    ensures { IfOk result (λ out. IsToldIn text_kind.Program (SaysOfScript (F.has files.now.reader.now) (F.lacks files.now.reader.now) text_kind.Program files.now.paths.now.schema.now path.now line number) (SaysOfFile (F.has files.now.reader.now) (F.lacks files.now.reader.now) text_kind.Program path.now) path.now line number out.items) }
 {
     let meaning = meaning_of(Kind::Program, number);
+    let other = said_of_file(alloc, files, Kind::Program, path)?;
     let said = said_in_script(alloc, files, Kind::Program, path, line, number)?;
     told_at(
         place_of(alloc, path, ":", line)?,
         said.as_slice(),
         meaning,
-        "",
+        other.as_slice(),
     )
 }
 
@@ -423,15 +386,16 @@ fn trace_reason<F: FileReader>(
     line: u64,
     number: u8,
 ) -> Result<Vec<u8>, AllocError>
-    ensures { IfOk result (λ out. IsToldOfTrace (SaysOfTrace (F.has files.now.reader.now) (F.lacks files.now.reader.now) path.now line number) path.now line number out.items) }
+    ensures { IfOk result (λ out. IsToldIn text_kind.Trace (SaysOfTrace (F.has files.now.reader.now) (F.lacks files.now.reader.now) path.now line number) (SaysOfFile (F.has files.now.reader.now) (F.lacks files.now.reader.now) text_kind.Trace path.now) path.now line number out.items) }
 {
     let meaning = meaning_of(Kind::Trace, number);
+    let other = said_of_file(alloc, files, Kind::Trace, path)?;
     let said = said_in_trace(files, path, line, number);
     told_at(
         place_of(alloc, path, ":", line)?,
         said.as_bytes(),
         meaning,
-        "",
+        other.as_slice(),
     )
 }
 
@@ -479,12 +443,10 @@ fn told_of<F: FileReader>(
             script_reason(alloc, files, path, *line, cause.number())
         }
         Fault::Moves { word, cause } => {
-            let path = order_path(paths);
-            order_reason(alloc, path, Kind::Moves, *word, cause.number())
+            order_reason(alloc, files, Kind::Moves, *word, cause.number())
         }
         Fault::Turns { word, cause } => {
-            let path = order_path(paths);
-            order_reason(alloc, path, Kind::Turns, *word, cause.number())
+            order_reason(alloc, files, Kind::Turns, *word, cause.number())
         }
         Fault::Program {
             number,

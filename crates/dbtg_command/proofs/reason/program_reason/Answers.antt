@@ -1,7 +1,7 @@
 use Rattle.std.proofs.lemmas.Result.{IfOk-weaker}
 use Rattle.dbtg_explain.specs.declared.topic.Kind.TheVariants.{Program}
-use Rattle.dbtg_command.specs.Reasons.{IsToldOfProgram, SaysOfScript}
-use Rattle.dbtg_command.proofs.reason.program_reason.Goals as goal
+use Rattle.dbtg_command.specs.Reasons.{IsToldIn, SaysOfFile, SaysOfScript}
+use Rattle.dbtg_command.proofs.reason.script_reason.Goals as goal
 
 pub returns : goal.returns
 returns g c =
@@ -9,6 +9,7 @@ returns g c =
     let has = g.F.FileReader.has files.reader.now in
     let lacks = g.F.FileReader.lacks files.reader.now in
     let Says = SaysOfScript has lacks Program files.paths.now.schema.now c.args.path.now c.args.line c.args.number in
-    IfOk-weaker c.told_at.result _ (λ out. IsToldOfProgram Says c.args.path.now c.args.line c.args.number out.items)
-    (λ out is. (c.in_ok-said.said.items, c.in_ok-said.ensures, rw (c.in_ok-place_of.ensures, c.as_slice.ensures.value, c.meaning_of-meaning.ensures) at is))
+    let Other = SaysOfFile has lacks Program c.args.path.now in
+    IfOk-weaker c.told_at.result _ (λ out. IsToldIn Program Says Other c.args.path.now c.args.line c.args.number out.items)
+    (λ out is. (c.in_ok-said.said.items, c.in_ok-other.other.items, c.in_ok-said.ensures, c.in_ok-other.ensures, rw (c.in_ok-place_of.ensures, c.as_slice.ensures.value, c.as_slice-2.ensures.value, c.meaning_of-meaning.ensures) at is))
     c.told_at.ensures

@@ -11,5 +11,5 @@ returns g c =
     let Says = SaysOfScript has lacks Script files.paths.now.schema.now c.args.path.now c.args.line c.args.number in
     let Other = SaysOfFile has lacks Script c.args.path.now in
     IfOk-weaker c.told_at.result _ (λ out. IsToldIn Script Says Other c.args.path.now c.args.line c.args.number out.items)
-    (λ out is. (c.in_ok-said.said.items, c.said_of_file-other.result.now, c.in_ok-said.ensures, c.said_of_file-other.ensures, rw (c.in_ok-place_of.ensures, c.as_slice.ensures.value, c.meaning_of-meaning.ensures) at is))
+    (λ out is. (c.in_ok-said.said.items, c.in_ok-other.other.items, c.in_ok-said.ensures, c.in_ok-other.ensures, rw (c.in_ok-place_of.ensures, c.as_slice.ensures.value, c.as_slice-2.ensures.value, c.meaning_of-meaning.ensures) at is))
     c.told_at.ensures
