@@ -249,19 +249,20 @@ fn said_in_script<F: FileReader>(
     }
 }
 
-/// The second line for a fault of a script.
+/// The second line for a fault of a script or a program.
 fn script_reason<F: FileReader>(
     alloc: Global,
     files: &Files<F>,
+    kind: Kind,
     path: &str,
     line: u64,
     number: u8,
 ) -> Result<Vec<u8>, AllocError>
-    ensures { IfOk result (λ out. IsToldIn text_kind.Script (SaysOfScript (F.has files.now.reader.now) (F.lacks files.now.reader.now) text_kind.Script files.now.paths.now.schema.now path.now line number) (SaysOfFile (F.has files.now.reader.now) (F.lacks files.now.reader.now) text_kind.Script path.now) path.now line number out.items) }
+    ensures { IfOk result (λ out. IsToldIn kind (SaysOfScript (F.has files.now.reader.now) (F.lacks files.now.reader.now) kind files.now.paths.now.schema.now path.now line number) (SaysOfFile (F.has files.now.reader.now) (F.lacks files.now.reader.now) kind path.now) path.now line number out.items) }
 {
-    let meaning = meaning_of(Kind::Script, number);
-    let other = said_of_file(alloc, files, Kind::Script, path)?;
-    let said = said_in_script(alloc, files, Kind::Script, path, line, number)?;
+    let meaning = meaning_of(kind, number);
+    let other = said_of_file(alloc, files, kind, path)?;
+    let said = said_in_script(alloc, files, kind, path, line, number)?;
     told_at(
         place_of(alloc, path, ":", line)?,
         said.as_slice(),
@@ -311,37 +312,16 @@ fn order_reason<F: FileReader>(
     alloc: Global,
     files: &Files<F>,
     kind: Kind,
+    path: &str,
     word: u64,
     number: u8,
 ) -> Result<Vec<u8>, AllocError>
-    ensures { IfOk result (λ out. IsToldOfOrder kind (SaysOfFile (F.has files.now.reader.now) (F.lacks files.now.reader.now) kind (order_path (order_map (λ path. path.now) files.now.paths.now.order))) (order_path (order_map (λ path. path.now) files.now.paths.now.order)) word number out.items) }
+    ensures { IfOk result (λ out. IsToldOfOrder kind (SaysOfFile (F.has files.now.reader.now) (F.lacks files.now.reader.now) kind path.now) path.now word number out.items) }
 {
-    let path = order_path(files.paths);
     let meaning = meaning_of(kind, number);
     let other = said_of_file(alloc, files, kind, path)?;
     let place = place_of(alloc, path, ": word ", word)?;
     told_at(place, &[], meaning, other.as_slice())
-}
-
-/// The second line for a fault of a program.
-fn program_reason<F: FileReader>(
-    alloc: Global,
-    files: &Files<F>,
-    path: &str,
-    line: u64,
-    number: u8,
-) -> Result<Vec<u8>, AllocError>
-    ensures { IfOk result (λ out. IsToldIn text_kind.Program (SaysOfScript (F.has files.now.reader.now) (F.lacks files.now.reader.now) text_kind.Program files.now.paths.now.schema.now path.now line number) (SaysOfFile (F.has files.now.reader.now) (F.lacks files.now.reader.now) text_kind.Program path.now) path.now line number out.items) }
-{
-    let meaning = meaning_of(Kind::Program, number);
-    let other = said_of_file(alloc, files, Kind::Program, path)?;
-    let said = said_in_script(alloc, files, Kind::Program, path, line, number)?;
-    told_at(
-        place_of(alloc, path, ":", line)?,
-        said.as_slice(),
-        meaning,
-        other.as_slice(),
-    )
 }
 
 /// What is wrong with the unit of a trace's line that names none of the units.
@@ -440,13 +420,15 @@ fn told_of<F: FileReader>(
             cause,
         } => {
             let path = script_path(paths, *number);
-            script_reason(alloc, files, path, *line, cause.number())
+            script_reason(alloc, files, Kind::Script, path, *line, cause.number())
         }
         Fault::Moves { word, cause } => {
-            order_reason(alloc, files, Kind::Moves, *word, cause.number())
+            let path = order_path(paths);
+            order_reason(alloc, files, Kind::Moves, path, *word, cause.number())
         }
         Fault::Turns { word, cause } => {
-            order_reason(alloc, files, Kind::Turns, *word, cause.number())
+            let path = order_path(paths);
+            order_reason(alloc, files, Kind::Turns, path, *word, cause.number())
         }
         Fault::Program {
             number,
@@ -454,7 +436,7 @@ fn told_of<F: FileReader>(
             cause,
         } => {
             let path = script_path(paths, *number);
-            program_reason(alloc, files, path, *line, cause.number())
+            script_reason(alloc, files, Kind::Program, path, *line, cause.number())
         }
         Fault::Trace { line, cause } => {
             let path = script_path(paths, 1);

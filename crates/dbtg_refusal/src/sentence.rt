@@ -1,5 +1,5 @@
 //! What is said of an obstacle, as a text.
-ghost use Rattle.std.specs.Prelude.{◌≡◌, ℕ, ◌++◌, codes, decimal, IfOk, OnOk, [], option_map, unwrap_or};
+ghost use Rattle.std.specs.Prelude.{◌≡◌, ℕ, ◌++◌, codes, decimal, IfOk, OnOk};
 ghost use Rattle.dbtg_unit.specs.Database.State.Base.{Database};
 ghost use Rattle.dbtg_unit.specs.Database.State.Image.{image_of};
 ghost use Rattle.dbtg_unit.specs.Database.State.Legal.{Legal};
@@ -173,21 +173,20 @@ fn push_sentence(
     push_whereabouts(out, schema, obstacle)
 }
 
-// The sentence, if something is in the way, and what is said of other areas.
-fn sentence_of(
+// The sentence of an obstacle, and what is said of other areas.
+fn text_of(
     alloc: Global,
     schema: &Schema,
     unit: &Unit,
     statement: &Statement,
-    why: (Cause, Option<Obstacle>),
+    why: (Cause, Obstacle),
 ) -> Result<Vec<u8>, AllocError>
-    ensures { IfOk result (λ out. out.items ≡ unwrap_or (option_map (λ thing. sentence schema.now why.0 thing ++ others schema.now unit.now statement.now why.0 thing) why.1) []) }
+    ensures { IfOk result (λ out. out.items ≡ sentence schema.now why.0 why.1 ++ others schema.now unit.now statement.now why.0 why.1) }
 {
+    let (cause, obstacle) = why;
     let mut out = Vec::new(alloc);
-    if let Some(obstacle) = why.1 {
-        push_sentence(&mut out, schema, why.0, &obstacle)?;
-        push_others(&mut out, schema, unit, statement, (why.0, obstacle))?;
-    }
+    push_sentence(&mut out, schema, cause, &obstacle)?;
+    push_others(&mut out, schema, unit, statement, (cause, obstacle))?;
     Ok(out)
 }
 
@@ -204,7 +203,8 @@ pub fn refusal_text(
     ensures { IfOk result (λ out. (capacity : ℕ) (db : Database) → Legal schema.now capacity db → image.now ≡ image_of schema.now capacity db → out.items ≡ refusal_text schema.now capacity db unit.now statement.now cause) }
 {
     match obstacle_of(alloc, schema, image, unit, statement, cause) {
-        Ok(found) => sentence_of(alloc, schema, unit, statement, (cause, found)),
+        Ok(Some(obstacle)) => text_of(alloc, schema, unit, statement, (cause, obstacle)),
+        Ok(None) => Ok(Vec::new(alloc)),
         Err(error) => Err(error),
     }
 }

@@ -18,7 +18,7 @@ returns g c = elim c.match-fault.branch [
       let told = IfOk-at_ok _ (sym w.told-is ∙ c.in_ok-told.was) w.order_reason-told-in-Turns.ensures in
       rw w.in-Turns.is (rw (w.order_path-path-in-Turns.ensures, w.number-in-Turns.ensures) at told)
   | in-Program w ↦
-      let told = IfOk-at_ok _ (sym w.told-is ∙ c.in_ok-told.was) w.program_reason-told.ensures in
+      let told = IfOk-at_ok _ (sym w.told-is ∙ c.in_ok-told.was) w.script_reason-told-in-Program.ensures in
       rw w.in-Program.is (rw (w.script_path-path-in-Program.ensures, w.number-in-Program.ensures) at told)
   | in-Trace w ↦
       let told = IfOk-at_ok _ (sym w.told-is ∙ c.in_ok-told.was) w.trace_reason-told.ensures in
