@@ -21,7 +21,7 @@ use Rattle.dbtg_refusal.specs.declared.obstacle.Obstacle.{Obstacle}
 use Rattle.dbtg_refusal.specs.declared.obstacle.Obstacle.TheVariants as obstacle
 use Rattle.dbtg_refusal.specs.Obstacles.{obstacle_of}
 use Rattle.dbtg_refusal.specs.Said.{said_from, said_in, said_with}
-use Rattle.dbtg_refusal.specs.Sentences.{others, predicate, refusal_text, sentence, subject, whereabouts}
+use Rattle.dbtg_refusal.specs.Sentences.{area_in_way, others, predicate, refusal_text, sentence, subject, whereabouts}
 use Rattle.dbtg_refusal.proofs.EachRefusal.{each_refusal}
 
 -- SENTENCES
@@ -93,7 +93,9 @@ says cause.OwnerHasMembers thing = refl
 -- with more behind it a text stays
 with_more : (text more : List ℕ) → is_empty text ≡ false → is_empty (text ++ more) ≡ false
 with_more [] more h = absurd (false≢true (sym h))
-with_more (b ∷ bs) more h = refl
+with_more (b ∷ bs) more h =
+    let all : length ((b ∷ bs) ++ more) ≡ suc (length bs) + length more = length-append (b ∷ bs) more in
+    ne_eqb (length ((b ∷ bs) ++ more)) 0 (λ none. omega (arith, all, none))
 
 has_sentence : (schema : Lists) (why : Cause) (more : Obstacle → List ℕ) (o : Option Obstacle) → is_some o ≡ true
     → is_empty (unwrap_or (option_map (λ thing. sentence schema why thing ++ more thing) o) []) ≡ false
@@ -113,7 +115,7 @@ module _ (schema : Lists) (capacity : ℕ) (sound : IsSound schema) where
   said_as_answered state e fit (Some unit) at answered (Refused why) is =
       let status = ap (λ (a : Answer). a.status) (same_Some (effect schema capacity state.database unit e.statement).answer e.answer answered) ∙ is in
       ap (λ (u : Option Unit). is_empty (unwrap_or (option_map (λ unit. refusal_text schema capacity state.database unit e.statement why) u) [])) at
-      ∙ has_sentence schema why (others schema unit e.statement why) (obstacle_of schema capacity state.database unit e.statement why) (each_refusal schema capacity state.database unit e.statement why sound fit status)
+      ∙ has_sentence schema why (λ (thing : Obstacle). others schema unit e.statement (area_in_way why thing)) (obstacle_of schema capacity state.database unit e.statement why) (each_refusal schema capacity state.database unit e.statement why sound fit status)
 
   said_of_entry : (state : State) (e : Entry) → fits schema e.statement ≡ true → answer_to schema capacity state e ≡ Some e.answer → is_empty (said_in schema capacity state e) ≡ is_done e.answer.status
   said_of_entry state e fit answered = said_as_answered state e fit (unit_of state e.unit) refl answered e.answer.status refl

@@ -90,13 +90,17 @@ abbrev pub other_areas : Lists → Unit → Statement → ℕ → List ℕ
 other_areas schema unit statement a =
     flat_map (λ b. if b == a then [] else other_area schema statement b (at unit.modes b)) (areas_in_order schema unit statement)
 
--- where an area is in the way, what is said of the others that are
-abbrev pub others : Lists → Unit → Statement → Cause → Obstacle → List ℕ
-others schema unit statement cause.AreaNotOpen (obstacle.Area a) = other_areas schema unit statement a
-others schema unit statement cause.UpdateModeNeeded (obstacle.Opened a user mode) = other_areas schema unit statement a
-others schema unit statement why thing = []
+-- the area that is in the way, where one is
+abbrev pub area_in_way : Cause → Obstacle → Option ℕ
+area_in_way cause.AreaNotOpen (obstacle.Area a) = Some a
+area_in_way cause.UpdateModeNeeded (obstacle.Opened a user mode) = Some a
+area_in_way why thing = None
+
+-- what is said of the others that are
+abbrev pub others : Lists → Unit → Statement → Option ℕ → List ℕ
+others schema unit statement area = unwrap_or (option_map (other_areas schema unit statement) area) []
 
 -- what is said of a statement that is refused for this cause; nothing if nothing is in the way
 abbrev pub refusal_text : Lists → ℕ → Database → Unit → Statement → Cause → List ℕ
 refusal_text schema capacity db unit statement why =
-    unwrap_or (option_map (λ thing. sentence schema why thing ++ others schema unit statement why thing) (obstacle_of schema capacity db unit statement why)) []
+    unwrap_or (option_map (λ thing. sentence schema why thing ++ others schema unit statement (area_in_way why thing)) (obstacle_of schema capacity db unit statement why)) []

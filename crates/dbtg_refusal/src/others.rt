@@ -4,7 +4,7 @@ ghost use Rattle.std.specs.List.{list_any};
 ghost use Rattle.dbtg_schema.specs.Lookups.{at};
 ghost use Rattle.dbtg_unit.specs.Database.Statements.Checks.{areas_of, changes_records};
 ghost use Rattle.dbtg_script.specs.Printing.Texts.{mode_text};
-ghost use Rattle.dbtg_refusal.specs.Sentences.{other_area, other_areas, others};
+ghost use Rattle.dbtg_refusal.specs.Sentences.{area_in_way, other_area, other_areas, others};
 
 use crate::areas::area_count;
 use crate::obstacle::Obstacle;
@@ -97,21 +97,29 @@ fn push_other_areas(
     Ok(())
 }
 
-/// Appends what is said of the other areas, if an area is in the way.
+/// The area that is in the way, where one is.
+pub(crate) fn area_in_way(cause: Cause, obstacle: &Obstacle) -> Option<AreaNo>
+    ensures { result ≡ area_in_way cause obstacle.now }
+{
+    match (cause, obstacle) {
+        (Cause::AreaNotOpen, Obstacle::Area(area)) => Some(*area),
+        (Cause::UpdateModeNeeded, Obstacle::Opened { area, .. }) => Some(*area),
+        _ => None,
+    }
+}
+
+/// Appends what is said of the other areas, if this one is in the way.
 pub(crate) fn push_others(
     out: &mut Vec<u8>,
     schema: &Schema,
     unit: &Unit,
     statement: &Statement,
-    why: (Cause, Obstacle),
+    area: Option<AreaNo>,
 ) -> Result<(), AllocError>
-    ensures { OnOk result (out.new.items ≡ out.old.items ++ others schema.now unit.now statement.now why.0 why.1) }
+    ensures { OnOk result (out.new.items ≡ out.old.items ++ others schema.now unit.now statement.now area) }
 {
-    match why {
-        (Cause::AreaNotOpen, Obstacle::Area(area))
-        | (Cause::UpdateModeNeeded, Obstacle::Opened { area, .. }) => {
-            push_other_areas(out, schema, unit, statement, area)
-        }
-        _ => Ok(()),
+    match area {
+        Some(area) => push_other_areas(out, schema, unit, statement, area),
+        None => Ok(()),
     }
 }

@@ -4,11 +4,11 @@ ghost use Rattle.dbtg_unit.specs.Database.State.Base.{Database};
 ghost use Rattle.dbtg_unit.specs.Database.State.Image.{image_of};
 ghost use Rattle.dbtg_unit.specs.Database.State.Legal.{Legal};
 ghost use Rattle.dbtg_script.specs.Printing.Texts.{owner_text, type_name};
-ghost use Rattle.dbtg_refusal.specs.Sentences.{area_name, others, predicate, refusal_text, sentence, set_name, subject, whereabouts};
+ghost use Rattle.dbtg_refusal.specs.Sentences.{area_in_way, area_name, others, predicate, refusal_text, sentence, set_name, subject, whereabouts};
 
 use crate::causes::obstacle_of;
 use crate::obstacle::Obstacle;
-use crate::others::push_others;
+use crate::others::{area_in_way, push_others};
 use dbtg_cells::Owner;
 use dbtg_schema::{AreaNo, RecordNo, Schema, SetNo};
 use dbtg_script::{push_key, push_mode, push_number, push_owner};
@@ -181,12 +181,13 @@ fn text_of(
     statement: &Statement,
     why: (Cause, Obstacle),
 ) -> Result<Vec<u8>, AllocError>
-    ensures { IfOk result (λ out. out.items ≡ sentence schema.now why.0 why.1 ++ others schema.now unit.now statement.now why.0 why.1) }
+    ensures { IfOk result (λ out. out.items ≡ sentence schema.now why.0 why.1 ++ others schema.now unit.now statement.now (area_in_way why.0 why.1)) }
 {
     let (cause, obstacle) = why;
     let mut out = Vec::new(alloc);
     push_sentence(&mut out, schema, cause, &obstacle)?;
-    push_others(&mut out, schema, unit, statement, (cause, obstacle))?;
+    let area = area_in_way(cause, &obstacle);
+    push_others(&mut out, schema, unit, statement, area)?;
     Ok(out)
 }
 
