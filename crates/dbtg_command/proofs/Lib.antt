@@ -2,6 +2,7 @@ mod Calls
 mod Commands
 mod Places
 mod WordsAsked
+mod AnyLine
 mod OtherKinds
 mod InTurn
 mod ForMemory

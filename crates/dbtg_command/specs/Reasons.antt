@@ -1,6 +1,6 @@
 -- The second line of a fault: its place, and what is said of it. `has` says that reading this many bytes of a path gave a text, `lacks`
 -- that it gave none, as the reader of files says it; for this line files are read again, and standard input is not.
-use Rattle.std.specs.Prelude.{ℕ, ◌≡◌, ◌==◌, ◌||◌, not, Bool, false, List, [], ◌++◌, ◌⊎◌, Some, None, codes, decimal, length, slice_get, string_bytes, unwrap_or, ◌-◌, if◌then◌else◌}
+use Rattle.std.specs.Prelude.{ℕ, ◌≡◌, ◌==◌, ◌||◌, not, false, List, [], ◌++◌, ◌⊎◌, Some, None, codes, decimal, length, slice_get, string_bytes, unwrap_or, ◌-◌, if◌then◌else◌}
 use Rattle.std.specs.Str.{bytes_eq}
 use Rattle.std.specs.Str.Lossy.{utf8_lossy}
 use Rattle.dbtg_schema.specs.Texts.Causes.{cause_number as schema_cause_number}

@@ -75,15 +75,23 @@ fn begins_order(word: &[u8]) -> bool
 }
 
 // Does a line begin as none of a script does?
+fn is_sentence(line: &[u8]) -> bool
+    ensures { result ≡ begins_sentence (first_word line.now) }
+{
+    begins_sentence(first_word(line))
+}
+
+fn any_sentence(lines: &[&[u8]]) -> bool
+    ensures { result ≡ list_any (λ line. begins_sentence (first_word line.now)) lines.now }
+{
+    lines.iter().any(|line| is_sentence(line))
+}
+
+// Does any line of a text?
 fn has_sentence(lines: &[&[u8]]) -> bool
     ensures { result ≡ list_any (λ line. begins_sentence (first_word line)) (map (λ l. l.now) lines.now) }
 {
-    for line in lines {
-        if begins_sentence(first_word(line)) {
-            return true;
-        }
-    }
-    false
+    any_sentence(lines)
 }
 
 fn word_of_first<'a>(lines: &[&'a [u8]]) -> &'a [u8]
