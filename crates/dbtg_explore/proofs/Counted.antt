@@ -1,7 +1,7 @@
 -- What comes of a program depends on what counts of its state alone.
 -- f is the number of a field, p is a program, x and y are its states, d is what is due.
 use Rattle.std.proofs.Common.{◌≡◌, ℕ, zero, suc, ◌+◌, ◌≤◌, Bool, true, false, List, [], ◌∷◌, ◌++◌, drop, map, Option, Some, None, refl, ap, subst, sym, ◌∙◌, slice_get, arith}
-use Rattle.std.specs.Prelude.{◌==◌, codes, decimal, if◌then◌else◌, option_and_then, option_map, slice_set, unwrap_or}
+use Rattle.std.specs.Prelude.{◌==◌, codes, decimal, if◌then◌else◌, option_and_then, option_map, option_to_list, slice_set, unwrap_or}
 use Rattle.std.specs.List.{list_any}
 use Rattle.std.proofs.lemmas.Bool.{eq-eqb, le-leb, or_left, or_right}
 use Rattle.dbtg_schema.specs.Lists.{Lists}
@@ -25,15 +25,17 @@ use Rattle.dbtg_program.specs.declared.program.Word.{Word}
 use Rattle.dbtg_program.specs.declared.program.Word.TheVariants as word
 use Rattle.dbtg_program.specs.Conditions.{asked, field_value, holds, stand_so, value_of}
 use Rattle.dbtg_program.specs.Going.{Due, Step, at_line, done, due, ended, ends, filled, from_step, goes, has_room, line_at, line_number, literal_of, made, makes, next, onward, placed, put, read_words, said_word, told, with_record, within}
+use Rattle.dbtg_program.specs.Passed.{outcome_of, passed_by, passed_within, passing, passing_at, refused}
 use Rattle.dbtg_program.specs.States.{ProgramState}
 use Rattle.dbtg_program.specs.Values.{added, as_field, subtracted}
 use Rattle.dbtg_script.specs.Printing.Texts.{items_text}
 use Rattle.dbtg_step.specs.Machine.SequentialDatabase.{unit_at, with_unit_at}
 use Rattle.dbtg_going.specs.declared.member.Standing.TheVariants.{Ended, GoesOn}
 use Rattle.dbtg_going.specs.Texts.{count_items, program_text, programs_text, standing_text}
-use Rattle.dbtg_going.specs.Turns.{statement_due}
+use Rattle.dbtg_going.specs.Turns.{state_in, statement_due}
 use Rattle.dbtg_explore.specs.Counted.{asks_for, counted, counted_each, counts, is_counter, is_field, is_read_by, reads, stands_for, values_from}
 use Rattle.dbtg_explore.specs.Results.{reached_of}
+use Rattle.dbtg_explore.specs.Inside.Ignored.{IgnoresIn}
 use Rattle.dbtg_explore.specs.Inside.Walks.{failure_by}
 
 -- VALUES
@@ -265,6 +267,54 @@ module _ (p : Program) where
     by further (makes a) (ends how) s = absurd s
     by further (ends how) (goes b) s = absurd s
     by further (ends how) (makes t) s = absurd s
+
+  -- WHAT IS PASSED
+
+  outcome_same : (x y : ProgramState) → AreSame x y → (s : Sentence) → ((f : ℕ) → is_read_by f s ≡ true → counts p f ≡ true) → outcome_of x s ≡ outcome_of y s
+  outcome_same x y same (If condition at) h = same_answer x y same condition h
+  outcome_same x y same (Assert condition) h = same_answer x y same condition h
+  outcome_same x y same Heading h = refl
+  outcome_same x y same (Statement s) h = refl
+  outcome_same x y same (Filled words) h = refl
+  outcome_same x y same (Move o f) h = refl
+  outcome_same x y same (Add o f) h = refl
+  outcome_same x y same (Subtract o f) h = refl
+  outcome_same x y same (GoTo at) h = refl
+  outcome_same x y same Stop h = refl
+
+  passing_same : (x y : ProgramState) → AreSame x y → passing_at p x ≡ passing_at p y
+  passing_same x y same = by (slice_get p.lines x.at) refl ∙ ap (λ k. option_to_list (option_map (passing y) (slice_get p.lines k))) same.at where
+    by : (o : Option Line) → slice_get p.lines x.at ≡ o → option_to_list (option_map (passing x) o) ≡ option_to_list (option_map (passing y) o)
+    by None e = refl
+    by (Some l) e = λ i. record { at = same.at i; outcome = outcome_same x y same l.sentence (read_there x.at l e) i } ∷ []
+
+  passed_same : (schema : Lists) (n : ℕ) (x y : ProgramState) → AreSame x y → passed_within schema p n x ≡ passed_within schema p n y
+  unfolding passed_within
+  passed_same schema zero x y same = refl
+  passed_same schema (suc n) x y same = by (λ a b s. passed_same schema n a b s) (at_line schema p x (line_at p x)) (at_line schema p y (line_at p y)) (step_same x y same schema) where
+    here : passing_at p x ≡ passing_at p y
+    here = passing_same x y same
+
+    by : ((a b : ProgramState) → AreSame a b → passed_within schema p n a ≡ passed_within schema p n b) → (a b : Step) → LeadSame a b → passed_by a (passing_at p x) (λ behind. passed_within schema p n behind) ≡ passed_by b (passing_at p y) (λ behind. passed_within schema p n behind)
+    by further (goes a) (goes b) s = λ i. here i ++ further a b s i
+    by further (makes s) (makes t) e = refl
+    by further (ends how) (ends other) e = here
+    by further (goes a) (makes t) s = absurd s
+    by further (goes a) (ends how) s = absurd s
+    by further (makes a) (goes b) s = absurd s
+    by further (makes a) (ends how) s = absurd s
+    by further (ends how) (goes b) s = absurd s
+    by further (ends how) (makes t) s = absurd s
+
+  -- where the same counts a program ignores the same
+  pub ignores_same : (schema : Lists) (status : ℕ) (d e : Due) → counted p d ≡ counted p e → IgnoresIn schema p status d → IgnoresIn schema p status e
+  ignores_same schema status (due x s) (due y t) is i =
+      let at : x.at ≡ y.at = ap (λ (d : Due). (state_in d).at) is in
+      let values : AgreeIn x.values y.values = ap (λ (d : Due). (state_in d).values) is in
+      let told = λ (code : ℕ). passed_same schema 100000 (refused x code) (refused y code) (record { at = ap (λ n. n + 1) at; status = refl; values = values }) in
+      (i.0, sym (told status) ∙ i.1 ∙ told 0)
+  ignores_same schema status (due x s) (ended y how) is i = absurd cc
+  ignores_same schema status (ended x how) e is i = absurd i
 
   -- AFTER AN ANSWER
 

@@ -49,7 +49,7 @@ module _ (m : Meeting) where
   line_counted p (due x s) = refl
   line_counted p (ended x how) = refl
 
-  counted_there : (h : List Entry) (u : ℕ) → unit_at (essence m (state_after m h)).programs u ≡ option_map (λ (p : Program). counted p (comes m.schema p u h)) (unit_at m.programs u)
+  pub counted_there : (h : List Entry) (u : ℕ) → unit_at (essence m (state_after m h)).programs u ≡ option_map (λ (p : Program). counted p (comes m.schema p u h)) (unit_at m.programs u)
   counted_there h u = counted_at m.programs (state_after m h).programs u ∙ ap (option_map (counted_by (unit_at m.programs u))) (comes_at m h u) ∙ by (unit_at m.programs u) where
     by : (o : Option Program) → option_map (counted_by o) (option_map (λ (p : Program). comes m.schema p u h) o) ≡ option_map (λ (p : Program). counted p (comes m.schema p u h)) o
     by None = refl
@@ -98,6 +98,17 @@ module _ (m : Meeting) where
     by : (o : Option Statement) → due_of m h u ≡ o → made m.schema m.capacity (length m.programs) h u o ≡ h ++ e ∷ [] → IsMade h u e
     by None said is = absurd (no_longer h e is)
     by (Some s) said is = by_effect s (effect_there h u s) said refl is
+
+  -- its unit made it
+  pub unit_made : (h : List Entry) (u : ℕ) (e : Entry) → after_turn m h u ≡ h ++ e ∷ [] → e.unit ≡ u
+  unit_made h u e is = by (due_of m h u) is where
+    by_effect : (s : Statement) (q : Option StatementEffect) → with_effect_of h u s q ≡ h ++ e ∷ [] → e.unit ≡ u
+    by_effect s None is = absurd (no_longer h e is)
+    by_effect s (Some r) is = sym (ap (λ (x : Entry). x.unit) (same_from_push h h _ e is).1)
+
+    by : (o : Option Statement) → made m.schema m.capacity (length m.programs) h u o ≡ h ++ e ∷ [] → e.unit ≡ u
+    by None is = absurd (no_longer h e is)
+    by (Some s) is = by_effect s (effect_there h u s) is
 
   -- an entry with the same
   pub record MakesSame (h : List Entry) (u : ℕ) (e : Entry) : Type 0 where

@@ -1,7 +1,7 @@
 -- The number of the state after a turn, where its transition is known.
 -- m is a meeting, h is a history, o an order, u a unit, t a transition, n and j are numbers of states.
 use Rattle.std.proofs.Common.{◌≡◌, sym, ◌∙◌, ap, subst, ℕ, ◌+◌, ◌-◌, true, false, List, [], ◌∷◌, ◌++◌, length, take, inl, inr}
-use Rattle.std.specs.Prelude.{All}
+use Rattle.std.specs.Prelude.{◌↔◌, All, IsTrue}
 use Rattle.std.specs.List.{list_any}
 use Rattle.std.proofs.lemmas.Bool.{false≢true, false_from_ne_true}
 use Rattle.dbtg_interned.specs.Arrays.{IsArray, elements}
@@ -26,6 +26,7 @@ use Rattle.dbtg_explore.specs.declared.next_state.Seen as given
 use Rattle.dbtg_explore.specs.declared.search.Search as search
 use Rattle.dbtg_explore.specs.Orders.{Meeting, history_of}
 use Rattle.dbtg_explore.specs.States.{sequential_after}
+use Rattle.dbtg_explore.specs.Inside.Ignored.{Ignores}
 use Rattle.dbtg_explore.specs.Inside.Next.{IsFound, Reaches, RecordsStay, is_slot}
 use Rattle.dbtg_explore.specs.Inside.Parts.{IsNumberOf, cell_part, parts_of, unit_part}
 use Rattle.dbtg_explore.specs.Inside.Replies.{status_due}
@@ -66,7 +67,7 @@ module _ (m : Meeting) (seen : given.Seen) (kept : Numbers) (o : List ℕ) (n u 
 
   -- it follows there, and its statement gets the status
   abbrev Leads : ℕ → Type 0
-  Leads v = Follow kept.contents (parts_of m (history_of m o)) (parts_of m (history_of m (o ++ v ∷ []))) t.looks × (t.status ≡ status_due m (history_of m o) v)
+  Leads v = Follow kept.contents (parts_of m (history_of m o)) (parts_of m (history_of m (o ++ v ∷ []))) t.looks × (t.status ≡ status_due m (history_of m o) v) × (IsTrue t.ignored ↔ Ignores m (history_of m o) v)
 
   leads : Leads u
   leads =
@@ -79,6 +80,9 @@ module _ (m : Meeting) (seen : given.Seen) (kept : Numbers) (o : List ℕ) (n u 
   pub known_status : t.status ≡ status_due m (history_of m o) u
   known_status = leads.1
 
+  pub known_ignored : IsTrue t.ignored ↔ Ignores m (history_of m o) u
+  known_ignored = leads.2
+
   pub known_number : (new : Numbers) (j : ℕ) → AreNumbers new → Grow kept new → IsArray new.arrays j → elements new.arrays j ≡ written t.looks (elements kept.arrays n) → IsNumberOf m new (history_of m (o ++ u ∷ [])) j
   known_number new j once keeps is_array wrote =
       let there = history_of m (o ++ u ∷ []) in
@@ -86,14 +90,16 @@ module _ (m : Meeting) (seen : given.Seen) (kept : Numbers) (o : List ℕ) (n u 
 
 -- REACHED
 
-pub reaches : (m : Meeting) (o : List ℕ) (u : ℕ) (old new : search.Search) (kept : Numbers) (next : Next) → new.found ≡ old.found → new.edges.items ≡ old.edges.items → new.replies ≡ old.replies
-    → new.numbers ≡ kept → IsNumberOf m kept (history_of m (o ++ u ∷ [])) next.state → next.status ≡ status_due m (history_of m o) u → Grow old.numbers kept → AreSeen m kept.contents new.seen → Reaches m o u old new next
-reaches m o u old new kept next found_is edges_are replies_are numbers_is number status_is keeps seen = record {
+pub reaches : (m : Meeting) (o : List ℕ) (u : ℕ) (old new : search.Search) (kept : Numbers) (next : Next) → new.found ≡ old.found → new.edges.items ≡ old.edges.items → new.replies ≡ old.replies → new.ignored.items ≡ old.ignored.items
+    → new.numbers ≡ kept → IsNumberOf m kept (history_of m (o ++ u ∷ [])) next.state → next.status ≡ status_due m (history_of m o) u → (IsTrue next.ignored ↔ Ignores m (history_of m o) u) → Grow old.numbers kept → AreSeen m kept.contents new.seen → Reaches m o u old new next
+reaches m o u old new kept next found_is edges_are replies_are noted_are numbers_is number status_is ignored_is keeps seen = record {
   number = subst (λ (k : Numbers). IsNumberOf m k (history_of m (o ++ u ∷ [])) next.state) (sym numbers_is) number;
   status_is = status_is;
+  ignored_is = ignored_is;
   keeps = subst (Grow old.numbers) (sym numbers_is) keeps;
   seen = subst (λ (k : Numbers). AreSeen m k.contents new.seen) (sym numbers_is) seen;
   found_is = found_is;
   edges_are = edges_are;
   replies_are = replies_are;
+  noted_are = noted_are;
 }

@@ -22,11 +22,11 @@ use Rattle.dbtg_explore.proofs.Searched.{contains_none}
 
 -- A SET
 
-reply_total : IsTotalOrder reply_cmp
+pub reply_total : IsTotalOrder reply_cmp
 reply_total = then_total (on_total (λ (q : Reply). q.unit) nat_cmp_total) (then_total (on_total (λ (q : Reply). q.line) nat_cmp_total) (on_total (λ (q : Reply). q.status) nat_cmp_total))
 
 -- replies that compare alike are one
-reply_exact : CmpEqualImpliesEq reply_cmp
+pub reply_exact : CmpEqualImpliesEq reply_cmp
 reply_exact q p h =
     ap (λ (t : ℕ × (ℕ × ℕ)). record { unit = t.0; line = t.1.0; status = t.1.1 })
     (exact_pairs nat_cmp (λ (x y : ℕ × ℕ). ordering_then (nat_cmp x.0 y.0) (nat_cmp x.1 y.1)) exact_unsigned (exact_pairs nat_cmp nat_cmp exact_unsigned exact_unsigned) (q.unit, (q.line, q.status)) (p.unit, (p.line, p.status)) h)

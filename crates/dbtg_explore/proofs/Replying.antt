@@ -55,7 +55,7 @@ module _ (m : Meeting) where
   status_made h u e is = λ i. unwrap_or (option_and_then (λ (s : Statement). option_map (λ (a : Answer). status_code s a.status) (is.answer i)) (is.statement i)) 0
 
   -- what a turn is noted as comes
-  comes_so : (o : List ℕ) (u : ℕ) → IsOrder m (o ++ u ∷ []) → Comes m (reply_of m (history_of m o) u)
+  pub comes_so : (o : List ℕ) (u : ℕ) → IsOrder m (o ++ u ∷ []) → Comes m (reply_of m (history_of m o) u)
   comes_so o u is =
       let h = history_of m o in
       let one = makes_one o u (last_can m o u is) in
@@ -67,7 +67,7 @@ module _ (m : Meeting) where
       }
 
   -- and it is noted alike behind orders that lead to the same state
-  reply_alike : (o p : List ℕ) (u : ℕ) → essence_of m o ≡ essence_of m p → reply_of m (history_of m o) u ≡ reply_of m (history_of m p) u
+  pub reply_alike : (o p : List ℕ) (u : ℕ) → essence_of m o ≡ essence_of m p → reply_of m (history_of m o) u ≡ reply_of m (history_of m p) u
   reply_alike o p u e =
       let h = history_of m o in
       let g = history_of m p in

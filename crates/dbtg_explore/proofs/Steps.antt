@@ -1,7 +1,7 @@
 -- The steps of a search, as the code makes them.
 -- m is a meeting, o and p are orders, u is a unit, i and k are places of orders that are found, es are turns that are noted.
-use Rattle.std.proofs.Common.{◌≡◌, refl, sym, ◌∙◌, ap, subst, ℕ, zero, suc, ◌+◌, ◌<◌, ◌≤◌, true, false, List, [], ◌∷◌, ◌++◌, append_assoc, append-nil, length, length-append, map, get_or, None, Some, arith, inl, inr, ⊎_elim}
-use Rattle.std.specs.Prelude.{Contains, slice_get}
+use Rattle.std.proofs.Common.{◌≡◌, refl, sym, ◌∙◌, ap, subst, ℕ, zero, suc, ◌+◌, ◌<◌, ◌≤◌, Bool, true, false, List, [], ◌∷◌, ◌++◌, append_assoc, append-nil, length, length-append, map, get_or, None, Some, arith, inl, inr, ⊎_elim}
+use Rattle.std.specs.Prelude.{◌↔◌, Contains, IsTrue, slice_get}
 use Rattle.std.proofs.lemmas.List.Elements.{Contains-get_or}
 use Rattle.std.proofs.lemmas.Option.{same_Some}
 use Rattle.dbtg_unit.specs.declared.unit.Entry.{Entry}
@@ -10,6 +10,7 @@ use Rattle.dbtg_states.specs.Numbers.{Grow, Numbers}
 use Rattle.dbtg_rounds.specs.declared.edge.Edge.{Edge}
 use Rattle.dbtg_explore.specs.declared.search.Search as given
 use Rattle.dbtg_explore.specs.Inside.Found.{FoundOrders, IsEntered, IsPut}
+use Rattle.dbtg_explore.specs.Inside.Ignored.{HasIgnored, Ignores, TakesIf}
 use Rattle.dbtg_explore.specs.Inside.Replies.{HasReplies, TakesReply, reply_of}
 use Rattle.dbtg_explore.specs.Inside.Search.{IsUnderWay}
 use Rattle.dbtg_explore.specs.Inside.Parts.{AreNumbered, IsNumberOf}
@@ -18,6 +19,7 @@ use Rattle.dbtg_explore.specs.Inside.Transitions.{AreSeen}
 use Rattle.dbtg_explore.specs.Orders.{IsMeeting, IsOrder, Meeting, beginning, can_turn, history_of}
 use Rattle.dbtg_explore.specs.States.{HasMoreStates, essence_of}
 use Rattle.dbtg_explore.proofs.Alike.{can_turn_alike, same_after}
+use Rattle.dbtg_explore.proofs.Ignored.{more_ignored, next_ignored, no_ignored, none_ignored, one_ignored}
 use Rattle.dbtg_explore.proofs.Noted.{more_orders, next_replies, no_reply, none_noted, one_reply}
 use Rattle.dbtg_explore.proofs.Numbered.{numbered_later, numbered_long, numbered_more, order_numbered, state_at}
 use Rattle.dbtg_explore.proofs.Parts.{same_number, same_state}
@@ -83,14 +85,15 @@ module _ (m : Meeting) where
     begins : found.orders ≡ [] ∷ []
     begins = ap (λ (f : FoundOrders ℕ). f.orders) is
 
-    pub at_first : (s : given.Search) → s.found ≡ found → s.edges.items ≡ [] → s.replies.keys ≡ [] → IsNumberOf m s.numbers (history_of m []) n → AreSeen m s.numbers.contents s.seen → IsAt m 0 0 s
-    at_first s found_is edges_are replies_are number seen =
+    pub at_first : (s : given.Search) → s.found ≡ found → s.edges.items ≡ [] → s.replies.keys ≡ [] → s.ignored.items ≡ [] → IsNumberOf m s.numbers (history_of m []) n → AreSeen m s.numbers.contents s.seen → IsAt m 0 0 s
+    at_first s found_is edges_are replies_are ignored_are number seen =
         let orders : s.found.orders ≡ [] ∷ [] = ap (λ (f : FoundOrders ℕ). f.orders) found_is ∙ begins in
         record {
           under_way = subst (λ os. Under os s.edges.items 0 0) (sym orders) (subst (λ es. Under ([] ∷ []) es 0 0) (sym edges_are) (at_beginning (IsOrder m) (can_follow m) (essence_of m) goes_on));
           known = subst (λ (f : FoundOrders ℕ). AreNumbered m s.numbers f.keys f.orders) (sym (found_is ∙ is)) (number, tt);
           seen = seen;
           replies = subst (λ os. HasReplies m os 0 0 s.replies.keys) (sym orders) (subst (HasReplies m ([] ∷ []) 0 0) (sym replies_are) (none_noted m));
+          ignored = subst (λ os. HasIgnored m os 0 0 s.ignored.items) (sym orders) (subst (HasIgnored m ([] ∷ []) 0 0) (sym ignored_are) (none_ignored m));
         }
 
   -- there are more states than have to be
@@ -172,20 +175,24 @@ module _ (m : Meeting) where
 
         -- the search goes on
         pub goes_further : (new : given.Search) → new.found ≡ found → new.edges.items ≡ with_turn k → new.numbers ≡ kept → AreSeen m new.numbers.contents new.seen
-            → TakesReply (reply_of m (history_of m (get_or old.found.orders i [])) u) old.replies.keys new.replies.keys → Goes m i (u + 1) old new
-        goes_further new found_is edges_are numbers_is seen takes =
+            → TakesReply (reply_of m (history_of m (get_or old.found.orders i [])) u) old.replies.keys new.replies.keys
+            → (b : Bool) → (IsTrue b ↔ Ignores m (history_of m (get_or old.found.orders i [])) u)
+            → TakesIf b (record { reply = reply_of m (history_of m (get_or old.found.orders i [])) u; place = i }) old.ignored.items new.ignored.items → Goes m i (u + 1) old new
+        goes_further new found_is edges_are numbers_is seen takes b ignores takes_if =
             let t = subst (λ (f : FoundOrders ℕ). Turned old.found f new.edges.items i (u + 1)) (sym found_is) (subst (λ es. Turned old.found found es i (u + 1)) (sym edges_are) has_turned) in
             let numbered = subst (λ k. AreNumbered m k new.found.keys new.found.orders) (sym numbers_is) (subst (λ (f : FoundOrders ℕ). AreNumbered m kept f.keys f.orders) (sym found_is) still_numbered) in
             let is_order = order_on m (get_or old.found.orders i []) u (at.under_way.are_orders (get_or old.found.orders i []) (Contains-get_or old.found.orders i [] in_range)) can in
             let noted = one_reply m old.found.orders i u old.replies.keys at.replies new.replies.keys takes is_order in
             let replies = more_orders m old.found.orders i (u + 1) new.replies.keys noted t.more new.found.orders t.kept in_range in
-            record { at = record { under_way = t.way; known = numbered; seen = seen; replies = replies }; more = t.more; kept = t.kept }
+            let one = one_ignored m old.found.orders i u old.ignored.items at.ignored b new.ignored.items ignores takes_if is_order in_range in
+            let ignored = more_ignored m old.found.orders i (u + 1) new.ignored.items one t.more new.found.orders t.kept in_range in
+            record { at = record { under_way = t.way; known = numbered; seen = seen; replies = replies; ignored = ignored }; more = t.more; kept = t.kept }
 
   -- FROM ONE UNIT TO THE NEXT
 
   pub stays : (s : given.Search) (i u : ℕ) (in_range : i < length s.found.orders) (at : IsAt m i u s) → can_follow m (get_or s.found.orders i []) u ≡ false → Goes m i (u + 1) s s
   stays s i u in_range at cannot = record {
-    at = record { under_way = no_turn (IsOrder m) (can_follow m) (essence_of m) goes_on s.found.orders s.edges.items i u in_range at.under_way cannot; known = at.known; seen = at.seen; replies = no_reply m s.found.orders i u s.replies.keys at.replies cannot };
+    at = record { under_way = no_turn (IsOrder m) (can_follow m) (essence_of m) goes_on s.found.orders s.edges.items i u in_range at.under_way cannot; known = at.known; seen = at.seen; replies = no_reply m s.found.orders i u s.replies.keys at.replies cannot; ignored = no_ignored m s.found.orders i u s.ignored.items at.ignored cannot };
     more = [];
     kept = sym (append-nil s.found.orders);
   }
@@ -208,6 +215,7 @@ module _ (m : Meeting) where
       known = g.at.known;
       seen = g.at.seen;
       replies = next_replies m b.found.orders i (length m.programs + 1) b.replies.keys g.at.replies (λ v le. cannot_beyond (get_or b.found.orders i []) v (omega (arith, le)));
+      ignored = next_ignored m b.found.orders i (length m.programs + 1) b.ignored.items g.at.ignored (λ v le. cannot_beyond (get_or b.found.orders i []) v (omega (arith, le)));
     };
     more = g.more;
     kept = g.kept;

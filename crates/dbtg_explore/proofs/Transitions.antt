@@ -1,7 +1,7 @@
 -- What was seen once of a turn is so wherever the same is looked at.
 -- m is a meeting, h and g are histories, o and q orders, u and v units, x is a statement, t a transition, c the name of a cell.
 use Rattle.std.proofs.Common.{◌≡◌, refl, sym, ◌∙◌, ap, subst, ℕ, zero, suc, ◌+◌, ◌-◌, ◌<◌, ◌≤◌, Bool, true, false, List, [], ◌∷◌, ◌++◌, length, Option, Some, None, inl, inr, ⊎_elim, arith, map, slice_get}
-use Rattle.std.specs.Prelude.{◌≢◌, is_some, option_and_then, option_map, slice_set, unwrap_or}
+use Rattle.std.specs.Prelude.{◌≢◌, ◌↔◌, IsTrue, is_some, option_and_then, option_map, slice_set, unwrap_or}
 use Rattle.std.proofs.lemmas.Bool.{cases_Bool, false_from_ne_true}
 use Rattle.std.proofs.lemmas.Option.{same_Some, slice_get_within}
 use Rattle.dbtg_interned.specs.Kept.{Keeps}
@@ -42,11 +42,13 @@ use Rattle.dbtg_explore.specs.Laws.{answer_of}
 use Rattle.dbtg_explore.specs.Orders.{IsMeeting, Meeting, due_of, history_of}
 use Rattle.dbtg_explore.specs.States.{MeetingState, sequential_after, state_of}
 use Rattle.dbtg_explore.specs.Versions.{unversioned, unversioned_entry, unversioned_unit}
+use Rattle.dbtg_explore.specs.Inside.Ignored.{Ignores}
 use Rattle.dbtg_explore.specs.Inside.Parts.{cell_part, kept_count, parts_of, unit_part}
 use Rattle.dbtg_explore.specs.Inside.Replies.{status_due}
 use Rattle.dbtg_explore.specs.Inside.Transitions.{AreKnown, AreSeen, IsKnown, IsPassage, IsTransition, KeepsAlone, SlotsStay}
 use Rattle.dbtg_explore.proofs.Alike.{IsDueOf, comes_at, comes_same, comes_then, due_by as due_in_state, due_is, due_there, programs_then, state_of_on, with_made, with_outcome}
 use Rattle.dbtg_explore.proofs.Counted.{counted_due}
+use Rattle.dbtg_explore.proofs.Ignores.{ignores_where}
 use Rattle.dbtg_explore.proofs.Keyed.{due_fits, legal, of_due, units_count}
 use Rattle.dbtg_explore.proofs.Parts.{counted_there, part_counted, part_said, part_tells, said_of}
 use Rattle.dbtg_explore.proofs.Versions.Looked.{LeadAlike, leads_alike, tells}
@@ -310,18 +312,29 @@ module _ (m : Meeting) (determines : LookedAtDetermines) (is : IsMeeting m) (kep
           passed.status_is ∙ its_status m o u x unit low its stands passed.looks_at.due ∙ ap (λ (a : Answer). status_code x a.status) lead.answer
           ∙ sym (its_status m q u x own low its' stands' due')
 
+      -- which is ignored or not
+      ignored_then : IsTrue passage.ignored ↔ Ignores m g u
+      ignored_then =
+          let status : status_due m h u ≡ status_due m g u = sym passed.status_is ∙ status_then in (
+            (λ is. ignores_where m h g u its.program its.found told.0 status (passed.ignored_is.0 is)),
+            (λ is. passed.ignored_is.1 (ignores_where m g h u its.program its.found (sym told.0) (sym status) is)),
+          )
+
       leads : Follow kept.contents (parts_of m g) (parts_of m g') t.looks
       leads = follows _ _ _ _ _ _ _ was_seen (unit_part m g) (cell_part m g) say (unit_part m g') (cell_part m g') part_then cell_same_then (λ v _ apart. other_part v apart) other_cell
 
   -- so it leads wherever the same is looked at
-  is_transition : IsTransition m kept.contents changing u passage.status t.looks
+  is_transition : IsTransition m kept.contents changing u passage.status passage.ignored t.looks
   is_transition q alone say =
       let unit = its_unit o in
       let own = its_unit q in
-      (leads q alone say unit.0 own.0 unit.1 own.1, status_then q alone say unit.0 own.0 unit.1 own.1)
+      (leads q alone say unit.0 own.0 unit.1 own.1, status_then q alone say unit.0 own.0 unit.1 own.1, ignored_then q alone say unit.0 own.0 unit.1 own.1)
 
-  leads_so : IsTransition m kept.contents changing t.unit t.status t.looks
-  leads_so = subst (λ v. IsTransition m kept.contents changing v t.status t.looks) (sym of.unit_is) (subst (λ k. IsTransition m kept.contents changing u k t.looks) (sym of.status_is) is_transition)
+  leads_so : IsTransition m kept.contents changing t.unit t.status t.ignored t.looks
+  leads_so =
+      subst (λ v. IsTransition m kept.contents changing v t.status t.ignored t.looks) (sym of.unit_is)
+      (subst (λ k. IsTransition m kept.contents changing u k t.ignored t.looks) (sym of.status_is)
+      (subst (λ b. IsTransition m kept.contents changing u passage.status b t.looks) (sym of.ignored_is) is_transition))
 
   is_known : IsKnown m kept.contents changing t
   is_known = record { looks = looks_are _ _ _ _ _ _ _ was_seen; leads = leads_so }
@@ -343,7 +356,7 @@ module _ (m : Meeting) (old new : List (List ℕ)) (keeps : Keeps old new) where
         looks = looks_later old new keeps count t.looks known.looks;
         leads = λ q alone say.
             let lead = known.leads q alone (said_before old new keeps count t.looks known.looks (parts_of m (history_of m q)) say) in
-            (follow_later old new keeps count t.looks known.looks (parts_of m (history_of m q)) (parts_of m (history_of m (q ++ t.unit ∷ []))) lead.0, lead.1);
+            (follow_later old new keeps count t.looks known.looks (parts_of m (history_of m q)) (parts_of m (history_of m (q ++ t.unit ∷ []))) lead.0, lead.1, lead.2);
       }
 
   pub seen_later : (seen : given.Seen) → AreSeen m old seen → AreSeen m new seen

@@ -18,6 +18,7 @@ use Rattle.dbtg_explore.specs.declared.explored.Failure.{Failure}
 use Rattle.dbtg_explore.specs.declared.explored.FirstFailure.{FirstFailure}
 use Rattle.dbtg_explore.specs.declared.search.Search as search
 use Rattle.dbtg_explore.specs.Explored.{IsExplored, IsFirstEndless}
+use Rattle.dbtg_explore.specs.Ignored.{AreIgnored}
 use Rattle.dbtg_explore.specs.Inside.Ends.{AreEndsOf, FailsIn, IsBehind, Notes}
 use Rattle.dbtg_explore.specs.Inside.Failures.{AreFirst}
 use Rattle.dbtg_explore.specs.Inside.Found.{orders_at}
@@ -203,11 +204,12 @@ module _ (m : Meeting) where
       }
 
     -- so everything is explored, except for ways round
-    pub is_explored : (all : given.Explored) → all.states ≡ length s.found.orders → all.results ≡ orders_at s.found.orders e.results.places → AreFirst m s.found.orders e.failures.items all.failures → IsFirstEndless m all.endless → AreReplies m all.replies → IsExplored m all
-    is_explored all states_are results_are are_first endless replies = record {
+    pub is_explored : (all : given.Explored) → all.states ≡ length s.found.orders → all.results ≡ orders_at s.found.orders e.results.places → AreFirst m s.found.orders e.failures.items all.failures → IsFirstEndless m all.endless → AreReplies m all.replies → AreIgnored m all.ignored → IsExplored m all
+    is_explored all states_are results_are are_first endless replies ignored = record {
       states = subst (CountsStates m) (sym states_are) counts;
       results = subst (AreResults m) (sym results_are) are_results;
       failures = are_failures all.failures are_first;
       endless = endless;
       replies = replies;
+      ignored = ignored;
     }

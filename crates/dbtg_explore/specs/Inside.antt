@@ -3,6 +3,7 @@
 pub mod Ends
 pub mod Failures
 pub mod Found
+pub mod Ignored
 pub mod Keys
 pub mod Links
 pub mod Next

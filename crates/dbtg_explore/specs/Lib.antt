@@ -1,5 +1,6 @@
 pub mod Counted
 pub mod Explored
+pub mod Ignored
 pub mod Laws
 pub mod Orders
 pub mod Pairwise

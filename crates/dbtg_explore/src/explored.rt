@@ -11,6 +11,7 @@ ghost use Rattle.std.specs.Prelude.{◌≡◌, ◌≤◌, ◌<◌, [], length, s
 
 use crate::endless::endless_in;
 use crate::ends::Ends;
+use crate::ignored::{Ignored, with_turns};
 use crate::meeting::Meeting;
 use crate::replies::{Reply, replies_in_order};
 use crate::search::Search;
@@ -42,7 +43,7 @@ pub struct Endless {
 }
 
 /// Everything that programs can come to: how many states there are, the turns that lead to each result, the failures, a way round if there
-/// is one, and what their statements are answered.
+/// is one, what their statements are answered, and the refusals that they ignore.
 #[derive(Drop)]
 pub struct Explored {
     pub states: u64,
@@ -50,6 +51,7 @@ pub struct Explored {
     pub failures: Row<FirstFailure>,
     pub endless: Option<Endless>,
     pub replies: Row<Reply>,
+    pub ignored: Row<Ignored>,
 }
 
 impl Search {
@@ -151,18 +153,21 @@ fn explored_by<'a, W: Watch>(
         seen,
         edges,
         replies,
+        ignored,
     } = search;
     // They take most of the memory.
     drop(numbers);
     drop(seen);
     let endless = endless_in(alloc, &found, edges)?;
     let replies = replies_in_order(alloc, replies)?;
+    let ignored = with_turns(alloc, &found, ignored.as_slice())?;
     Ok(Explored {
         states,
         results,
         failures,
         endless,
         replies,
+        ignored,
     })
 }
 

@@ -7,6 +7,7 @@ mod explored;
 mod failures;
 mod first_failures;
 mod found;
+mod ignored;
 mod key;
 mod known;
 mod laws;
@@ -26,6 +27,7 @@ mod way;
 mod wishes;
 
 pub use explored::{Endless, Explored, Failure, FirstFailure, explore};
+pub use ignored::Ignored;
 pub use laws::{
     a_round_goes_on_for_ever, every_run_by_turns_comes_out, every_run_comes_out,
     going_on_for_ever_goes_round, versions_are_no_state, what_counts_is_all,

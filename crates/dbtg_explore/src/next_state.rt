@@ -18,11 +18,12 @@ use dbtg_cells::CellName;
 use dbtg_states::{Numbers, Passage, Transition, Transitions, what_is_looked_at_determines};
 use std::alloc::{AllocError, Global};
 
-/// The number of the state after a turn, and the status that its statement got.
+/// The number of the state after a turn, the status that its statement got, and whether its program ignores that.
 #[derive(Clone, Copy)]
 pub struct Next {
     pub state: u32,
     pub status: u16,
+    pub ignored: bool,
 }
 
 /// Transitions of statements that were made. What a statement did that changed no record it does wherever it looks at the same. One that
@@ -165,10 +166,12 @@ impl Search {
     {
         meeting.go_to(alloc, walk, &self.found, place)?;
         let names = meeting.cells_at(alloc, walk, unit)?;
+        let due = meeting.state_at(alloc, walk, unit)?;
         let before = self.found.number(place);
         let turn = Link::new(place, unit)?;
         let after = meeting.number_after(alloc, walk, turn, &mut self.numbers, before)?;
         let status = walk.last_status();
+        let ignored = meeting.is_ignored(alloc, unit, &due, status)?;
         if let Some(names) = names {
             let changing = has_changed_record(walk);
             let passage = Passage {
@@ -176,12 +179,14 @@ impl Search {
                 before,
                 after,
                 status,
+                ignored,
             };
             self.remember(alloc, meeting, passage, names.as_slice(), changing)?;
         }
         Ok(Next {
             state: after,
             status,
+            ignored,
         })
     }
 
@@ -206,10 +211,14 @@ impl Search {
         let state = self.found.number(place);
         match self.seen.find(meeting, &self.numbers, state, unit) {
             Some(known) => {
-                let status = known.status;
+                let (status, ignored) = (known.status, known.ignored);
                 let looks = known.looks.as_slice();
                 let state = self.numbers.put_looks(alloc, state, looks)?;
-                Ok(Next { state, status })
+                Ok(Next {
+                    state,
+                    status,
+                    ignored,
+                })
             }
             None => self.made_state(alloc, meeting, place, walk, unit),
         }

@@ -6,6 +6,7 @@ ghost use Rattle.dbtg_explore.specs.Inside.Steps.{Goes, IsAt};
 ghost use Rattle.dbtg_explore.specs.Orders.{IsMeeting, can_turn, history_of};
 ghost use Rattle.std.specs.Prelude.{◌≡◌, ◌+◌, ◌<◌, [], true, length, slice_index_or, IfOk, OnOk};
 
+use crate::ignored::{Noted, note_if};
 use crate::known::Known;
 use crate::meeting::Meeting;
 use crate::next_state::{Next, Seen};
@@ -16,7 +17,8 @@ use dbtg_states::Numbers;
 use std::alloc::{AllocError, Global};
 use std::collections::BTreeSet;
 
-/// The first order to each state that is found, the numbers of states, the turns from state to state, and what statements were answered.
+/// The first order to each state that is found, the numbers of states, the turns from state to state, what statements were answered, and
+/// which refusals are ignored.
 #[derive(Drop)]
 pub struct Search {
     pub found: Known,
@@ -24,6 +26,7 @@ pub struct Search {
     pub seen: Seen,
     pub edges: Vec<Edge>,
     pub replies: BTreeSet<Reply>,
+    pub ignored: Vec<Noted>,
 }
 
 impl Search {
@@ -42,6 +45,7 @@ impl Search {
             seen: Seen::none(alloc),
             edges: Vec::new(alloc),
             replies: BTreeSet::new(alloc),
+            ignored: Vec::new(alloc),
         })
     }
 
@@ -63,8 +67,11 @@ impl Search {
         ensures goes { OnOk result (Goes meeting.now place (unit + 1) self.old self.new) }
     {
         let line = meeting.line(&self.numbers, self.found.number(place), unit);
-        let Next { state, status } = self.next_state(alloc, meeting, place, walk, unit)?;
-        enter_reply(&mut self.replies, Reply { unit, line, status })?;
+        let next = self.next_state(alloc, meeting, place, walk, unit)?;
+        let (state, status) = (next.state, next.status);
+        let reply = Reply { unit, line, status };
+        enter_reply(&mut self.replies, reply)?;
+        note_if(next.ignored, &mut self.ignored, Noted { reply, place })?;
         let to = self.found.enter(state, place, unit)?;
         self.edges.push(Edge::new(place, unit, to)?)?;
         Ok(())

@@ -56,13 +56,13 @@ IsTextOf true schema programs texts told asked all out = out ≡ listing_text as
 IsTextOf false schema programs texts told asked all out = AreTold schema programs told asked all out
 
 -- the text lists what the programs of a meeting can come to, in no more states than the limit; the flag says whether a program fails, or the
--- programs can go on for ever
+-- programs can go on for ever, or, if statuses are asked for, a program ignores a refusal
 pub record IsExploration (schema : Lists) (programs : List Program) (texts : List (List ℕ)) (told : List ℕ) (asked : Exploring) (m : Meeting) (printed : Printed) : Type 0 where
   pub all : Explored
   pub are_all : IsExplored m all
   pub within : all.states ≤ asked.limit
   pub told_is : IsTextOf asked.statuses schema programs texts told asked all printed.text.items
-  pub failed_is : printed.failed ≡ (not (length all.failures == 0) || is_some all.endless)
+  pub failed_is : printed.failed ≡ ((not (length all.failures == 0) || is_some all.endless) || (asked.statuses && not (length all.ignored == 0)))
 
 -- what is printed of a meeting: what it can come to, or whether the wish holds
 abbrev pub IsPrinted : Option Wish → Lists → List Program → List (List ℕ) → List ℕ → Exploring → Meeting → Printed → Type 0

@@ -110,7 +110,9 @@ fn print_all<W: Watch>(
     let all = explored(alloc, watch, meeting, setting.asked.limit)?;
     Ok(Printed {
         text: setting.text_of(alloc, &all)?,
-        failed: !all.failures.is_empty() || all.endless.is_some(),
+        failed: !all.failures.is_empty()
+            || all.endless.is_some()
+            || (setting.asked.statuses && !all.ignored.is_empty()),
         beside,
     })
 }

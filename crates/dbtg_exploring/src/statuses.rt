@@ -1,14 +1,14 @@
-//! The text of the statements of programs, each with the statuses that it gets.
+//! The text of the statements of programs, each with the statuses that it gets, and the refusals that are ignored.
 
-ghost use Rattle.dbtg_exploring.specs.Statuses.{is_to, listing_text, program_rows, programs_rows, right_number, row_text, status_text, statuses_text, unindented, width_of, written};
+ghost use Rattle.dbtg_exploring.specs.Statuses.{ignored_text, is_to, listing_text, program_rows, programs_rows, right_number, row_text, rows_text, status_text, statuses_text, unindented, width_of, written};
 ghost use Rattle.std.specs.List.{list_any};
 ghost use Rattle.std.specs.Prelude.{◌≡◌, ◌≤◌, ◌++◌, IfOk, OnOk, decimal, flat_map, length, replicate};
 
 use crate::setting::Setting;
-use crate::text::{push_each_failure, push_endless};
+use crate::text::{joined, push_each_failure, push_endless, push_with_turns};
 use crate::wishes::is_met;
 use dbtg_explain::line_at;
-use dbtg_explore::{Explored, Reply, is_statement};
+use dbtg_explore::{Explored, Ignored, Reply, is_statement};
 use dbtg_going::Around;
 use dbtg_program::{Line, Program};
 use dbtg_schema::Row;
@@ -129,45 +129,99 @@ fn width_of(alloc: Global, lines: &[Line]) -> Result<usize, AllocError>
     }
 }
 
-// What the rows of a program's statements are made of: its text, its unit, and the replies that come.
+// What the rows of a program's statements are made of: its text, its unit, everything that the programs can come to, and the given turns.
 #[derive(Clone, Copy)]
 struct Rows<'a> {
     text: &'a [u8],
     unit: u8,
-    replies: &'a [Reply],
+    all: &'a Explored,
+    told: &'a [u8],
 }
 
 impl<'a> Rows<'a> {
-    // The row of a line, if it holds a statement.
+    // The row of a line with a statement.
     fn push_row(
+        &self,
+        alloc: Global,
+        out: &mut Vec<u8>,
+        width: usize,
+        line: u64,
+    ) -> Result<(), AllocError>
+        ensures { OnOk result (out.new.items ≡ out.old.items ++ row_text width self.now.text.now self.now.all.now.replies self.now.unit line) }
+    {
+        out.extend_from_slice(b"  ")?;
+        push_right_number(alloc, out, width, line)?;
+        out.push(b' ')?;
+        out.extend_from_slice(written(self.text, line))?;
+        out.extend_from_slice(b"  ")?;
+        push_statuses(out, self.all.replies.as_slice(), self.unit, line)?;
+        out.push(b'\n')?;
+        Ok(())
+    }
+
+    // A refusal that is ignored, if it is of the statement in this line.
+    fn push_ignored(
+        &self,
+        alloc: Global,
+        out: &mut Vec<u8>,
+        width: usize,
+        line: u64,
+        ignored: &Ignored,
+    ) -> Result<(), AllocError>
+        ensures { OnOk result (out.new.items ≡ out.old.items ++ ignored_text self.now.told.now width self.now.unit line ignored.now) }
+    {
+        if !is_to(self.unit, line, ignored.reply) {
+            return Ok(());
+        }
+        push_spaces(out, width)?;
+        out.extend_from_slice(b"   ")?;
+        push_status(out, ignored.reply.status)?;
+        let turns = joined(alloc, self.told, ignored.turns.as_slice())?;
+        push_with_turns(alloc, out, b" ignored: turns", turns.as_slice())?;
+        out.push(b'\n')?;
+        Ok(())
+    }
+
+    // All refusals of the statement in this line that are ignored.
+    fn push_each_ignored(
+        &self,
+        alloc: Global,
+        out: &mut Vec<u8>,
+        width: usize,
+        line: u64,
+    ) -> Result<(), AllocError>
+        ensures { OnOk result (out.new.items ≡ out.old.items ++ flat_map (ignored_text self.now.told.now width self.now.unit line) self.now.all.now.ignored) }
+    {
+        for ignored in self.all.ignored.as_slice() {
+            self.push_ignored(alloc, out, width, line, ignored)?;
+        }
+        Ok(())
+    }
+
+    // The row of a line and those that belong to it, if it holds a statement.
+    fn push_line(
         &self,
         alloc: Global,
         out: &mut Vec<u8>,
         width: usize,
         line: &Line,
     ) -> Result<(), AllocError>
-        ensures { OnOk result (out.new.items ≡ out.old.items ++ row_text width self.now.text.now self.now.replies.now self.now.unit line.now) }
+        ensures { OnOk result (out.new.items ≡ out.old.items ++ rows_text self.now.told.now width self.now.text.now self.now.all.now self.now.unit line.now) }
     {
         if !is_statement(&line.sentence) {
             return Ok(());
         }
-        out.extend_from_slice(b"  ")?;
-        push_right_number(alloc, out, width, line.number)?;
-        out.push(b' ')?;
-        out.extend_from_slice(written(self.text, line.number))?;
-        out.extend_from_slice(b"  ")?;
-        push_statuses(out, self.replies, self.unit, line.number)?;
-        out.push(b'\n')?;
-        Ok(())
+        self.push_row(alloc, out, width, line.number)?;
+        self.push_each_ignored(alloc, out, width, line.number)
     }
 
     // The rows of all lines.
     fn push_rows(&self, alloc: Global, out: &mut Vec<u8>, lines: &[Line]) -> Result<(), AllocError>
-        ensures { OnOk result (out.new.items ≡ out.old.items ++ flat_map (row_text (width_of lines.now) self.now.text.now self.now.replies.now self.now.unit) lines.now) }
+        ensures { OnOk result (out.new.items ≡ out.old.items ++ flat_map (rows_text self.now.told.now (width_of lines.now) self.now.text.now self.now.all.now self.now.unit) lines.now) }
     {
         let width = width_of(alloc, lines)?;
         for line in lines {
-            self.push_row(alloc, out, width, line)?;
+            self.push_line(alloc, out, width, line)?;
         }
         Ok(())
     }
@@ -183,7 +237,7 @@ impl<'a> Setting<'a> {
         program: &Program,
     ) -> Result<(), AllocError>
         requires { length self.now.programs.now ≤ LAST_UNIT }
-        ensures { OnOk result (out.new.items ≡ out.old.items ++ program_rows self.now.asked.around (length self.now.programs.now) rows.now.replies.now rows.now.unit program.now rows.now.text.now) }
+        ensures { OnOk result (out.new.items ≡ out.old.items ++ program_rows self.now.asked.around (length self.now.programs.now) rows.now.told.now rows.now.all.now rows.now.unit program.now rows.now.text.now) }
     {
         if !is_met(self.asked.around, self.programs.len() as u8, rows.unit) {
             return Ok(());
@@ -199,10 +253,10 @@ impl<'a> Setting<'a> {
         &self,
         alloc: Global,
         out: &mut Vec<u8>,
-        replies: &[Reply],
+        all: &Explored,
     ) -> Result<(), AllocError>
         requires { length self.now.programs.now ≤ LAST_UNIT }
-        ensures { OnOk result (out.new.items ≡ out.old.items ++ programs_rows self.now.asked.around (length self.now.programs.now) replies.now 1 self.now.programs.now self.now.texts.now) }
+        ensures { OnOk result (out.new.items ≡ out.old.items ++ programs_rows self.now.asked.around (length self.now.programs.now) self.now.told.now all.now 1 self.now.programs.now self.now.texts.now) }
     {
         for (i, program) in self.programs.iter().enumerate() {
             if i >= self.texts.len() {
@@ -211,7 +265,8 @@ impl<'a> Setting<'a> {
             let rows = Rows {
                 text: self.texts[i].as_slice(),
                 unit: i as u8 + 1,
-                replies,
+                all,
+                told: self.told,
             };
             self.push_program(alloc, out, &rows, program)?;
         }
@@ -229,7 +284,7 @@ impl<'a> Setting<'a> {
         out.push(b'\n')?;
         push_endless(alloc, &mut out, self.told, &all.endless)?;
         push_each_failure(alloc, &mut out, self.told, all.failures.as_slice())?;
-        self.push_programs(alloc, &mut out, all.replies.as_slice())?;
+        self.push_programs(alloc, &mut out, all)?;
         Ok(out)
     }
 }

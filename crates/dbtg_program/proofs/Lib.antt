@@ -7,6 +7,7 @@ mod Judged
 mod FieldsFit
 mod Marks
 mod Parts
+mod Passing
 pub mod Scripted
 mod Steps
 mod Stripped

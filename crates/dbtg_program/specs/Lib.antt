@@ -3,6 +3,7 @@ pub mod States
 pub mod Scripts
 pub mod Conditions
 pub mod Going
+pub mod Passed
 pub mod Spelling
 pub mod Views
 pub mod Sentences

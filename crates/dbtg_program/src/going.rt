@@ -240,7 +240,7 @@ fn go_by(
 }
 
 /// Carries out the sentence at which the program is; the end of the text counts as STOP.
-fn go(
+pub(crate) fn go(
     alloc: Global,
     schema: &Schema,
     program: &Program,

@@ -2,10 +2,11 @@
 
 ghost use Rattle.dbtg_program.specs.Conditions.{asked, field_value, holds, value_of};
 ghost use Rattle.dbtg_program.specs.Going.{filled, placed, told, with_record};
+ghost use Rattle.dbtg_program.specs.Passed.{refused};
 ghost use Rattle.dbtg_program.specs.States.{beginning, beginning_with};
 ghost use Rattle.dbtg_program.specs.Values.{as_field, empty_value, stripped};
 ghost use Rattle.dbtg_program.specs.Inside.Views.{view};
-ghost use Rattle.std.specs.Prelude.{◌≡◌, ◌+◌, ◌<◌, ◌≤◌, IfOk, OnErr, OnOk, length, map, slice_set, take};
+ghost use Rattle.std.specs.Prelude.{◌≡◌, ◌+◌, ◌<◌, ◌≤◌, ◌^◌, IfOk, OnErr, OnOk, length, map, slice_set, take};
 
 use crate::borrowed::{Borrowed, lent, stand_so};
 use crate::program::{Condition, Operand, Program};
@@ -240,6 +241,15 @@ impl State {
         ensures { self.new ≡ record self.old { values = slice_set self.old.values field value } }
     {
         put(self.values.as_mut_slice(), field, value);
+    }
+
+    /// The state after a refusal of the statement that was due.
+    pub(crate) fn refuse(&mut self, status: u16)
+        requires { self.old.at + 1 < 2 ^ 64 }
+        ensures { self.new ≡ refused self.old status }
+    {
+        self.status = status;
+        self.at += 1;
     }
 
     /// The state after this answer to the statement that was due. If memory is refused the state does not change.

@@ -46,6 +46,7 @@ pub record AreLooks (schema : Lists) (capacity units : ℕ) (kept : Numbers) (pa
 pub record IsOfPassage (schema : Lists) (capacity units : ℕ) (kept : Numbers) (passage : Passage) (names : List CellName) (t : Transition) : Type 0 where
   pub unit_is : t.unit ≡ passage.unit
   pub status_is : t.status ≡ passage.status
+  pub ignored_is : t.ignored ≡ passage.ignored
   pub are_looks : AreLooks schema capacity units kept passage names t.looks
 
 -- each of the new transitions is an old one, or is of the passage

@@ -87,11 +87,17 @@ impl<'a> Places<'a> {
         let Some(looks) = self.looks_at(alloc, numbers, passage, names)? else {
             return Ok(());
         };
-        let Passage { unit, status, .. } = passage;
+        let Passage {
+            unit,
+            status,
+            ignored,
+            ..
+        } = passage;
         transitions.enter(Transition {
             unit,
             looks,
             status,
+            ignored,
         })
     }
 }

@@ -20,21 +20,25 @@ pub struct Look {
     pub after: u32,
 }
 
-/// A statement that was made once: its unit, the parts that it looked at, the unit's among them, and its status. It changed no other part.
+/// A statement that was made once: its unit, the parts that it looked at, the unit's among them, its status, and whether its program
+/// ignores that. It changed no other part.
 #[derive(Drop)]
 pub struct Transition {
     pub unit: u8,
     pub looks: Row<Look>,
     pub status: u16,
+    pub ignored: bool,
 }
 
-/// The way of a unit's statement, which gets this status, from the state of one number to that of another.
+/// The way of a unit's statement, which gets this status, from the state of one number to that of another; and whether the unit's program
+/// ignores the status.
 #[derive(Clone, Copy)]
 pub struct Passage {
     pub unit: u8,
     pub before: u32,
     pub after: u32,
     pub status: u16,
+    pub ignored: bool,
 }
 
 // What comes next on the way to a transition: a part to be looked at, and the junction of what it can say; or the transition at this place.

@@ -1,7 +1,7 @@
 -- Transitions: what a statement that was made once looked at, and what it left there.
 -- m is a meeting, o and q are orders, u and v are units, x is a statement, l is a look, n the number of a state. If a statement changed a
 -- record it is `changing`.
-use Rattle.std.specs.Prelude.{ℕ, ◌≡◌, ◌≢◌, ◌+◌, Bool, true, false, List, [], ◌∷◌, ◌++◌, Some, All, Contains, length}
+use Rattle.std.specs.Prelude.{ℕ, ◌≡◌, ◌≢◌, ◌↔◌, ◌+◌, Bool, true, false, List, [], ◌∷◌, ◌++◌, Some, All, Contains, IsTrue, length}
 use Rattle.dbtg_cells.specs.CellNumbers.{cell_count}
 use Rattle.dbtg_cells.specs.declared.name.CellName.{CellName}
 use Rattle.dbtg_cells.specs.declared.name.CellName.TheVariants.{Slot}
@@ -20,6 +20,7 @@ use Rattle.dbtg_explore.specs.declared.next_state.Seen as given
 use Rattle.dbtg_explore.specs.Orders.{Meeting, due_of, history_of}
 use Rattle.dbtg_explore.specs.States.{sequential_after}
 use Rattle.dbtg_explore.specs.Versions.{unversioned}
+use Rattle.dbtg_explore.specs.Inside.Ignored.{Ignores}
 use Rattle.dbtg_explore.specs.Inside.Parts.{IsNumberOf, kept_count, parts_of}
 use Rattle.dbtg_explore.specs.Inside.Replies.{status_due}
 
@@ -31,16 +32,17 @@ KeepsAlone m history u = (v : ℕ) → v ≢ u → kept_count (unit_at (unversio
 abbrev pub SlotsStay : Meeting → Database → Database → Type 0
 SlotsStay m before after = (t k : ℕ) → cell m.schema m.capacity after (Slot t k) ≡ cell m.schema m.capacity before (Slot t k)
 
--- the turn of a unit leads there, and its statement gets this status, wherever the same is looked at; if it changed a record, where no other
--- unit keeps one
-abbrev pub IsTransition : Meeting → List (List ℕ) → Bool → ℕ → ℕ → List Look → Type 0
-IsTransition m contents changing u status looks =
+-- the turn of a unit leads there, and its statement gets this status, which is ignored or not, wherever the same is looked at; if it changed a
+-- record, where no other unit keeps one
+abbrev pub IsTransition : Meeting → List (List ℕ) → Bool → ℕ → ℕ → Bool → List Look → Type 0
+IsTransition m contents changing u status ignored looks =
     (q : List ℕ) → (changing ≡ true → KeepsAlone m (history_of m q) u) → SayBefore contents (parts_of m (history_of m q)) looks
     → Follow contents (parts_of m (history_of m q)) (parts_of m (history_of m (q ++ u ∷ []))) looks × (status ≡ status_due m (history_of m q) u)
+    × (IsTrue ignored ↔ Ignores m (history_of m q) u)
 
 pub record IsKnown (m : Meeting) (contents : List (List ℕ)) (changing : Bool) (t : Transition) : Type 0 where
   pub looks : All (IsLook (length m.programs + cell_count m.schema m.capacity) contents) t.looks
-  pub leads : IsTransition m contents changing t.unit t.status t.looks
+  pub leads : IsTransition m contents changing t.unit t.status t.ignored t.looks
 
 -- so are all of these
 abbrev pub AreKnown : Meeting → List (List ℕ) → Bool → List Transition → Type 0
@@ -64,5 +66,6 @@ pub record IsPassage (m : Meeting) (kept : Numbers) (o : List ℕ) (names : List
   pub before : IsNumberOf m kept (history_of m o) passage.before
   pub after : IsNumberOf m kept (history_of m (o ++ passage.unit ∷ [])) passage.after
   pub status_is : passage.status ≡ status_due m (history_of m o) passage.unit
+  pub ignored_is : IsTrue passage.ignored ↔ Ignores m (history_of m o) passage.unit
   pub looks_at : DueLooksAt m (history_of m o) passage.unit names
   pub stay : changing ≡ false → SlotsStay m (sequential_after m (history_of m o)).database (sequential_after m (history_of m (o ++ passage.unit ∷ []))).database

@@ -3,8 +3,9 @@ use Rattle.std.specs.Prelude.{◌≡◌, refl, List, [], ◌∷◌, ◌++◌, So
 use Rattle.std.specs.Fmt.{digits}
 use Rattle.dbtg_program.specs.declared.program.End.TheVariants.{Assert, Size}
 use Rattle.dbtg_explore.specs.declared.explored.Endless.{Endless}
+use Rattle.dbtg_explore.specs.declared.ignored.Ignored.{Ignored}
 use Rattle.dbtg_explore.specs.declared.replies.Reply.{Reply}
-use Rattle.dbtg_exploring.specs.Statuses.{right_number, statuses_text, written}
+use Rattle.dbtg_exploring.specs.Statuses.{ignored_text, right_number, statuses_text, written}
 use Rattle.dbtg_exploring.specs.Texts.{count_text, endless_text, failure_text, result_head, with_turns}
 
 -- a way round that begins after two given turns
@@ -15,7 +16,7 @@ way = record { turns = 1 ∷ 2 ∷ []; round = 2 ∷ 2 ∷ 1 ∷ [] }
 abbrev pub at_once : Endless
 at_once = record { turns = []; round = 1 ∷ [] }
 
-counted : count_text (record { states = 412; results = (1 ∷ []) ∷ (2 ∷ []) ∷ []; failures = []; endless = None; replies = [] }) ≡ codes "states 412, results 2" ++ 10 ∷ []
+counted : count_text (record { states = 412; results = (1 ∷ []) ∷ (2 ∷ []) ∷ []; failures = []; endless = None; replies = []; ignored = [] }) ≡ codes "states 412, results 2" ++ 10 ∷ []
 unfolding digits
 counted = refl
 
@@ -46,6 +47,14 @@ answered = refl
 
 never_made : statuses_text replies 2 7 ≡ codes " never made"
 never_made = refl
+
+-- a refusal of line 7 that is ignored, below the statement in a column of two digits; it is not of line 2
+abbrev pub ignored : Ignored
+ignored = record { reply = record { unit = 1; line = 7; status = 803 }; turns = 1 ∷ 1 ∷ 2 ∷ 1 ∷ [] }
+
+ignored_rows : ignored_text (2 ∷ []) 2 1 7 ignored ++ ignored_text [] 2 1 2 ignored ++ ignored_text [] 2 2 7 ignored ≡ codes "     0803 ignored: turns 2 1*2 2 1" ++ 10 ∷ []
+unfolding digits with_turns
+ignored_rows = refl
 
 -- a number stands at the right end of its column
 aligned : right_number 2 7 ++ right_number 2 12 ≡ codes " 712"

@@ -1,10 +1,13 @@
-use Rattle.std.proofs.Common.{ℕ, List, arith, subst, sym}
+use Rattle.std.proofs.Common.{ℕ, List, ◌∙◌, ap, arith, map, subst, sym}
 use Rattle.std.specs.Prelude.{Contains}
 use Rattle.std.proofs.lemmas.Result.{err_from_is_err_and}
 use Rattle.dbtg_explore.specs.declared.explored.Failure.{Failure}
+use Rattle.dbtg_explore.specs.declared.ignored.Noted.{Noted}
 use Rattle.dbtg_explore.specs.Inside.Ends.{FailsIn}
+use Rattle.dbtg_explore.specs.Inside.Ignored.{ignored_by}
 use Rattle.dbtg_explore.specs.Inside.Failures.{AreFirst}
 use Rattle.dbtg_explore.specs.States.{state_of}
+use Rattle.dbtg_explore.proofs.Ignoring.{are_ignored}
 use Rattle.dbtg_explore.proofs.Replying.{are_replies}
 use Rattle.dbtg_explore.proofs.Visiting.{fail_there, is_explored}
 use Rattle.dbtg_explore.proofs.explored.explored_by.Goals as goal
@@ -15,6 +18,11 @@ returns-clause-explored g c =
     (subst (λ (fs : List Failure). AreFirst c.args.meeting.now c.in_ok-search.search.found.orders fs c.in_ok-failures.failures) c.as_slice.ensures.value c.in_ok-failures.ensures)
     (c.in_ok-endless.ensures c.args.meeting.now c.in_ok-search.ensures.through.visited.at.under_way)
     (are_replies c.args.meeting.now c.in_ok-search.search _ c.in_ok-search.ensures.through.visited.at (omega arith) _ c.in_ok-replies.ensures)
+    (are_ignored c.args.meeting.now c.in_ok-search.search _ c.in_ok-search.ensures.through.visited.at (omega arith) _
+    (c.in_ok-ignored.ensures ∙ ap (map (ignored_by c.in_ok-search.search.found.orders)) c.as_slice-2.ensures.value))
+
+pub with_turns-requires : goal.with_turns-requires
+with_turns-requires g c = λ n there. c.in_ok-search.ensures.through.visited.at.ignored.within n (subst (λ (ns : List Noted). Contains ns n) c.as_slice-2.ensures.value there)
 
 pub endless_in-requires : goal.endless_in-requires
 endless_in-requires g c = (c.args.meeting.now, c.in_ok-search.ensures.through.visited.at.under_way)

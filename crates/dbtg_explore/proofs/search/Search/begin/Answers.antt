@@ -14,4 +14,4 @@ pub returns : goal.returns
 returns c =
     let m = c.args.meeting.now in
     let number = subst (λ (es : List Entry). IsNumberOf m c.first_number.new.numbers es c.in_ok-number.number) c.requires.stands.history_is c.in_ok-number.ensures in
-    at_first m c.in_ok-found.found c.in_ok-number.number c.in_ok-found.ensures _ refl c.new.ensures.items c.new-2.ensures.empty number (c.none.ensures m c.first_number.new.numbers.contents)
+    at_first m c.in_ok-found.found c.in_ok-number.number c.in_ok-found.ensures _ refl c.new.ensures.items c.new-2.ensures.empty c.new-3.ensures.items number (c.none.ensures m c.first_number.new.numbers.contents)

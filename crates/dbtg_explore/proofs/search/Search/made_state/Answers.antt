@@ -1,11 +1,13 @@
-use Rattle.std.proofs.Common.{◌≡◌, ◌∙◌, ◌++◌, ◌∷◌, [], ℕ, List, ap, refl, subst, sym, get_or}
-use Rattle.std.specs.Prelude.{IfSome}
+use Rattle.std.proofs.Common.{◌≡◌, ◌∙◌, ◌++◌, ◌∷◌, [], ℕ, Bool, List, ap, refl, subst, sym, get_or}
+use Rattle.std.specs.Prelude.{◌↔◌, IfSome, IsTrue}
 use Rattle.std.proofs.lemmas.List.Elements.{Contains-get_or}
 use Rattle.dbtg_cells.specs.declared.name.CellName.{CellName}
 use Rattle.dbtg_unit.specs.declared.unit.Entry.{Entry}
+use Rattle.dbtg_step.specs.Machine.SequentialDatabase.{unit_at}
 use Rattle.dbtg_explore.specs.declared.orders.Link.{Link}
 use Rattle.dbtg_explore.specs.declared.search.Search.{Search}
 use Rattle.dbtg_explore.specs.Inside.Found.{FoundOrders}
+use Rattle.dbtg_explore.specs.Inside.Ignored.{Ignores, IgnoresBy, IsDueIn}
 use Rattle.dbtg_explore.specs.Inside.Parts.{IsNumberOf}
 use Rattle.dbtg_explore.specs.Inside.Replies.{status_due}
 use Rattle.dbtg_explore.specs.Inside.Transitions.{DueLooksAt, SlotsStay}
@@ -66,6 +68,17 @@ status_there c status is =
     let made = made_there m (history_of m o) u turned.entry (sym (history_on m o u) ∙ sym (led_to c) ∙ one) in
     is (history_of m o) turned.entry one ∙ sym (status_made m (history_of m o) u turned.entry made)
 
+-- and whether that is ignored
+ignored_there : (c : In_ok-after) (status : ℕ) → ((past : List Entry) (e : Entry) → c.number_after.new.walk.database.making.history ≡ past ++ e ∷ [] → status ≡ status_of e)
+    → (b : Bool) → ((h : List Entry) → IsDueIn c.args.meeting.now h c.args.unit c.in_ok-due.due → IsTrue b ↔ IgnoresBy c.args.meeting.now h c.args.unit status (unit_at c.args.meeting.now.programs c.args.unit))
+    → IsTrue b ↔ Ignores c.args.meeting.now (history_of c.args.meeting.now (get_or c.args.self.now.found.orders c.args.place [])) c.args.unit
+ignored_there c status is b tells =
+    let m = c.args.meeting.now in
+    let u = c.args.unit in
+    let h = history_of m (get_or c.args.self.now.found.orders c.args.place []) in
+    let due = subst (λ (es : List Entry). IsDueIn m es u c.in_ok-due.due) c.in_ok-go_to.ensures.stands.history_is c.in_ok-due.ensures in
+    subst (λ code. IsTrue b ↔ IgnoresBy m h u code (unit_at m.programs u)) (status_there c status is) (tells h due)
+
 among_there : (c : In_ok-after) → StandsAmong c.args.meeting.now c.args.self.now.found.orders c.number_after.new.walk
 among_there c =
     let there = c.in_ok-go_to.ensures in
@@ -99,6 +112,7 @@ remember-requires-clause-passed c =
         before = number_later m s.numbers kept after.number.number.kept_once after.keeps (history_of m o) c.number-before.result at;
         after = number_there (goal.at.remember-requires-clause-passed c).In_ok-after;
         status_is = status_there (goal.at.remember-requires-clause-passed c).In_ok-after c.last_status-status.result c.last_status-status.ensures;
+        ignored_is = ignored_there (goal.at.remember-requires-clause-passed c).In_ok-after c.last_status-status.result c.last_status-status.ensures c.in_ok-ignored.ignored c.in_ok-ignored.ensures;
         looks_at =
             subst (λ (ns : List CellName). DueLooksAt m (history_of m o) u ns) (sym c.as_slice.ensures.value)
             (subst (λ (es : List Entry). DueLooksAt m es u c.in-Some.names.items) here.history_is cells);
@@ -126,8 +140,9 @@ returns-in_ok-remember-clause-reaches c =
     let s = c.args.self.now in
     let o = get_or s.found.orders c.args.place [] in
     let e = c.in_ok-remember.ensures.rest in
-    reaches m o c.args.unit s c.remember.new.self c.number_after.new.numbers _ (ap (λ (z : Search). z.found) e) (ap (λ (z : Search). z.edges.items) e) (ap (λ (z : Search). z.replies) e) (ap (λ (z : Search). z.numbers) e)
-    (number_there (goal.at.returns-in_ok-remember-clause-reaches c).In_ok-after) (status_there (goal.at.returns-in_ok-remember-clause-reaches c).In_ok-after c.last_status-status.result c.last_status-status.ensures) c.in_ok-after.ensures.keeps c.in_ok-remember.ensures.seen
+    reaches m o c.args.unit s c.remember.new.self c.number_after.new.numbers _ (ap (λ (z : Search). z.found) e) (ap (λ (z : Search). z.edges.items) e) (ap (λ (z : Search). z.replies) e) (ap (λ (z : Search). z.ignored.items) e) (ap (λ (z : Search). z.numbers) e)
+    (number_there (goal.at.returns-in_ok-remember-clause-reaches c).In_ok-after) (status_there (goal.at.returns-in_ok-remember-clause-reaches c).In_ok-after c.last_status-status.result c.last_status-status.ensures)
+    (ignored_there (goal.at.returns-in_ok-remember-clause-reaches c).In_ok-after c.last_status-status.result c.last_status-status.ensures c.in_ok-ignored.ignored c.in_ok-ignored.ensures) c.in_ok-after.ensures.keeps c.in_ok-remember.ensures.seen
 
 pub returns-in_default-clause-reaches : goal.returns-in_default-clause-reaches
 returns-in_default-clause-reaches c =
@@ -135,5 +150,9 @@ returns-in_default-clause-reaches c =
     let s = c.args.self.now in
     let o = get_or s.found.orders c.args.place [] in
     let kept = c.number_after.new.numbers in
-    reaches m o c.args.unit s (record s { numbers = kept }) kept _ refl refl refl refl
-    (number_there (goal.at.returns-in_default-clause-reaches c).In_ok-after) (status_there (goal.at.returns-in_default-clause-reaches c).In_ok-after c.last_status-status.result c.last_status-status.ensures) c.in_ok-after.ensures.keeps (seen_later m s.numbers.contents kept.contents c.in_ok-after.ensures.keeps.contents s.seen c.requires.at.seen)
+    reaches m o c.args.unit s (record s { numbers = kept }) kept _ refl refl refl refl refl
+    (number_there (goal.at.returns-in_default-clause-reaches c).In_ok-after) (status_there (goal.at.returns-in_default-clause-reaches c).In_ok-after c.last_status-status.result c.last_status-status.ensures)
+    (ignored_there (goal.at.returns-in_default-clause-reaches c).In_ok-after c.last_status-status.result c.last_status-status.ensures c.in_ok-ignored.ignored c.in_ok-ignored.ensures) c.in_ok-after.ensures.keeps (seen_later m s.numbers.contents kept.contents c.in_ok-after.ensures.keeps.contents s.seen c.requires.at.seen)
+
+pub is_ignored-requires : goal.is_ignored-requires
+is_ignored-requires c = (c.go_to.new.walk.database.making.history, c.in_ok-due.ensures)

@@ -2,7 +2,7 @@ use Rattle.std.proofs.Common.{◌∙◌, [], List, ap, refl, get_or}
 use Rattle.dbtg_interned.specs.Arrays.{elements}
 use Rattle.dbtg_states.specs.declared.transitions.Look.{Look}
 use Rattle.dbtg_states.specs.Transitions.{written}
-use Rattle.dbtg_explore.proofs.Next.{known_number, known_status, reaches}
+use Rattle.dbtg_explore.proofs.Next.{known_ignored, known_number, known_status, reaches}
 use Rattle.dbtg_explore.proofs.Numbered.{numbered_low, state_at}
 use Rattle.dbtg_explore.proofs.Placed.{turn_numbered}
 use Rattle.dbtg_explore.proofs.Transitions.{seen_later}
@@ -32,7 +32,8 @@ returns-in_ok-state-in-Some-clause-reaches c =
     let n = c.number-state.result in
     let at = state_at m s.numbers s.found.keys s.found.orders c.args.place n c.requires.at.known c.requires.within c.number-state.ensures in
     let put = c.in_ok-state-in-Some.ensures in
-    reaches m o c.args.unit s (record s { numbers = new }) new _ refl refl refl refl
+    reaches m o c.args.unit s (record s { numbers = new }) new _ refl refl refl refl refl
     (known_number m s.seen s.numbers o n c.args.unit t c.requires.at.seen at c.in-Some.ensures new c.in_ok-state-in-Some.state put.kept put.keeps put.array (put.elements ∙ ap (λ (looks : List Look). written looks (elements s.numbers.arrays n)) c.as_slice-looks.ensures))
     (known_status m s.seen s.numbers o n c.args.unit t c.requires.at.seen at c.in-Some.ensures)
+    (known_ignored m s.seen s.numbers o n c.args.unit t c.requires.at.seen at c.in-Some.ensures)
     put.keeps (seen_later m s.numbers.contents new.contents put.keeps.contents s.seen c.requires.at.seen)

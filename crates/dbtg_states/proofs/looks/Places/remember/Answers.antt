@@ -13,6 +13,6 @@ returns c =
     on_ok_weaker c.enter.result
     (λ adds t there. ⊎_elim
     (λ old. inl old)
-    (λ is. inr (subst (IsOfPassage places.schema.now places.capacity places.units kept c.args.passage names) (sym is) (record { unit_is = refl; status_is = refl; are_looks = looks })))
+    (λ is. inr (subst (IsOfPassage places.schema.now places.capacity places.units kept c.args.passage names) (sym is) (record { unit_is = refl; status_is = refl; ignored_is = refl; are_looks = looks })))
     (adds t there))
     c.enter.ensures
