@@ -54,6 +54,18 @@ class Meeting:
             replies.append((unit, line, program.status))
         return replies
 
+    def ignored(self, order):
+        """The refusals in this order that programs ignore, each with the turns up to it: as those of `replies`."""
+        runs, found = self.after([]), {}
+        for made, unit in enumerate(order, 1):
+            program = runs.programs[unit - 1]
+            program.due(self.schema)
+            line = program.sentences[program.at][0]
+            runs.turn(unit)
+            if program.ignores(self.schema):
+                found.setdefault((unit, line, program.status), order[:made])
+        return found
+
     def next_units(self, runs):
         """The units that can have their turn."""
         units = [unit for unit, program in enumerate(runs.programs, 1) if program.due(self.schema) is not None]
@@ -83,8 +95,15 @@ def failures_text(failures, begun):
     return "".join(f"fails {unit} {how}\n{turns_line([*begun, *failures[unit, how]])}" for unit, how in in_order)
 
 
-def statuses_text(meeting, replies):
-    """The rows of all programs that meet: each statement with the statuses of these replies that are to it."""
+def take_first(found, others):
+    """Takes orders among those that are found, where they come before them."""
+    for it, order in others.items():
+        found[it] = min(found.get(it, order), order, key=lambda it: (len(it), it))
+
+
+def statuses_text(meeting, replies, ignored):
+    """The rows of all programs that meet: each statement with the statuses of these replies that are to it, and below it its refusals that
+    are ignored, with the first turns after which they are."""
     text = ""
     for unit, program in enumerate(meeting.after([]).programs, 1):
         if unit == meeting.first:
@@ -95,6 +114,8 @@ def statuses_text(meeting, replies):
             line, words, _ = program.sentences[at]
             statuses = "".join(f" {it[2]}" for it in sorted(replies) if it[:2] == (unit, line))
             text += f"  {line:>{width}} {words.strip()}  {statuses or ' never made'}\n"
+            for it in sorted(it for it in ignored if it[:2] == (unit, line)):
+                text += f"{' ' * (width + 3)}{it[2]} ignored: {turns_line([*meeting.turns, *ignored[it]])}"
     return text
 
 
@@ -181,6 +202,14 @@ class Explored:
         """What each turn is answered that can be had in some state."""
         return {self.meeting.replies([*order, unit])[-1] for state, order in self.orders.items() for unit in self.units[state]}
 
+    def ignored(self):
+        """The refusals that programs ignore in some order, each with the first of these orders."""
+        found = {}
+        for order, units in zip(self.orders.values(), self.units.values()):
+            for unit in units:
+                take_first(found, self.meeting.ignored([*order, unit]))
+        return found
+
     def first_broken(self, option, statement, status):
         """The first turns that break a wish for the status of the statement in a line, if any do."""
         unit, line = map(int, statement.split("."))
@@ -229,5 +258,5 @@ def explore(folder, words, wanted):
         holds = told and machine.turns_in(told[1])[len(turns):] == first and round_holds(meeting, first, machine.turns_in(told[2]))
         line = told[0] if holds else "endless\n"
     if "--statuses" in flags:
-        return f"states {len(states.orders)}\n" + line + failures_text(states.failures, turns) + statuses_text(meeting, states.replies())
+        return f"states {len(states.orders)}\n" + line + failures_text(states.failures, turns) + statuses_text(meeting, states.replies(), states.ignored())
     return states.head() + line + failures_text(states.failures, turns) + states.results_text()

@@ -1,4 +1,5 @@
 """Programs without faults, and what `run` prints of them: docs/profile/programs.md."""
+import copy
 import re
 
 from machine import CODES, Machine, printed, read, read_order, turns_in
@@ -154,6 +155,28 @@ class Program:
                 return self.filled(schema, line, words)
             self.at = self.go_by(line, words)
         raise Ended(f"ASTRAY line {line}")
+
+    def passed(self, schema):
+        """The sentences that it would pass on the way to its next statement or to its end, each with the outcome of its condition."""
+        it, passed = copy.copy(self), []
+        it.fields = dict(self.fields)
+        try:
+            while it.at < len(it.sentences) and len(passed) < MOST_SENTENCES:
+                line, _, words = it.sentences[it.at]
+                passed.append((it.at, words[0] not in ("IF", "ASSERT") or it.holds(words[1:])))
+                if it.is_statement(it.at):
+                    it.filled(schema, line, words)
+                    return passed[:-1]
+                it.at = it.go_by(line, words)
+        except Ended:
+            pass
+        return passed
+
+    def ignores(self, schema):
+        """Whether it was told a refusal that makes no difference to what it passes."""
+        done = copy.copy(self)
+        done.status = "0000"
+        return self.status != "0000" and self.passed(schema) == done.passed(schema)
 
 
 class Runs:

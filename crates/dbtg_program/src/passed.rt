@@ -64,7 +64,8 @@ pub fn ignores(
         }
         match go(alloc, schema, program, &mut state)? {
             Progress::Goes => left -= 1,
-            Progress::Makes(_) | Progress::Ends(_) => return Ok(true),
+            Progress::Makes(_) => return Ok(true),
+            Progress::Ends(_) => return Ok(true),
         }
     }
     Ok(true)
