@@ -108,7 +108,8 @@ impl<'a> Meeting<'a> {
         requires turn { can_turn self.now walk.now.database.making.history unit ≡ true }
         ensures { IfOk result (IsDueIn self.now walk.now.database.making.history unit) }
     {
-        walk.goings[unit as usize - 1].state.copy(alloc)
+        let place = unit as usize - 1;
+        walk.goings[place].state.copy(alloc)
     }
 
     /// Is the status that of a refusal which the unit's program ignores, if its statement was due in this state?
@@ -125,12 +126,7 @@ impl<'a> Meeting<'a> {
         if status == 0 {
             return Ok(false);
         }
-        ignores(
-            alloc,
-            self.schema,
-            &self.programs[unit as usize - 1],
-            due,
-            status,
-        )
+        let place = unit as usize - 1;
+        ignores(alloc, self.schema, &self.programs[place], due, status)
     }
 }

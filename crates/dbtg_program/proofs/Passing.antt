@@ -1,10 +1,11 @@
 -- What a program passes with a status and with 0000: the same, until a condition on STATUS comes out otherwise.
 -- x is a state, l a line, c a condition, n how many sentences may be passed.
-use Rattle.std.proofs.Common.{◌≡◌, refl, sym, ◌∙◌, ap, subst, ℕ, zero, suc, ◌-◌, ◌<◌, Bool, true, false, not, List, [], ◌∷◌, ◌++◌, map, Option, Some, None, arith, slice_get}
-use Rattle.std.specs.Prelude.{◌==◌, ◌↔◌, if◌then◌else◌, option_map, option_to_list, slice_set}
+use Rattle.std.proofs.Common.{◌≡◌, refl, sym, ◌∙◌, ap, subst, ℕ, zero, suc, ◌-◌, ◌<◌, Bool, true, false, List, [], ◌∷◌, ◌++◌, map, Option, Some, None, arith}
+use Rattle.std.specs.Prelude.{◌==◌, ◌↔◌, IsTrue, if◌then◌else◌, option_map, option_to_list, slice_set}
 use Rattle.std.proofs.lemmas.Bool.{true≢false}
 use Rattle.dbtg_schema.specs.Lists.{Lists}
 use Rattle.dbtg_cells.specs.declared.key.Value.{Value}
+use Rattle.dbtg_unit.specs.declared.statement.Statement as said
 use Rattle.dbtg_program.specs.declared.going.Progress.{Progress}
 use Rattle.dbtg_program.specs.declared.going.Progress.TheVariants as progress
 use Rattle.dbtg_program.specs.declared.program.Condition.{Condition}
@@ -86,7 +87,7 @@ words_cleared x [] = refl
 words_cleared x (w ∷ ws) = λ i. word_cleared x w i ∷ words_cleared x ws i
 
 module _ (schema : Lists) (p : Program) (x : ProgramState) where
-  made_cleared : (line : ℕ) (s : Option _) → made line s ≡ cleared_step (made line s)
+  made_cleared : (line : ℕ) (s : Option said.Statement) → made line s ≡ cleared_step (made line s)
   made_cleared line None = refl
   made_cleared line (Some s) = refl
 
@@ -139,28 +140,25 @@ module _ (schema : Lists) (p : Program) (x : ProgramState) where
   here_cleared None h = refl
   here_cleared (Some l) h = λ i. record { at = x.at; outcome = outcome_cleared l.sentence h i } ∷ []
 
-  -- a sentence with a condition is passed, whatever its outcome
-  abbrev Begins : ProgramState → Line → Type 0
-  Begins z l = (further : ProgramState → List Passing) → (rest : List Passing) × (passed_by (at_line schema p z (Some l)) (passing z l ∷ []) further ≡ passing z l ∷ rest)
+  -- the outcome of the first that is passed
+  abbrev first_outcome : List Passing → Bool
+  first_outcome [] = true
+  first_outcome (q ∷ qs) = q.outcome
 
-  by_test : (z : ProgramState) (l : Line) (b : Bool) (behind : ProgramState) (line : ℕ) (further : ProgramState → List Passing)
-      → (rest : List Passing) × (passed_by (if b then goes behind else ends (ending.Assert line)) (passing z l ∷ []) further ≡ passing z l ∷ rest)
-  by_test z l true behind line further = (further behind, refl)
-  by_test z l false behind line further = ([], refl)
+  -- a sentence with a condition is passed, whatever its outcome
+  by_test : (q : Passing) (b : Bool) (behind : ProgramState) (line : ℕ) (further : ProgramState → List Passing)
+      → first_outcome (passed_by (if b then goes behind else ends (ending.Assert line)) (q ∷ []) further) ≡ q.outcome
+  by_test q true behind line further = refl
+  by_test q false behind line further = refl
 
   -- where it tells the lists begin otherwise
   told_apart : (number : ℕ) (s : Sentence) → tells x s ≡ true → (f g : ProgramState → List Passing)
       → passed_by (done schema p x number s) (record { at = x.at; outcome = outcome_of x s } ∷ []) f ≡ passed_by (done schema p (cleared x) number s) (record { at = x.at; outcome = outcome_of (cleared x) s } ∷ []) g → ⊥
-  told_apart number (If c at) h f g e =
-      let same : holds x c ≡ holds (cleared x) c = cc in
-      turned_apart x c h same
+  told_apart number (If c at) h f g e = turned_apart x c h (ap first_outcome e)
   told_apart number (Assert c) h f g e =
-      let l : Line = record { number = number; sentence = Assert c } in
-      let one = by_test x l (holds x c) (onward x) number f in
-      let other = by_test (cleared x) l (holds (cleared x) c) (onward (cleared x)) number g in
-      let both : passing x l ∷ one.0 ≡ passing (cleared x) l ∷ other.0 = sym one.1 ∙ e ∙ other.1 in
-      let same : holds x c ≡ holds (cleared x) c = cc (both) in
-      turned_apart x c h same
+      let one = by_test (record { at = x.at; outcome = holds x c }) (holds x c) (onward x) number f in
+      let other = by_test (record { at = x.at; outcome = holds (cleared x) c }) (holds (cleared x) c) (onward (cleared x)) number g in
+      turned_apart x c h (sym one ∙ ap first_outcome e ∙ other)
   told_apart number Heading h f g e = absurd cc
   told_apart number (Statement s) h f g e = absurd cc
   told_apart number (Filled words) h f g e = absurd cc
@@ -184,13 +182,13 @@ module _ (schema : Lists) (p : Program) where
 
   pub differ_here : (n : ℕ) (x : ProgramState) → 0 < n → tells_at x (line_at p x) ≡ true → ArePassedAlike schema p n x → ⊥
   unfolding passed_within
-  differ_here zero x some tells same = omega arith
-  differ_here (suc n) x some tells same = by (line_at p x) tells same where
+  differ_here zero x some told same = omega arith
+  differ_here (suc n) x some told same = by (line_at p x) told same where
     by : (o : Option Line) → tells_at x o ≡ true
         → passed_by (at_line schema p x o) (option_to_list (option_map (passing x) o)) (λ behind. passed_within schema p n behind)
         ≡ passed_by (at_line schema p (cleared x) o) (option_to_list (option_map (passing (cleared x)) o)) (λ behind. passed_within schema p n behind) → ⊥
-    by None tells same = absurd cc
-    by (Some l) tells same = told_apart schema p x l.number l.sentence tells _ _ same
+    by None told same = absurd cc
+    by (Some l) told same = told_apart schema p x l.number l.sentence told _ _ same
 
   -- a step of the code, after which this is left to tell
   abbrev Further : ℕ → ProgramState → ProgramState → Progress → Type 0
@@ -230,3 +228,26 @@ module _ (schema : Lists) (p : Program) where
         ((λ same. behind_one (passing_at p x) _ _ (sym first ∙ same ∙ second)), (λ same. first ∙ ap (λ l. passing_at p x ++ l) same ∙ sym second))
     by (progress.Makes s) comes = one (makes s) comes ∙ sym (other (makes s) comes)
     by (progress.Ends e) comes = one (ends e) comes ∙ sym (other (ends e) comes)
+
+  -- WHAT THE CODE FINDS
+
+  -- with the answer G to the question
+  module _ (G : Type 0) (n : ℕ) (x : ProgramState) (holds_so : ArePassedAlike schema p n x ↔ G) where
+    pub none_behind : n ≡ 0 → IsTrue true ↔ G
+    none_behind none = ((λ _. holds_so.0 (none_left n x none)), (λ _. refl))
+
+    pub told_here : 0 < n → tells_at x (line_at p x) ≡ true → IsTrue false ↔ G
+    told_here some told = ((λ e. absurd (true≢false (sym e))), (λ g. absurd (differ_here n x some told (holds_so.1 g))))
+
+    module _ (new : ProgramState) (r : Progress) (some : 0 < n) (apart : tells_at x (line_at p x) ≡ false) (comes : view_step new r ≡ at_line schema p x (line_at p x)) where
+      left : (q : Progress) → r ≡ q → Further n x new q
+      left q is = subst (Further n x new) is (goes_further n x new r some apart comes)
+
+      pub gone_on : r ≡ progress.Goes → ArePassedAlike schema p (n - 1) new ↔ G
+      gone_on is = let both = left progress.Goes is in ((λ same. holds_so.0 (both.1 same)), (λ g. both.0 (holds_so.1 g)))
+
+      pub made_there : (s : said.Statement) → r ≡ progress.Makes s → IsTrue true ↔ G
+      made_there s is = ((λ _. holds_so.0 (left (progress.Makes s) is)), (λ _. refl))
+
+      pub ended_there : (e : End) → r ≡ progress.Ends e → IsTrue true ↔ G
+      ended_there e is = ((λ _. holds_so.0 (left (progress.Ends e) is)), (λ _. refl))

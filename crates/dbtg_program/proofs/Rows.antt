@@ -11,3 +11,4 @@ pub mod Entries
 pub mod Bytes
 pub mod Scripts
 pub mod Stops
+pub mod Passed

@@ -1,9 +1,9 @@
 -- Where the sentence of a line stops: the word there, what is wanted in its place, and the statement that a script would have.
 use Prim.Native.String.{String}
-use Rattle.std.specs.Prelude.{◌≡◌, refl, ℕ, ◌-◌, List, [], ◌∷◌, Option, Some, None, map, codes, option_and_then, option_map, slice_get, unwrap_or}
+use Rattle.std.specs.Prelude.{◌≡◌, refl, ℕ, List, [], ◌∷◌, Option, Some, None, map, codes, option_and_then, option_map, unwrap_or}
 use Rattle.std.specs.Fmt.{digits}
 use Rattle.dbtg_unit.proofs.Rows.Defined.Schemas.{card}
-use Rattle.dbtg_script.specs.Tokens.{Token, plain, literal, into, onto}
+use Rattle.dbtg_script.specs.Tokens.{Token, plain, into, onto}
 use Rattle.dbtg_program.specs.Sentences.{Text, verb_of}
 use Rattle.dbtg_program.specs.Told.{met_by, on_line, statement_by, wanted_by}
 use Rattle.dbtg_program.proofs.Rows.Words.{lines_at_once}
