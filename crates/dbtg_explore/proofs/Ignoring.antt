@@ -40,7 +40,7 @@ use Rattle.dbtg_explore.proofs.Alike.{IsDueOf, can_turn_alike, due_there}
 use Rattle.dbtg_explore.proofs.Before.{no_later_push, no_later_trans}
 use Rattle.dbtg_explore.proofs.Ignores.{ignores_alike}
 use Rattle.dbtg_explore.proofs.Judging.{IsMade, made_there, unit_made}
-use Rattle.dbtg_explore.proofs.Replying.{comes_so, reply_alike, status_made}
+use Rattle.dbtg_explore.proofs.Replying.{makes_behind, reply_alike, status_made}
 use Rattle.dbtg_explore.proofs.Searched.{all_found, no_later_place}
 use Rattle.dbtg_explore.proofs.Steps.{goes_on, in_map, of_map}
 use Rattle.dbtg_explore.proofs.Turning.{follow_front, history_on, last_can}
@@ -104,17 +104,14 @@ module _ (m : Meeting) where
   -- what is noted is ignored
   ignored_so : (o : List ℕ) (r : Reply) → IsNoted m o r → IsIgnored m r (o ++ r.unit ∷ [])
   ignored_so o r noted = subst (λ (q : Reply). IsIgnored m q (o ++ q.unit ∷ [])) (sym noted.reply_is) there where
-    u : ℕ
-    u = r.unit
-
-    there : IsIgnored m (reply_of m (history_of m o) u) (o ++ u ∷ [])
+    there : IsIgnored m (reply_of m (history_of m o) r.unit) (o ++ r.unit ∷ [])
     there =
-        let come = comes_so m o u noted.is_order in
-        let passes = passes_then o u come.made.entry come.made.history_is noted.ignores in
+        let made = makes_behind m o r.unit noted.is_order in
+        let passes = passes_then o r.unit made.entry made.history_is noted.ignores in
         record {
-          made = come.made;
-          status_is = come.status_is;
-          refused = λ none. passes.0 (come.status_is ∙ none);
+          made = record { before = o; order_is = refl; is_order = noted.is_order; line_is = refl; entry = made.entry; history_is = made.history_is };
+          status_is = made.status_is;
+          refused = λ none. passes.0 (made.status_is ∙ none);
           program = passes.1;
           program_is = passes.2;
           passes = passes.3;

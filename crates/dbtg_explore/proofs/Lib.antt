@@ -15,7 +15,7 @@ pub mod Links
 pub mod Inserting
 pub mod Searched
 pub mod Noted
-pub mod Ignored
+pub mod Refusals
 pub mod Steps
 pub mod Noting
 pub mod Numbered

@@ -54,16 +54,31 @@ module _ (m : Meeting) where
   pub status_made : (h : List Entry) (u : ℕ) (e : Entry) → IsMade m h u e → status_due m h u ≡ status_of e
   status_made h u e is = λ i. unwrap_or (option_and_then (λ (s : Statement). option_map (λ (a : Answer). status_code s a.status) (is.answer i)) (is.statement i)) 0
 
-  -- what a turn is noted as comes
-  pub comes_so : (o : List ℕ) (u : ℕ) → IsOrder m (o ++ u ∷ []) → Comes m (reply_of m (history_of m o) u)
-  comes_so o u is =
+  -- behind an order its turn makes one
+  pub record MakesBehind (o : List ℕ) (u : ℕ) : Type 0 where
+    pub entry : Entry
+    pub history_is : history_of m (o ++ u ∷ []) ≡ history_of m o ++ entry ∷ []
+    pub status_is : status_of entry ≡ status_due m (history_of m o) u
+
+  pub makes_behind : (o : List ℕ) (u : ℕ) → IsOrder m (o ++ u ∷ []) → MakesBehind o u
+  makes_behind o u is =
       let h = history_of m o in
       let one = makes_one o u (last_can m o u is) in
       let same = makes_same m h u one.0 one.1 in
       record {
-        order = o ++ u ∷ [];
-        made = record { before = o; order_is = refl; is_order = is; line_is = refl; entry = same.entry; history_is = history_on m o u ∙ same.history_is };
+        entry = same.entry;
+        history_is = history_on m o u ∙ same.history_is;
         status_is = (λ i. status_code (same.statement i) (same.answer i).status) ∙ sym (status_made h u one.0 one.1);
+      }
+
+  -- what a turn is noted as comes
+  comes_so : (o : List ℕ) (u : ℕ) → IsOrder m (o ++ u ∷ []) → Comes m (reply_of m (history_of m o) u)
+  comes_so o u is =
+      let made = makes_behind o u is in
+      record {
+        order = o ++ u ∷ [];
+        made = record { before = o; order_is = refl; is_order = is; line_is = refl; entry = made.entry; history_is = made.history_is };
+        status_is = made.status_is;
       }
 
   -- and it is noted alike behind orders that lead to the same state

@@ -19,7 +19,7 @@ use Rattle.dbtg_explore.specs.Inside.Transitions.{AreSeen}
 use Rattle.dbtg_explore.specs.Orders.{IsMeeting, IsOrder, Meeting, beginning, can_turn, history_of}
 use Rattle.dbtg_explore.specs.States.{HasMoreStates, essence_of}
 use Rattle.dbtg_explore.proofs.Alike.{can_turn_alike, same_after}
-use Rattle.dbtg_explore.proofs.Ignored.{more_ignored, next_ignored, no_ignored, none_ignored, one_ignored}
+use Rattle.dbtg_explore.proofs.Refusals.{more_ignored, next_ignored, no_ignored, none_ignored, one_ignored}
 use Rattle.dbtg_explore.proofs.Noted.{more_orders, next_replies, no_reply, none_noted, one_reply}
 use Rattle.dbtg_explore.proofs.Numbered.{numbered_later, numbered_long, numbered_more, order_numbered, state_at}
 use Rattle.dbtg_explore.proofs.Parts.{same_number, same_state}

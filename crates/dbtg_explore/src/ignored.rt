@@ -75,6 +75,18 @@ pub(crate) fn note_if(ignored: bool, noted: &mut Vec<Noted>, new: Noted) -> Resu
     }
 }
 
+// A refusal with its turns.
+fn with_its_turns(alloc: Global, found: &Known, noted: Noted) -> Result<Ignored, AllocError>
+    requires { noted.place < length found.now.orders }
+    ensures { IfOk result (λ ignored. ignored ≡ ignored_by found.now.orders noted) }
+{
+    let Noted { reply, place } = noted;
+    let mut turns = found.order(alloc, place)?;
+    turns.push(reply.unit)?;
+    let turns = Row::of(turns);
+    Ok(Ignored { reply, turns })
+}
+
 /// Each of these with its turns.
 pub(crate) fn with_turns(
     alloc: Global,
@@ -85,13 +97,8 @@ pub(crate) fn with_turns(
     ensures { IfOk result (λ all. all ≡ map (ignored_by found.now.orders) noted.now) }
 {
     let mut all = Vec::with_capacity(alloc, noted.len())?;
-    for Noted { reply, place } in noted {
-        let mut turns = found.order(alloc, *place)?;
-        turns.push(reply.unit)?;
-        all.push(Ignored {
-            reply: *reply,
-            turns: Row::of(turns),
-        })?;
+    for one in noted {
+        all.push(with_its_turns(alloc, found, *one)?)?;
     }
     Ok(Row::of(all))
 }

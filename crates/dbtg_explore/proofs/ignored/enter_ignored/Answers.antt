@@ -1,5 +1,5 @@
 use Rattle.std.proofs.Common.{◌<◌, length, arith, refl, sym, true≢false}
-use Rattle.dbtg_explore.proofs.Ignored.{before_place, takes_known, takes_new}
+use Rattle.dbtg_explore.proofs.Refusals.{before_place, takes_known, takes_new}
 use Rattle.dbtg_explore.proofs.ignored.enter_ignored.Goals as goal
 use Rattle.dbtg_explore.proofs.ignored.enter_ignored.Goals.{else-place-len-via-then-place-len+else-not-is_before, else-place-len-via-else-place-len}
 

@@ -15,8 +15,8 @@ overflow_sub-place c =
     let a = awaits c.args.self.now w.database.making w.goings.items c.requires.stands.is_place c.args.unit d.0 d.1 in
     omega (arith, a.numbered)
 
-pub bounds-walk-inside-place : goal.bounds-walk-inside-place
-bounds-walk-inside-place c =
+pub bounds : goal.bounds
+bounds c =
     let w = c.args.walk.now in
     let d = is_due c.args.self.now w.database.making.history c.args.unit c.requires.turn in
     let a = awaits c.args.self.now w.database.making w.goings.items c.requires.stands.is_place c.args.unit d.0 d.1 in
@@ -28,5 +28,5 @@ returns c =
     let m = c.args.self.now in
     let d = is_due m w.database.making.history c.args.unit c.requires.turn in
     let a = awaits m w.database.making w.goings.items c.requires.stands.is_place c.args.unit d.0 d.1 in
-    let going_is = index_at w.goings.items c.args.unit a.going c.index-walk-place.result a.going_found in
+    let going_is = index_at w.goings.items c.args.unit a.going c.index.result a.going_found in
     IfOk-weaker c.copy.result _ _ (λ state is. subst (IsDueIn m w.database.making.history c.args.unit) (sym (is ∙ ap (λ (g : Going). g.state) going_is)) (due_in m w.database.making.history w.goings.items c.args.unit d.0 a)) c.copy.ensures

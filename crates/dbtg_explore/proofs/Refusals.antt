@@ -68,6 +68,10 @@ module _ (seen ns : List Noted) (same : seen ≡ ns) (i : ℕ) (n : Noted) where
 -- A SEARCH
 
 module _ (m : Meeting) where
+  -- what is noted of a turn behind an order
+  abbrev NotedBehind : List Noted → ℕ → ℕ → List ℕ → Type 0
+  NotedBehind ns j v p = can_turn m (history_of m p) v ≡ true → Ignores m (history_of m p) v → (n : Noted) × Contains ns n × (n.reply ≡ reply_of m (history_of m p) v) × (n.place ≤ j)
+
   pub none_ignored : HasIgnored m ([] ∷ []) 0 0 []
   none_ignored = record {
     are = λ n c. absurd (contains_none n c);
@@ -81,6 +85,10 @@ module _ (m : Meeting) where
   module _ (os : List (List ℕ)) (i u : ℕ) (ns : List Noted) (h : HasIgnored m os i u ns) where
     abbrev o : List ℕ
     o = get_or os i []
+
+    -- the unit's turn there, as it is noted
+    abbrev turn : Noted
+    turn = record { reply = reply_of m (history_of m o) u; place = i }
 
     -- nothing is noted of the unit's turn
     not_noted : HasNoted m os ns i u → HasIgnored m os i (u + 1) ns
@@ -101,7 +109,7 @@ module _ (m : Meeting) where
     no_ignored cannot = not_noted (λ can _. absurd (true≢false (sym can ∙ cannot)))
 
     -- it has had its turn, and what it was answered is noted if it is ignored
-    pub one_ignored : (b : Bool) (new : List Noted) → (IsTrue b ↔ Ignores m (history_of m o) u) → TakesIf b (record { reply = reply_of m (history_of m o) u; place = i }) ns new → IsOrder m (o ++ u ∷ []) → i < length os → HasIgnored m os i (u + 1) new
+    pub one_ignored : (b : Bool) (new : List Noted) → (IsTrue b ↔ Ignores m (history_of m o) u) → TakesIf b turn ns new → IsOrder m (o ++ u ∷ []) → i < length os → HasIgnored m os i (u + 1) new
     one_ignored false new is takes is_order low = subst (HasIgnored m os i (u + 1)) (sym takes) (not_noted (λ _ ignores. absurd (true≢false (sym (is.1 ignores)))))
     one_ignored true new is takes is_order low = record {
       are = λ k c. ⊎_elim (h.are k) (λ e. subst (λ (x : Noted). IsNoted m (order_of os x) x.reply) e own) (takes.only k c);
@@ -116,10 +124,7 @@ module _ (m : Meeting) where
       ];
       in_order = takes.in_order h.in_order;
     } where
-      n : Noted
-      n = record { reply = reply_of m (history_of m o) u; place = i }
-
-      own : IsNoted m (order_of os n) n.reply
+      own : IsNoted m (order_of os turn) turn.reply
       own = record { is_order = is_order; reply_is = refl; ignores = is.0 refl }
 
       near : (k : Noted) → Contains new k → k.place ≤ i
@@ -150,14 +155,10 @@ module _ (m : Meeting) where
       are = λ n c. subst (λ p. IsNoted m p n.reply) (sym (there n.place (h.within n c))) (h.are n c);
       near = h.near;
       within = λ n c. let less = h.within n c in let long = longer in omega (arith, less, long);
-      behind = λ j v less. subst (HasNotedBehind j v) (sym (there j (omega (arith, less, low)))) (h.behind j v less);
-      here = λ v less. subst (HasNotedBehind i v) (sym (there i low)) (h.here v less);
+      behind = λ j v less. subst (NotedBehind ns j v) (sym (there j (omega (arith, less, low)))) (h.behind j v less);
+      here = λ v less. subst (NotedBehind ns i v) (sym (there i low)) (h.here v less);
       in_order = h.in_order;
     } where
-      -- what is noted of a turn behind an order
-      HasNotedBehind : ℕ → ℕ → List ℕ → Type 0
-      HasNotedBehind j v p = can_turn m (history_of m p) v ≡ true → Ignores m (history_of m p) v → (n : Noted) × Contains ns n × (n.reply ≡ reply_of m (history_of m p) v) × (n.place ≤ j)
-
       there : (j : ℕ) → j < length os → get_or ys j [] ≡ get_or os j []
       there j less = ap (λ (zs : List (List ℕ)). get_or zs j []) is ∙ get_or_append_left os more [] j less
 
