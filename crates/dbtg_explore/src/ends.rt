@@ -22,10 +22,18 @@ use crate::walk::Walk;
 use dbtg_states::Numbers;
 use std::alloc::{AllocError, Global};
 
-/// The place of the first order to each result, and the failures.
+/// A state in which no program can go on, by its place, and the number of its result, from 0.
+#[derive(Clone, Copy)]
+pub struct ResultAt {
+    pub place: usize,
+    pub number: u32,
+}
+
+/// The place of the first order to each result, the results of all states that have one, and the failures.
 #[derive(Drop)]
 pub struct Ends {
     pub results: Found,
+    pub numbers: Vec<ResultAt>,
     pub failures: Vec<Failure>,
 }
 
@@ -70,6 +78,7 @@ impl Ends {
     {
         Self {
             results: Found::none(alloc),
+            numbers: Vec::new(alloc),
             failures: Vec::new(alloc),
         }
     }
@@ -104,6 +113,8 @@ impl Ends {
         ensures failures { OnOk result (self.new.failures.items ≡ self.old.failures.items) }
     {
         let text = meeting.text(alloc, here)?;
-        self.results.enter(text, place)
+        let number = self.results.enter(text, place)?;
+        self.numbers.push(ResultAt { place, number })?;
+        Ok(())
     }
 }

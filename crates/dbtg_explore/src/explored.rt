@@ -9,11 +9,13 @@ ghost use Rattle.dbtg_explore.specs.States.{HasMoreStates};
 ghost use Rattle.dbtg_states.specs.declared.stop.Stop.TheVariants.{States};
 ghost use Rattle.std.specs.Prelude.{◌≡◌, ◌≤◌, ◌<◌, [], length, slice_index_or, IfErr, IfOk, OnOk};
 
+use crate::alone::by_state;
 use crate::endless::endless_in;
 use crate::ends::Ends;
 use crate::meeting::Meeting;
 use crate::replies::{Reply, replies_in_order};
 use crate::search::Search;
+use crate::serial::{Serial, serials_in};
 use crate::walk::Walk;
 use dbtg_program::End;
 use dbtg_schema::Row;
@@ -42,7 +44,7 @@ pub struct Endless {
 }
 
 /// Everything that programs can come to: how many states there are, the turns that lead to each result, the failures, a way round if there
-/// is one, and what their statements are answered.
+/// is one, what their statements are answered, and what serial orders come to.
 #[derive(Drop)]
 pub struct Explored {
     pub states: u64,
@@ -50,6 +52,7 @@ pub struct Explored {
     pub failures: Row<FirstFailure>,
     pub endless: Option<Endless>,
     pub replies: Row<Reply>,
+    pub serials: Row<Serial>,
 }
 
 impl Search {
@@ -141,7 +144,12 @@ fn explored_by<'a, W: Watch>(
     ensures stopped { IfErr result (λ stop. stop ≡ States → HasMoreStates meeting.now limit) }
 {
     let (search, ends) = visit_all(alloc, watch, meeting, walk, limit)?;
-    let Ends { results, failures } = ends;
+    let met = search.met(alloc, meeting)?;
+    let Ends {
+        results,
+        numbers: ends,
+        failures,
+    } = ends;
     let states = search.found.len() as u64;
     let results = results.orders(alloc, &search.found)?;
     let failures = search.first_failures(alloc, meeting, failures.as_slice())?;
@@ -155,6 +163,8 @@ fn explored_by<'a, W: Watch>(
     // They take most of the memory.
     drop(numbers);
     drop(seen);
+    let edges = by_state(edges);
+    let serials = serials_in(alloc, edges.as_slice(), found.len(), ends.as_slice(), &met)?;
     let endless = endless_in(alloc, &found, edges)?;
     let replies = replies_in_order(alloc, replies)?;
     Ok(Explored {
@@ -163,6 +173,7 @@ fn explored_by<'a, W: Watch>(
         failures,
         endless,
         replies,
+        serials,
     })
 }
 

@@ -1,7 +1,7 @@
 //! Results that were found, each by the first place that has its text.
 
 ghost use Rattle.dbtg_explore.specs.Inside.Found.{IsEnteredAt, orders_at};
-ghost use Rattle.std.specs.Prelude.{◌≡◌, ◌<◌, All, [], length, IfOk, OnOk};
+ghost use Rattle.std.specs.Prelude.{◌≡◌, ◌<◌, All, [], Some, length, slice_get, IfOk, OnOk};
 
 use crate::known::Known;
 use dbtg_interned::Texts;
@@ -43,16 +43,17 @@ impl Found {
         }
     }
 
-    /// Appends a place, if its text is new.
-    pub fn enter(&mut self, text: Vec<u8>, place: usize) -> Result<(), AllocError>
+    /// Appends a place, if its text is new. Gives the number of the text.
+    pub fn enter(&mut self, text: Vec<u8>, place: usize) -> Result<u32, AllocError>
         requires { length self.old.places ≡ length self.old.texts }
-        ensures { OnOk result (IsEnteredAt self.old text.items place self.new) }
+        ensures entered { OnOk result (IsEnteredAt self.old text.items place self.new) }
+        ensures number { IfOk result (λ n. slice_get self.new.texts n ≡ Some text.items) }
     {
         let number = self.texts.enter(text)?;
         if number as usize == self.places.len() {
             self.places.push(place)?;
         }
-        Ok(())
+        Ok(number)
     }
 
     /// The orders at the places.

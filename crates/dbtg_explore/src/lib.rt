@@ -1,6 +1,7 @@
 //! Everything that programs can come to when they meet: every order of their statements, by the states to which they lead.
 #![tactic(auto)]
 
+mod alone;
 mod endless;
 mod ends;
 mod explored;
@@ -11,13 +12,16 @@ mod key;
 mod known;
 mod laws;
 mod meeting;
+mod met;
 mod next_state;
 mod numbering;
 mod orders;
 mod reads;
 mod replies;
 mod search;
+mod serial;
 mod standing;
+mod tally;
 mod text;
 mod told;
 mod unversioned;
@@ -32,5 +36,6 @@ pub use laws::{
 };
 pub use meeting::Meeting;
 pub use replies::Reply;
+pub use serial::Serial;
 pub use told::told_text;
 pub use wishes::{Wish, broken_turns, is_statement, is_there};

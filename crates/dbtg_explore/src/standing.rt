@@ -42,8 +42,8 @@ fn line_of(program: &Program, at: u64) -> u64
 }
 
 impl<'a> Meeting<'a> {
-    // Can the program of the unit go on?
-    fn goes_on(&self, numbers: &Numbers, state: u32, unit: u8) -> bool
+    /// Can the program of the unit go on?
+    pub(crate) fn goes_on(&self, numbers: &Numbers, state: u32, unit: u8) -> bool
         requires meeting { IsMeeting self.now }
         requires array { IsArray numbers.now.arrays state }
         ensures { result ≡ goes_on_in self.now numbers.now state unit }

@@ -1,9 +1,9 @@
--- What `explore` prints of what programs can come to: how many states and results there are, the turns of a way round, the failures with
--- the first turns to each, and then, result by result, turns that lead to it, and what `run` prints with them.
+-- What `explore` prints of what programs can come to: how many states and results there are, what serial orders come to, the turns of a way
+-- round, the failures with the first turns to each, and then, result by result, turns that lead to it, and what `run` prints with them.
 -- told are the turns that are given, as `--turns` has them; asked is what an exploration is asked for; k is the number of a result, order
--- the one that leads to it; before are the earlier results, if results are shown in brief.
-use Rattle.std.specs.Prelude.{ℕ, ◌≡◌, ◌+◌, false, List, [], ◌∷◌, ◌++◌, Option, Some, None, codes, decimal, flat_map, length, map, option_map, take}
-use Rattle.std.specs.List.{range_with_len}
+-- the one that leads to it; s is a serial; before are the earlier results, if results are shown in brief.
+use Rattle.std.specs.Prelude.{ℕ, ◌≡◌, ◌+◌, ◌-◌, false, List, [], ◌∷◌, ◌++◌, Option, Some, None, codes, decimal, flat_map, if◌then◌else◌, is_none, length, map, nat_lt, option_map, take}
+use Rattle.std.specs.List.{list_all, range_with_len}
 use Rattle.dbtg_schema.specs.Lists.{Lists}
 use Rattle.dbtg_script.specs.Printing.Texts.{run_text}
 use Rattle.dbtg_script.specs.Printing.WordTexts.{turns_text}
@@ -18,6 +18,7 @@ use Rattle.dbtg_going.specs.Turns.{IsRunOf, turns_of}
 use Rattle.dbtg_explore.specs.declared.explored.Endless.{Endless}
 use Rattle.dbtg_explore.specs.declared.explored.Explored.{Explored}
 use Rattle.dbtg_explore.specs.declared.explored.FirstFailure.{FirstFailure}
+use Rattle.dbtg_explore.specs.declared.serial.Serial.{Serial}
 use Rattle.dbtg_exploring.specs.declared.setting.Exploring.{Exploring}
 
 -- after a space the words of a line, without its line feed; nothing if there is no line
@@ -32,6 +33,32 @@ count_text all = codes "states " ++ decimal all.states ++ codes ", results " ++ 
 -- a word, followed by turns
 unfoldable pub with_turns : List ℕ → List ℕ → List ℕ
 with_turns word turns = word ++ spaced (turns_text turns)
+
+-- before and behind how many there are beyond those that are shown; nothing if there are none
+abbrev pub more_text : List ℕ → List ℕ → ℕ → ℕ → List ℕ
+more_text before behind shown count = if nat_lt shown count then before ++ decimal (count - shown) ++ behind else []
+
+-- what a sequence comes to
+abbrev pub come_text : Option ℕ → List ℕ
+come_text (Some k) = codes ": result " ++ decimal k
+come_text None = codes ": endless"
+
+-- the first sequence that comes to it, and how many more do
+abbrev pub serial_text : Serial → List ℕ
+serial_text s = with_turns (codes "serial") s.sequence ++ more_text (codes " and ") (codes " more") 1 s.count ++ come_text s.result ++ 10 ∷ []
+
+-- the lines of the first ten, and how many more there are
+abbrev pub first_text : List Serial → List ℕ
+first_text ss = flat_map serial_text (take 10 ss) ++ more_text (codes "and ") (codes " more\n") 10 (length ss)
+
+-- the same, unless no sequence comes to an end
+abbrev pub judged_text : List Serial → List ℕ
+judged_text ss = if list_all (λ s. is_none s.result) ss then codes "no serial order ends\n" else first_text ss
+
+-- whole programs are judged, and no others
+abbrev pub serials_text : List ℕ → List Serial → List ℕ
+serials_text [] ss = judged_text ss
+serials_text (u ∷ told) ss = codes "serial orders are not judged after given turns\n"
 
 -- turns that lead to a way round, and turns that go round it once
 abbrev pub way_text : List ℕ → List ℕ → List ℕ
@@ -91,4 +118,4 @@ pub record AreTold (schema : Lists) (programs : List Program) (told : List ℕ) 
   pub texts : List ℕ
   pub after : Option (List Told)
   pub are_texts : AreResultTexts schema programs told asked (none_before asked.brief) after 1 all.results texts
-  pub is_text : out ≡ count_text all ++ endless_text told all.endless ++ flat_map (failure_text told) all.failures ++ texts
+  pub is_text : out ≡ count_text all ++ serials_text told all.serials ++ endless_text told all.endless ++ flat_map (failure_text told) all.failures ++ texts

@@ -5,6 +5,7 @@
 mod begun;
 mod command;
 mod laws;
+mod serials;
 mod setting;
 mod statuses;
 mod text;

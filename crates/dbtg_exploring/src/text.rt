@@ -10,6 +10,7 @@ ghost use Rattle.dbtg_states.specs.Brief.{none_before};
 ghost use Rattle.dbtg_schema.specs.Sound.{IsSound};
 ghost use Rattle.std.specs.Prelude.{◌≡◌, ◌≤◌, ◌++◌, List, IfOk, OnOk, Option, Some, flat_map, length};
 
+use crate::serials::push_serials;
 use crate::setting::Setting;
 use dbtg_explore::{Endless, Explored, FirstFailure, told_text};
 use dbtg_going::{ProgramRun, Reached, push_each_program, push_end, run_programs, run_text};
@@ -255,6 +256,7 @@ impl<'a> Setting<'a> {
         let results = self.results_text(alloc, all.results.as_slice())?;
         let mut out = Vec::new(alloc);
         push_counts(&mut out, all)?;
+        push_serials(alloc, &mut out, self.told, all.serials.as_slice())?;
         push_endless(alloc, &mut out, self.told, &all.endless)?;
         push_each_failure(alloc, &mut out, self.told, all.failures.as_slice())?;
         out.extend_from_slice(results.as_slice())?;

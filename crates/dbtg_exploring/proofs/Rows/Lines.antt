@@ -15,7 +15,7 @@ way = record { turns = 1 ∷ 2 ∷ []; round = 2 ∷ 2 ∷ 1 ∷ [] }
 abbrev pub at_once : Endless
 at_once = record { turns = []; round = 1 ∷ [] }
 
-counted : count_text (record { states = 412; results = (1 ∷ []) ∷ (2 ∷ []) ∷ []; failures = []; endless = None; replies = [] }) ≡ codes "states 412, results 2" ++ 10 ∷ []
+counted : count_text (record { states = 412; results = (1 ∷ []) ∷ (2 ∷ []) ∷ []; failures = []; endless = None; replies = []; serials = [] }) ≡ codes "states 412, results 2" ++ 10 ∷ []
 unfolding digits
 counted = refl
 

@@ -1,0 +1,149 @@
+//! Serial orders: each unit has all its turns alone, one unit after another.
+
+use crate::alone::end_alone;
+use crate::ends::ResultAt;
+use crate::met::Met;
+use crate::tally::{Tallies, join, join_each};
+use dbtg_rounds::Edge;
+use dbtg_schema::Row;
+use std::alloc::{AllocError, Global};
+
+/// Sequences of units, each of which runs alone when its turn has come, that come to one result: the first of them, how many they are, and the
+/// number of the result, from 1; none if they come to no end.
+#[derive(Drop)]
+pub struct Serial {
+    pub sequence: Row<u8>,
+    pub count: u64,
+    pub result: Option<u64>,
+}
+
+/// What serial orders are followed by: turns from state to state, how many states there are, the results at the ends, and the unit that is last.
+#[derive(Clone, Copy)]
+pub struct Following<'e> {
+    pub edges: &'e [Edge],
+    pub states: usize,
+    pub results: &'e [ResultAt],
+    pub last: Option<u8>,
+}
+
+// All units of these but one.
+fn without(alloc: Global, units: &[u8], unit: u8) -> Result<Vec<u8>, AllocError> {
+    let mut others = Vec::with_capacity(alloc, units.len())?;
+    for other in units {
+        if *other != unit {
+            others.push(*other)?;
+        }
+    }
+    Ok(others)
+}
+
+// How many arrangements of as many units there are: of at most eight.
+fn arrangements(units: usize) -> u64 {
+    match units {
+        0 | 1 => 1,
+        2 => 2,
+        3 => 6,
+        4 => 24,
+        5 => 120,
+        6 => 720,
+        7 => 5_040,
+        _ => 40_320,
+    }
+}
+
+impl<'e> Following<'e> {
+    // The result at the end of all programs, counted from 1.
+    fn result_at(self, state: usize) -> Option<u64> {
+        for end in self.results {
+            if end.place == state {
+                return Some(end.number as u64 + 1);
+            }
+        }
+        None
+    }
+
+    // These units and the one that is last, whatever they come to.
+    fn with_last(self, units: &mut Vec<u8>) -> Result<(), AllocError> {
+        if let Some(unit) = self.last {
+            units.push(unit)?;
+        }
+        Ok(())
+    }
+
+    // What the unit that is last comes to, where all others have ended.
+    fn last_alone(self, alloc: Global, state: usize) -> Result<Serial, AllocError> {
+        let mut sequence = Vec::new(alloc);
+        self.with_last(&mut sequence)?;
+        let end = match self.last {
+            Some(unit) => end_alone(self.edges, self.states, state, unit),
+            None => Some(state),
+        };
+        let result = match end {
+            Some(end) => self.result_at(end),
+            None => None,
+        };
+        Ok(Serial {
+            sequence: Row::of(sequence),
+            count: 1,
+            result,
+        })
+    }
+
+    // All arrangements of these units, behind a unit that runs for ever.
+    fn endless(self, mut rest: Vec<u8>) -> Result<Serial, AllocError> {
+        let count = arrangements(rest.len());
+        self.with_last(&mut rest)?;
+        Ok(Serial {
+            sequence: Row::of(rest),
+            count,
+            result: None,
+        })
+    }
+
+    // What the arrangements of the units that are left come to from a state on: their place among the tallies.
+    fn tally(
+        self,
+        alloc: Global,
+        known: &mut Tallies,
+        state: usize,
+        left: &[u8],
+    ) -> Result<usize, AllocError> {
+        if let Some(place) = known.place_of(state) {
+            return Ok(place);
+        }
+        let mut all = Vec::new(alloc);
+        if left.is_empty() {
+            all.push(self.last_alone(alloc, state)?)?;
+        }
+        for unit in left {
+            let rest = without(alloc, left, *unit)?;
+            match end_alone(self.edges, self.states, state, *unit) {
+                Some(end) => {
+                    let place = self.tally(alloc, known, end, rest.as_slice())?;
+                    join_each(alloc, &mut all, *unit, known.at(place))?;
+                }
+                None => join(alloc, &mut all, *unit, &self.endless(rest)?)?,
+            }
+        }
+        known.enter(state, all)
+    }
+}
+
+/// What all sequences come to, of all states and all turns from state to state.
+pub(crate) fn serials_in(
+    alloc: Global,
+    edges: &[Edge],
+    states: usize,
+    results: &[ResultAt],
+    met: &Met,
+) -> Result<Row<Serial>, AllocError> {
+    let following = Following {
+        edges,
+        states,
+        results,
+        last: met.last,
+    };
+    let mut known = Tallies::none(alloc);
+    let place = following.tally(alloc, &mut known, 0, met.free.as_slice())?;
+    Ok(Row::of(known.into_tally(place)))
+}
