@@ -26,12 +26,12 @@ first_with f y (suc n) =
       ]
     ]
 
-record HaveSame (f : ℕ → ℕ) (n : ℕ) : Type 0 where
-  i : ℕ
-  j : ℕ
-  before : i < j
-  within : j < n
-  same : f i ≡ f j
+pub record HaveSame (f : ℕ → ℕ) (n : ℕ) : Type 0 where
+  pub i : ℕ
+  pub j : ℕ
+  pub before : i < j
+  pub within : j < n
+  pub same : f i ≡ f j
 
 -- a number with another in place of m
 abbrev without_by : (m y x : ℕ) → (x ≡ m) ⊎ (x ≡ m → ⊥) → ℕ
@@ -85,7 +85,7 @@ module _ (m : ℕ) (f : ℕ → ℕ) (below : (i : ℕ) → i < suc (suc m) → 
       }
 
 -- of m + 1 numbers below m two are the same
-have_same : (m : ℕ) (f : ℕ → ℕ) → ((i : ℕ) → i < suc m → f i < m) → HaveSame f (suc m)
+pub have_same : (m : ℕ) (f : ℕ → ℕ) → ((i : ℕ) → i < suc m → f i < m) → HaveSame f (suc m)
 have_same zero f below = absurd (let low = below 0 (omega arith) in omega arith)
 have_same (suc m) f below = elim (first_with f (f (suc m)) (suc m)) [
   | inl found ↦ record { i = found.0; j = suc m; before = found.1; within = omega arith; same = found.2 }
@@ -245,12 +245,12 @@ module _ {S : Type 0} (IsOrder : List ℕ → Type 0) (can : List ℕ → ℕ �
 
   module _ (on : GoOn IsOrder can state) where
     -- the front of an order is one
-    front : (o us : List ℕ) → IsOrder (o ++ us) → IsOrder o
+    pub front : (o us : List ℕ) → IsOrder (o ++ us) → IsOrder o
     front o [] is = subst IsOrder (append-nil o) is
     front o (u ∷ us) is = on.front o u (front (o ++ u ∷ []) us (subst IsOrder (sym (append_assoc o (u ∷ []) us)) is))
 
     -- turns that can follow one order can follow any other that leads to the same state
-    go_along : (us o p : List ℕ) → IsOrder o → IsOrder (p ++ us) → state o ≡ state p → IsOrder (o ++ us) × (state (o ++ us) ≡ state (p ++ us))
+    pub go_along : (us o p : List ℕ) → IsOrder o → IsOrder (p ++ us) → state o ≡ state p → IsOrder (o ++ us) × (state (o ++ us) ≡ state (p ++ us))
     go_along [] o p is along same = (subst IsOrder (sym (append-nil o)) is, ap state (append-nil o) ∙ same ∙ ap state (sym (append-nil p)))
     go_along (u ∷ us) o p is along same =
         let rest : IsOrder ((p ++ u ∷ []) ++ us) = subst IsOrder (sym (append_assoc p (u ∷ []) us)) along in

@@ -18,7 +18,7 @@ use Rattle.dbtg_explore.proofs.Turning.{history_on, last_can}
 
 -- TESTS
 
-free_parts : (a w : Bool) → (a && not w) ≡ true → (a ≡ true) × (w ≡ false)
+pub free_parts : (a w : Bool) → (a && not w) ≡ true → (a ≡ true) × (w ≡ false)
 free_parts true true e = absurd (cc)
 free_parts true false e = (refl, refl)
 free_parts false w e = absurd (cc)

@@ -29,5 +29,9 @@ pub mod Replying
 pub mod Rounding
 pub mod ForEver
 pub mod GoingRound
+pub mod Tallying
+pub mod Arranged
+pub mod Alone
+pub mod Serials
 pub mod Rows
 pub mod Versions

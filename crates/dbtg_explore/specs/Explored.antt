@@ -6,6 +6,7 @@ use Rattle.dbtg_explore.specs.declared.explored.Explored as given
 use Rattle.dbtg_explore.specs.Orders.{IsNoLater, IsOrder, Meeting, can_turn, history_of}
 use Rattle.dbtg_explore.specs.Replies.{AreReplies}
 use Rattle.dbtg_explore.specs.Results.{AreFailures, AreResults}
+use Rattle.dbtg_explore.specs.Serial.{AreSerials}
 use Rattle.dbtg_explore.specs.States.{CountsStates, essence_of}
 
 -- turns that lead to a way round, and turns that go round it: they come back to the same state, and each program that can have its turn there
@@ -21,10 +22,11 @@ abbrev pub IsFirstEndless : Meeting → Option Endless → Type 0
 IsFirstEndless m (Some e) = IsEndless m e × ((o : Endless) → IsEndless m o → IsNoLater e.turns o.turns)
 IsFirstEndless m None = (o : Endless) → IsEndless m o → ⊥
 
--- the number of states, all results, all failures, a way round if there is one, and all replies
+-- the number of states, all results, all failures, a way round if there is one, all replies, and what serial orders come to
 pub record IsExplored (m : Meeting) (all : given.Explored) : Type 0 where
   pub states : CountsStates m all.states
   pub results : AreResults m all.results
   pub failures : AreFailures m all.failures
   pub endless : IsFirstEndless m all.endless
   pub replies : AreReplies m all.replies
+  pub serials : AreSerials m all.results all.serials

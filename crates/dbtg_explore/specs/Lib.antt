@@ -5,6 +5,7 @@ pub mod Orders
 pub mod Pairwise
 pub mod Replies
 pub mod Results
+pub mod Serial
 pub mod States
 pub mod Versions
 pub mod Wishes

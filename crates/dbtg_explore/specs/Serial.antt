@@ -1,10 +1,10 @@
 -- Serial orders: the units that meet have all their turns alone, one unit after another.
 -- m is a meeting, u and v are units, us, vs and ws are units one after another, o, p and q are orders, k is the number of a result, s a serial.
-use Rattle.std.specs.Prelude.{ℕ, ◌≡◌, ◌-◌, ◌==◌, ◌⊎◌, false, not, List, [], ◌∷◌, ◌++◌, Option, Some, None, Contains, filter, if◌then◌else◌, length, option_to_list, replicate}
+use Rattle.std.specs.Prelude.{ℕ, ◌≡◌, ◌-◌, ◌==◌, ◌&&◌, ◌⊎◌, false, not, List, [], ◌∷◌, ◌++◌, Option, Some, None, Contains, filter, if◌then◌else◌, length, map, option_to_list, replicate}
 use Rattle.std.specs.List.{range_with_len}
 use Rattle.dbtg_step.specs.Machine.SequentialDatabase.{unit_at}
 use Rattle.dbtg_explore.specs.declared.serial.Serial.{Serial}
-use Rattle.dbtg_explore.specs.Orders.{IsLower, IsOrder, Meeting, beginning, can_go_on, history_of}
+use Rattle.dbtg_explore.specs.Orders.{IsLower, IsOrder, Meeting, can_go_on, history_of}
 use Rattle.dbtg_explore.specs.Pairwise.{ArePairwise}
 use Rattle.dbtg_explore.specs.Results.{result_text}
 
@@ -27,13 +27,13 @@ free_count m = if m.last_waits then length m.programs - 1 else length m.programs
 abbrev pub free_after : Meeting → List ℕ → List ℕ
 free_after m o = filter (can_go_on m (history_of m o)) (range_with_len 1 (free_count m))
 
--- the unit that waits for the others, if it can go on when they meet
-abbrev pub last_of : Meeting → Option ℕ
-last_of m = if m.last_waits then (if can_go_on m (beginning m) (length m.programs) then Some (length m.programs) else None) else None
+-- the one that waits for them, if it can go on
+abbrev pub last_after : Meeting → List ℕ → Option ℕ
+last_after m o = if m.last_waits && can_go_on m (history_of m o) (length m.programs) then Some (length m.programs) else None
 
 -- each unit that can go on when they meet, once; the one that waits is the last
 abbrev pub IsSequence : Meeting → List ℕ → Type 0
-IsSequence m us = (vs : List ℕ) × IsArrangement (free_after m []) vs × (us ≡ vs ++ option_to_list (last_of m))
+IsSequence m us = (vs : List ℕ) × IsArrangement (free_after m []) vs × (us ≡ vs ++ option_to_list (last_after m []))
 
 -- WHAT A SEQUENCE COMES TO
 
@@ -83,7 +83,7 @@ pub record AreCounted (P : List ℕ → Type 0) (first : List ℕ) (count : ℕ)
 pub record AreTallied (P : Option ℕ → List ℕ → Type 0) (serials : List Serial) : Type 0 where
   pub each : (s : Serial) → Contains serials s → AreCounted (P s.result) s.sequence s.count
   pub all : (k : Option ℕ) (us : List ℕ) → P k us → (s : Serial) × Contains serials s × (s.result ≡ k)
-  pub in_order : ArePairwise (λ s t. IsLower s.sequence t.sequence) serials
+  pub in_order : ArePairwise IsLower (map (λ s. s.sequence) serials)
 
 -- every sequence comes to a result or to no end, and is tallied there
 pub record AreSerials (m : Meeting) (results : List (List ℕ)) (serials : List Serial) : Type 0 where

@@ -1,5 +1,13 @@
 //! Serial orders: each unit has all its turns alone, one unit after another.
 
+ghost use Rattle.dbtg_explore.specs.Inside.Alone.{EndsAt};
+ghost use Rattle.dbtg_explore.specs.Inside.Serials.{AreKnownTallies, ComeFrom, IsFollowed};
+ghost use Rattle.dbtg_explore.specs.Inside.Tallies.{factorial};
+ghost use Rattle.dbtg_explore.specs.Orders.{IsEnd, IsMeeting, Meeting as MeetingOfPrograms};
+ghost use Rattle.dbtg_explore.specs.Results.{result_text};
+ghost use Rattle.dbtg_explore.specs.Serial.{AreCounted, AreSerials, AreTallied, HasResult, IsArrangement, free_after, last_after, without};
+ghost use Rattle.std.specs.Prelude.{◌≡◌, ◌≤◌, ◌<◌, ◌++◌, ◌∷◌, ℕ, List, [], None, Some, IfOk, IfSome, OnOk, length, option_to_list, slice_get, slice_index_or};
+
 use crate::alone::end_alone;
 use crate::ends::ResultAt;
 use crate::met::Met;
@@ -27,7 +35,9 @@ pub struct Following<'e> {
 }
 
 // All units of these but one.
-fn without(alloc: Global, units: &[u8], unit: u8) -> Result<Vec<u8>, AllocError> {
+fn without(alloc: Global, units: &[u8], unit: u8) -> Result<Vec<u8>, AllocError>
+    ensures { IfOk result (λ others. others.items ≡ without unit units.now) }
+{
     let mut others = Vec::with_capacity(alloc, units.len())?;
     for other in units {
         if *other != unit {
@@ -37,10 +47,14 @@ fn without(alloc: Global, units: &[u8], unit: u8) -> Result<Vec<u8>, AllocError>
     Ok(others)
 }
 
-// How many arrangements of as many units there are: of at most eight.
-fn arrangements(units: usize) -> u64 {
+// How many arrangements of as many units there are.
+fn arrangements(units: usize) -> u64
+    requires { units ≤ 8 }
+    ensures { result ≡ factorial units }
+{
     match units {
-        0 | 1 => 1,
+        0 => 1,
+        1 => 1,
         2 => 2,
         3 => 6,
         4 => 24,
@@ -53,7 +67,10 @@ fn arrangements(units: usize) -> u64 {
 
 impl<'e> Following<'e> {
     // The result at the end of all programs, counted from 1.
-    fn result_at(self, state: usize) -> Option<u64> {
+    fn result_at(self, state: usize) -> Option<u64>
+        requires { (m : MeetingOfPrograms) × (os : List (List ℕ)) × (results : List (List ℕ)) × IsFollowed m os results self × (state < length os) × IsEnd m (slice_index_or os state []) }
+        ensures { (m : MeetingOfPrograms) (os results : List (List ℕ)) → IsFollowed m os results self → state < length os → IsEnd m (slice_index_or os state []) → (k : ℕ) × (result ≡ Some k) × HasResult m results k (slice_index_or os state []) }
+    {
         for end in self.results {
             if end.place == state {
                 return Some(end.number as u64 + 1);
@@ -62,23 +79,29 @@ impl<'e> Following<'e> {
         None
     }
 
-    // These units and the one that is last, whatever they come to.
-    fn with_last(self, units: &mut Vec<u8>) -> Result<(), AllocError> {
+    // Behind these units the one that is last.
+    fn push_last(self, units: &mut Vec<u8>) -> Result<(), AllocError>
+        ensures { OnOk result (units.new.items ≡ units.old.items ++ option_to_list self.last) }
+    {
         if let Some(unit) = self.last {
             units.push(unit)?;
         }
         Ok(())
     }
 
+    // Where the unit that is last comes to its end.
+    fn end_of_last(self, state: usize) -> Option<usize> {
+        match self.last {
+            Some(unit) => end_alone(self.edges, self.states, state, unit),
+            None => Some(state),
+        }
+    }
+
     // What the unit that is last comes to, where all others have ended.
     fn last_alone(self, alloc: Global, state: usize) -> Result<Serial, AllocError> {
         let mut sequence = Vec::new(alloc);
-        self.with_last(&mut sequence)?;
-        let end = match self.last {
-            Some(unit) => end_alone(self.edges, self.states, state, unit),
-            None => Some(state),
-        };
-        let result = match end {
+        self.push_last(&mut sequence)?;
+        let result = match self.end_of_last(state) {
             Some(end) => self.result_at(end),
             None => None,
         };
@@ -90,9 +113,12 @@ impl<'e> Following<'e> {
     }
 
     // All arrangements of these units, behind a unit that runs for ever.
-    fn endless(self, mut rest: Vec<u8>) -> Result<Serial, AllocError> {
+    fn endless(self, mut rest: Vec<u8>) -> Result<Serial, AllocError>
+        requires { length rest.items ≤ 8 }
+        ensures { IfOk result (λ s. s ≡ record { sequence = rest.items ++ option_to_list self.last; count = factorial (length rest.items); result = None }) }
+    {
         let count = arrangements(rest.len());
-        self.with_last(&mut rest)?;
+        self.push_last(&mut rest)?;
         Ok(Serial {
             sequence: Row::of(rest),
             count,
@@ -100,20 +126,25 @@ impl<'e> Following<'e> {
         })
     }
 
-    // What the arrangements of the units that are left come to from a state on: their place among the tallies.
+    // What the arrangements of the units that are left come to from a state on: its place among the tallies.
     fn tally(
         self,
         alloc: Global,
         known: &mut Tallies,
         state: usize,
         left: &[u8],
-    ) -> Result<usize, AllocError> {
+    ) -> Result<usize, AllocError>
+        requires { (m : MeetingOfPrograms) × (os : List (List ℕ)) × (results : List (List ℕ)) × IsMeeting m × IsFollowed m os results self × AreKnownTallies m os results known.old × (state < length os) × (left.now ≡ free_after m (slice_index_or os state [])) × (self.last ≡ last_after m (slice_index_or os state [])) }
+        ensures known { OnOk result ((m : MeetingOfPrograms) (os results : List (List ℕ)) → IsFollowed m os results self → AreKnownTallies m os results known.old → state < length os → left.now ≡ free_after m (slice_index_or os state []) → self.last ≡ last_after m (slice_index_or os state []) → AreKnownTallies m os results known.new) }
+        ensures place { IfOk result (λ place. slice_get known.new.states place ≡ Some state) }
+    {
         if let Some(place) = known.place_of(state) {
             return Ok(place);
         }
         let mut all = Vec::new(alloc);
         if left.is_empty() {
             all.push(self.last_alone(alloc, state)?)?;
+            return known.enter(state, all);
         }
         for unit in left {
             let rest = without(alloc, left, *unit)?;
@@ -129,7 +160,7 @@ impl<'e> Following<'e> {
     }
 }
 
-/// What all sequences come to, of all states and all turns from state to state.
+/// What all sequences come to: of all states and all turns from state to state, the ends among them, and the units that meet.
 pub(crate) fn serials_in(
     alloc: Global,
     edges: &[Edge],
@@ -145,5 +176,5 @@ pub(crate) fn serials_in(
     };
     let mut known = Tallies::none(alloc);
     let place = following.tally(alloc, &mut known, 0, met.free.as_slice())?;
-    Ok(Row::of(known.into_tally(place)))
+    Ok(known.into_tally(place))
 }

@@ -1,14 +1,19 @@
 //! Tallies of what sequences of units come to.
 
+ghost use Rattle.dbtg_explore.specs.Inside.Tallies.{AreJoined, IsEnteredTally, IsJoined};
+ghost use Rattle.dbtg_explore.specs.declared.serial.Serial.{Serial as SerialOf};
+ghost use Rattle.std.specs.Prelude.{◌≡◌, ◌<◌, ◌∷◌, [], None, Some, Contains, length, slice_get, slice_index_or, IfOk, IfSome, OnOk};
+
 use crate::serial::Serial;
 use dbtg_schema::Row;
 use indexmap::IndexSet;
 use std::alloc::{AllocError, Global};
+use std::marker::Model;
 
 /// For states that were come to, each once, what comes of the units that are left there.
 pub struct Tallies {
     states: IndexSet<usize>,
-    tallies: Vec<Vec<Serial>>,
+    tallies: Vec<Row<Serial>>,
 }
 
 impl Drop for Tallies {
@@ -20,12 +25,36 @@ impl Drop for Tallies {
     }
 }
 
+impl Model for Tallies {
+    ghost use Rattle.dbtg_explore.specs.Inside.Tallies.{KnownTallies};
+
+    ghost Value = { KnownTallies };
+
+    ghost view = { λ t. record { states = t.states.keys; tallies = t.tallies.items } };
+}
+
 // A unit, and behind it others.
-fn behind(alloc: Global, unit: u8, others: &[u8]) -> Result<Row<u8>, AllocError> {
+fn behind(alloc: Global, unit: u8, others: &[u8]) -> Result<Row<u8>, AllocError>
+    ensures { IfOk result (λ all. all ≡ unit ∷ others.now) }
+{
     let mut all = Vec::with_capacity(alloc, others.len().saturating_add(1))?;
     all.push(unit)?;
     all.extend_from_slice(others)?;
     Ok(Row::of(all))
+}
+
+// The place of the one that comes to this, if there is one.
+fn place_among(all: &[Serial], come: Option<u64>) -> Option<usize>
+    ensures some { IfSome result (λ i. i < length all.now) }
+    ensures same { IfSome result (λ i. (s : SerialOf) → (slice_index_or all.now i s).result ≡ come) }
+    ensures none { result ≡ None → (s : SerialOf) → Contains all.now s → s.result ≡ come → ⊥ }
+{
+    for (place, one) in all.iter().enumerate() {
+        if one.result == come {
+            return Some(place);
+        }
+    }
+    None
 }
 
 /// The sequences with the unit before them join those that come to the same.
@@ -34,24 +63,23 @@ pub(crate) fn join(
     all: &mut Vec<Serial>,
     unit: u8,
     other: &Serial,
-) -> Result<(), AllocError> {
-    match all.iter().position(|one| one.result == other.result) {
-        Some(place) => match all[place].count.checked_add(other.count) {
-            Some(count) => {
-                all[place].count = count;
-                Ok(())
-            }
-            None => Err(AllocError),
-        },
-        None => {
-            all.push(Serial {
-                sequence: behind(alloc, unit, other.sequence.as_slice())?,
-                count: other.count,
-                result: other.result,
-            })?;
-            Ok(())
-        }
-    }
+) -> Result<(), AllocError>
+    ensures { OnOk result (IsJoined all.old.items unit other.now all.new.items) }
+{
+    let Some(place) = place_among(all.as_slice(), other.result) else {
+        all.push(Serial {
+            sequence: behind(alloc, unit, other.sequence.as_slice())?,
+            count: other.count,
+            result: other.result,
+        })?;
+        return Ok(());
+    };
+    // Of eight units there are 40320 sequences.
+    let Some(count) = all[place].count.checked_add(other.count) else {
+        return Err(AllocError);
+    };
+    all[place].count = count;
+    Ok(())
 }
 
 /// So do all of these.
@@ -60,7 +88,9 @@ pub(crate) fn join_each(
     all: &mut Vec<Serial>,
     unit: u8,
     others: &[Serial],
-) -> Result<(), AllocError> {
+) -> Result<(), AllocError>
+    ensures { OnOk result (AreJoined all.old.items unit others.now all.new.items) }
+{
     for other in others {
         join(alloc, all, unit, other)?;
     }
@@ -69,7 +99,9 @@ pub(crate) fn join_each(
 
 impl Tallies {
     /// None.
-    pub(crate) fn none(alloc: Global) -> Self {
+    pub(crate) fn none(alloc: Global) -> Self
+        ensures { result ≡ record { states = []; tallies = [] } }
+    {
         Self {
             states: IndexSet::new(alloc),
             tallies: Vec::new(alloc),
@@ -77,26 +109,37 @@ impl Tallies {
     }
 
     /// The place of the tally of a state, if it is known.
-    pub(crate) fn place_of(&self, state: usize) -> Option<usize> {
+    pub(crate) fn place_of(&self, state: usize) -> Option<usize>
+        ensures { IfSome result (λ place. slice_get self.now.states place ≡ Some state) }
+    {
         self.states.get_index_of(&state)
     }
 
     /// The tally at a place.
-    pub(crate) fn at(&self, place: usize) -> &[Serial] {
+    pub(crate) fn at(&self, place: usize) -> &[Serial]
+        requires { place < length self.now.tallies }
+        ensures { result.now ≡ slice_index_or self.now.tallies place [] }
+    {
         self.tallies[place].as_slice()
     }
 
-    /// Enters the tally of a state that is not known. Gives its place.
-    pub(crate) fn enter(&mut self, state: usize, tally: Vec<Serial>) -> Result<usize, AllocError> {
+    /// Enters the tally of a state, unless it is known. Gives its place.
+    pub(crate) fn enter(&mut self, state: usize, tally: Vec<Serial>) -> Result<usize, AllocError>
+        ensures entered { OnOk result (IsEnteredTally self.old state tally.items self.new) }
+        ensures place { IfOk result (λ place. slice_get self.new.states place ≡ Some state) }
+    {
         let (place, is_new) = self.states.insert_full(state)?;
         if is_new {
-            self.tallies.push(tally)?;
+            self.tallies.push(Row::of(tally))?;
         }
         Ok(place)
     }
 
     /// The tally at a place, alone.
-    pub(crate) fn into_tally(mut self, place: usize) -> Vec<Serial> {
+    pub(crate) fn into_tally(mut self, place: usize) -> Row<Serial>
+        requires { place < length self.tallies }
+        ensures { result ≡ slice_index_or self.tallies place [] }
+    {
         self.tallies.swap_remove(place)
     }
 }

@@ -1,9 +1,10 @@
 -- What is noted of the orders that a search has found: results and failures.
 -- m is a meeting, o and p are orders, os are all that are found, seen are the earlier ones.
-use Rattle.std.specs.Prelude.{ℕ, ◌≡◌, ◌<◌, ◌++◌, List, [], ◌∷◌, Option, Some, All, Contains, length, map}
+use Rattle.std.specs.Prelude.{ℕ, ◌≡◌, ◌<◌, ◌++◌, List, [], ◌∷◌, Option, Some, All, Contains, length, map, slice_get, slice_index_or}
 use Rattle.dbtg_unit.specs.declared.unit.Entry.{Entry}
 use Rattle.dbtg_program.specs.declared.program.End.{End}
 use Rattle.dbtg_explore.specs.declared.ends.Ends as given
+use Rattle.dbtg_explore.specs.declared.ends.ResultAt.{ResultAt}
 use Rattle.dbtg_explore.specs.declared.explored.Failure.{Failure}
 use Rattle.dbtg_explore.specs.Inside.Found.{FoundOrders, orders_by_text}
 use Rattle.dbtg_explore.specs.Inside.Walks.{failure_in}
@@ -36,10 +37,16 @@ pub record AreResultsOf (m : Meeting) (seen : List (List ℕ)) (results : FoundO
   pub firsts : AreFirsts (IsEnd m) (result_text m) seen results.orders
   pub keys_are : results.keys ≡ map (result_text m) results.orders
 
+-- the ends among these orders, each with the number of the text of its result
+pub record AreNumberedEnds (m : Meeting) (os seen texts : List (List ℕ)) (ends : List ResultAt) : Type 0 where
+  pub right : (e : ResultAt) → Contains ends e → (e.place < length os) × (slice_get texts e.number ≡ Some (result_text m (slice_index_or os e.place [])))
+  pub all : (o : List ℕ) → Contains seen o → IsEnd m o → (e : ResultAt) × Contains ends e × (slice_index_or os e.place [] ≡ o)
+
 -- all that is noted after these orders; of each result there is the place of its order
 pub record AreEndsOf (m : Meeting) (os seen : List (List ℕ)) (ends : given.Ends) : Type 0 where
   pub there : All (λ place. place < length os) ends.results.places
   pub results : AreResultsOf m seen (orders_by_text os ends.results)
+  pub numbers : AreNumberedEnds m os seen ends.results.texts ends.numbers.items
   pub failures : AreFailuresOf m seen ends.failures.items
 
 -- an order comes after all these
