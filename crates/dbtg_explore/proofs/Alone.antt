@@ -1,15 +1,16 @@
 -- Units that run alone, from orders that lead to the same state.
 -- m is a meeting, u and v are units, us are units one after another, o, p, q and r are orders, k is what they come to.
-use Rattle.std.proofs.Common.{◌≡◌, ℕ, zero, suc, ◌+◌, ◌-◌, ◌<◌, Bool, true, false, ◌&&◌, List, [], ◌∷◌, ◌++◌, append-nil, append_assoc, replicate, refl, sym, ◌∙◌, ap, subst, arith, inl, inr, ◌⊎◌, ⊎_elim}
-use Rattle.std.specs.Prelude.{Contains, Option, Some, None, filter, cond, not, ◌==◌, ◌≢◌}
+use Rattle.std.proofs.Common.{◌≡◌, ℕ, zero, suc, ◌+◌, ◌-◌, ◌<◌, Bool, true, false, ◌&&◌, List, [], ◌∷◌, ◌++◌, append-nil, append_assoc, length, replicate, refl, sym, ◌∙◌, ap, subst, arith, inl, inr, ◌⊎◌, ⊎_elim}
+use Rattle.std.specs.Prelude.{Contains, Option, Some, None, filter, cond, not, if◌then◌else◌, ◌==◌, ◌≢◌}
 use Rattle.std.proofs.lemmas.Bool.{cases_Bool, cases_eq, cases_lt}
 use Rattle.std.proofs.lemmas.List.{replicate-append-replicate}
 use Rattle.dbtg_explore.specs.Inside.Steps.{can_follow}
 use Rattle.dbtg_explore.specs.Orders.{IsOrder, Meeting, after_turn, beginning, can_go_on, can_turn, due_of, history_of, waits}
 use Rattle.dbtg_explore.specs.Results.{result_text}
-use Rattle.dbtg_explore.specs.Serial.{ComeTo, HasResult, NeverEnd, RunInTurn, RunsAlone, RunsForEver, free_after, free_count, without}
+use Rattle.dbtg_explore.specs.Serial.{ComeTo, HasResult, NeverEnd, RunInTurn, RunsAlone, RunsForEver, free_after, free_count, last_after, without}
 use Rattle.dbtg_explore.specs.States.{essence_of, state_of}
 use Rattle.dbtg_explore.proofs.Alike.{can_go_on_alike}
+use Rattle.dbtg_explore.proofs.Arranged.{without_one, without_other}
 use Rattle.dbtg_explore.proofs.ByTurns.{others_go_on}
 use Rattle.dbtg_explore.proofs.ForEver.{go_along}
 use Rattle.dbtg_explore.proofs.GoingRound.{free_parts}
@@ -123,13 +124,33 @@ module _ (m : Meeting) where
     rest : filter f us ≡ without u (filter g us)
     rest = filter_again f g u us none same
 
+    left_out : f v ≡ false → filter f (v ∷ us) ≡ filter f us
+    left_out is = ap (λ b. cond b (v ∷ filter f us) (filter f us)) is
+
     by_same : u ≡ v → (b : Bool) → g v ≡ b → filter f (v ∷ us) ≡ without u (filter g (v ∷ us))
-    by_same e b is = ?
+    by_same e true is =
+        left_out (ap f (sym e) ∙ none) ∙ rest ∙ sym (without_one u (filter g us)) ∙ ap (λ w. without u (w ∷ filter g us)) e
+        ∙ ap (without u) (sym (ap (λ b. cond b (v ∷ filter g us) (filter g us)) is))
+    by_same e false is = left_out (ap f (sym e) ∙ none) ∙ rest ∙ ap (without u) (sym (ap (λ b. cond b (v ∷ filter g us) (filter g us)) is))
 
     by_other : u ≢ v → (b : Bool) → g v ≡ b → filter f (v ∷ us) ≡ without u (filter g (v ∷ us))
-    by_other other b is = ?
+    by_other other true is =
+        ap (λ b. cond b (v ∷ filter f us) (filter f us)) (same v other ∙ is) ∙ ap (λ vs. v ∷ vs) rest
+        ∙ sym (without_other u v (filter g us) (λ e. other (sym e))) ∙ ap (without u) (sym (ap (λ b. cond b (v ∷ filter g us) (filter g us)) is))
+    by_other other false is = left_out (same v other ∙ is) ∙ rest ∙ ap (without u) (sym (ap (λ b. cond b (v ∷ filter g us) (filter g us)) is))
 
   -- after it has run alone, all but it are left
   pub left_after : (u : ℕ) (o p : List ℕ) → RunsAlone m u o p → free_after m p ≡ without u (free_after m o)
   left_after u o p h = filter_again (can_go_on m (history_of m p)) (can_go_on m (history_of m o)) u _ h.ended
       (λ v other. ap (λ q. can_go_on m (history_of m q) v) h.order_is ∙ others_stay h.turns u v o other)
+
+  -- the unit that waits can go on as before, if it is another
+  pub last_stays : (u : ℕ) (o p : List ℕ) → RunsAlone m u o p → (m.last_waits ≡ true → u ≡ length m.programs → ⊥) → last_after m p ≡ last_after m o
+  last_stays u o p h other = by m.last_waits refl where
+    by : (b : Bool) → m.last_waits ≡ b → last_after m p ≡ last_after m o
+    by true is =
+        let same = ap (λ q. can_go_on m (history_of m q) (length m.programs)) h.order_is ∙ others_stay h.turns u (length m.programs) o (other is) in
+        ap (λ b. if m.last_waits && b then Some (length m.programs) else None) same
+    by false is =
+        ap (λ b. if b && can_go_on m (history_of m p) (length m.programs) then Some (length m.programs) else None) is
+        ∙ sym (ap (λ b. if b && can_go_on m (history_of m o) (length m.programs) then Some (length m.programs) else None) is)

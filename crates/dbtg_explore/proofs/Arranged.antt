@@ -3,7 +3,7 @@
 use Rattle.std.proofs.Common.{◌≡◌, ℕ, zero, suc, ◌+◌, ◌*◌, ◌<◌, Bool, true, false, List, [], ◌∷◌, ◌++◌, length, refl, sym, ◌∙◌, ap, subst, arith, inl, inr, ◌⊎◌, ⊎_elim}
 use Rattle.std.specs.Prelude.{Contains, ◌==◌, not, filter, cond}
 use Rattle.std.proofs.lemmas.Bool.{cases_eq, eq-eqb, ne_eqb}
-use native.Mathlib.Numerals.{unary_clauses}
+use Rattle.std.proofs.Math.Nat.{add_comm, suc-mul}
 use Rattle.dbtg_explore.specs.Inside.Tallies.{Behind, factorial}
 use Rattle.dbtg_explore.specs.Orders.{IsLower}
 use Rattle.dbtg_explore.specs.Pairwise.{ArePairwise}
@@ -16,7 +16,7 @@ abbrev pub AreRising : List ℕ → Type 0
 AreRising us = ArePairwise (λ u v. u < v) us
 
 more_times : (n k : ℕ) → n + k * n ≡ suc k * n
-more_times n k = simp unary_clauses refl
+more_times n k = add_comm n (k * n) ∙ sym (suc-mul k n)
 
 -- LEFT OUT
 
@@ -26,10 +26,10 @@ eq_itself u = eq-eqb u u refl
 not_eq : (v u : ℕ) → (v ≡ u → ⊥) → (v == u) ≡ false
 not_eq v u other = ne_eqb v u other
 
-without_one : (u : ℕ) (us : List ℕ) → without u (u ∷ us) ≡ without u us
+pub without_one : (u : ℕ) (us : List ℕ) → without u (u ∷ us) ≡ without u us
 without_one u us = ap (λ b. cond (not b) (u ∷ without u us) (without u us)) (eq_itself u)
 
-without_other : (u v : ℕ) (us : List ℕ) → (v ≡ u → ⊥) → without u (v ∷ us) ≡ v ∷ without u us
+pub without_other : (u v : ℕ) (us : List ℕ) → (v ≡ u → ⊥) → without u (v ∷ us) ≡ v ∷ without u us
 without_other u v us other = ap (λ b. cond (not b) (v ∷ without u us) (without u us)) (not_eq v u other)
 
 without_absent : (u : ℕ) (us : List ℕ) → (Contains us u → ⊥) → without u us ≡ us
@@ -98,10 +98,10 @@ module _ (B : ℕ → List ℕ → Type 0) (f : ℕ → List ℕ) (n : ℕ) wher
       let rest = counted_each y xs h.1 (λ z c. each z (contains_behind x (y ∷ xs) z c)) in
       let first = behind_each x (each x (contains_here x (y ∷ xs))) in
       let apart : (us : List ℕ) → Behind x (B x) us → BehindOne (y ∷ xs) us → ⊥ = λ us a b.
-          let same : x ∷ a.0 ≡ b.0 ∷ b.2.0 = sym a.1 ∙ b.2.1 in
-          let heads : x ≡ b.0 = cc in
-          let below = h.0 b.0 b.1 in
-          omega (arith, heads, below) in
+      let same : x ∷ a.0 ≡ b.0 ∷ b.2.0 = sym a.1 ∙ b.2.1 in
+      let heads : x ≡ b.0 = cc in
+      let below = h.0 b.0 b.1 in
+      omega (arith, heads, below) in
       let total : n + length (y ∷ xs) * n ≡ length (x ∷ y ∷ xs) * n = more_times n (length (y ∷ xs)) in
       subst (AreCounted (BehindOne (x ∷ y ∷ xs)) (x ∷ f x)) total
       (counted_alike (λ us. Behind x (B x) us ⊎ BehindOne (y ∷ xs) us) (BehindOne (x ∷ y ∷ xs)) (x ∷ f x) (n + length (y ∷ xs) * n)
@@ -116,7 +116,7 @@ module _ (B : ℕ → List ℕ → Type 0) (f : ℕ → List ℕ) (n : ℕ) wher
 pub arranged : (n : ℕ) (us : List ℕ) → length us ≡ n → AreRising us → AreCounted (IsArrangement us) us (factorial n)
 arranged zero [] e h = record {
   sequences = [] ∷ [];
-  hold = λ vs c. elim (contains_cases [] [] vs c) [ | inl is ↦ subst (IsArrangement []) is refl | inr none ↦ absurd (contains_none vs none) ];
+  hold = λ vs c. elim (contains_cases [] [] vs c) [ inl is ↦ subst (IsArrangement []) is refl | inr none ↦ absurd (contains_none vs none) ];
   all = λ vs a. none_else vs a;
   once = ((λ vs c. absurd (contains_none vs c)), tt);
   count_is = refl;
@@ -139,6 +139,6 @@ arranged (suc n) (u ∷ us) e h =
     (subst (λ k. AreCounted (IsArrangement (u ∷ us)) (u ∷ without u (u ∷ us)) (k * factorial n)) e
     (counted_alike (BehindOf (λ x. IsArrangement (without x (u ∷ us))) (u ∷ us)) (IsArrangement (u ∷ us)) (u ∷ without u (u ∷ us)) (length (u ∷ us) * factorial n)
     (λ vs b. subst (IsArrangement (u ∷ us)) (sym b.2.1) (b.1, b.2.2)) (λ vs a. begun vs a) counted)) where
-  begun : (vs : List ℕ) → IsArrangement (u ∷ us) vs → BehindOf (λ x. IsArrangement (without x (u ∷ us))) (u ∷ us) vs
-  begun [] a = absurd (let short = ap length a in omega (arith, short))
-  begun (v ∷ vs) a = (v, a.0, (vs, refl, a.1))
+      begun : (vs : List ℕ) → IsArrangement (u ∷ us) vs → BehindOf (λ x. IsArrangement (without x (u ∷ us))) (u ∷ us) vs
+      begun [] a = absurd (let short = ap length a in omega (arith, short))
+      begun (v ∷ vs) a = (v, a.0, (vs, refl, a.1))

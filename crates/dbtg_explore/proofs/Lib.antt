@@ -29,6 +29,7 @@ pub mod Replying
 pub mod Rounding
 pub mod ForEver
 pub mod GoingRound
+pub mod GoingFar
 pub mod Tallying
 pub mod Arranged
 pub mod Alone

@@ -1,7 +1,7 @@
 -- What is noted of one more order.
 -- m is a meeting, o and p are orders, seen are the earlier orders, f is a failure.
-use Rattle.std.proofs.Common.{◌≡◌, refl, sym, ◌∙◌, ap, subst, ℕ, ◌+◌, ◌-◌, ◌<◌, ◌≤◌, true, false, not, List, [], ◌∷◌, ◌++◌, length, length-append, map, get_or, Option, None, Some, arith, inl, inr, ◌⊎◌, ⊎_elim, true≢false}
-use Rattle.std.specs.Prelude.{All, Contains, option_and_then}
+use Rattle.std.proofs.Common.{◌≡◌, refl, sym, ◌∙◌, ap, subst, ℕ, zero, suc, ◌+◌, ◌-◌, ◌<◌, ◌≤◌, true, false, not, List, [], ◌∷◌, ◌++◌, length, length-append, map, get_or, Option, None, Some, arith, inl, inr, ◌⊎◌, ⊎_elim, true≢false}
+use Rattle.std.specs.Prelude.{All, Contains, option_and_then, slice_get}
 use Rattle.std.specs.List.{list_any, range_with_len}
 use Rattle.std.proofs.lemmas.Bool.{cases_Bool, cases_lt}
 use Rattle.std.proofs.lemmas.List.{get_or_append_left, map_push}
@@ -13,8 +13,9 @@ use Rattle.dbtg_program.specs.declared.program.Program.{Program}
 use Rattle.dbtg_step.specs.Machine.SequentialDatabase.{unit_at}
 use Rattle.dbtg_unit.specs.declared.unit.Entry.{Entry}
 use Rattle.dbtg_explore.specs.declared.ends.Ends as given
+use Rattle.dbtg_explore.specs.declared.ends.ResultAt.{ResultAt}
 use Rattle.dbtg_explore.specs.declared.explored.Failure.{Failure}
-use Rattle.dbtg_explore.specs.Inside.Ends.{AreEndsOf, AreFailuresOf, AreResultsOf, FailsAt, FailsIn, FailsSo, Notes, NotesResult}
+use Rattle.dbtg_explore.specs.Inside.Ends.{AreEndsOf, AreFailuresOf, AreNumberedEnds, AreResultsOf, FailsAt, FailsIn, FailsSo, IsNumberedAt, Notes, NotesResult}
 use Rattle.dbtg_explore.specs.Inside.Failures.{Take}
 use Rattle.dbtg_explore.specs.Inside.Found.{FoundOrders, FoundPlaces, IsEntered, IsEnteredAt, orders_at, orders_by_text}
 use Rattle.dbtg_explore.specs.Inside.Search.{AreFirsts}
@@ -151,6 +152,57 @@ module _ (m : Meeting) where
   still_there count text place old new low (inr put) there =
       subst (All (λ p. p < count)) (sym put.places_are) (All-append (λ p. p < count) old.places (place ∷ []) there (All-cons (λ p. p < count) place [] low (All-nil (λ p. p < count))))
 
+  -- NUMBERS OF RESULTS
+
+  get_first : {X : Type 0} (xs ys : List X) (n : ℕ) (x : X) → slice_get xs n ≡ Some x → slice_get (xs ++ ys) n ≡ Some x
+  get_first [] ys n x at = absurd (cc (at))
+  get_first (y ∷ xs) ys zero x at = at
+  get_first (y ∷ xs) ys (suc n) x at = get_first xs ys n x at
+
+  -- texts that are there stay where they stand
+  texts_stay : (old new : FoundPlaces) (text : List ℕ) (place n : ℕ) (t : List ℕ) → IsEnteredAt old text place new → slice_get old.texts n ≡ Some t → slice_get new.texts n ≡ Some t
+  texts_stay old new text place n t (inl known) at = ap (λ (f : FoundPlaces). slice_get f.texts n) known.1 ∙ at
+  texts_stay old new text place n t (inr put) at = ap (λ ts. slice_get ts n) put.texts_are ∙ get_first old.texts (text ∷ []) n t at
+
+  -- what is noted of the numbers after one more order
+  abbrev pub NotesNumber : List (List ℕ) → List ℕ → given.Ends → given.Ends → Type 0
+  NotesNumber os o old new = (seen : List (List ℕ)) → AreNumberedEnds m os seen old.results.texts old.numbers.items → AreNumberedEnds m os (seen ++ o ∷ []) new.results.texts new.numbers.items
+
+  pub no_number : (os : List (List ℕ)) (o : List ℕ) (old new : given.Ends) → (IsEnd m o → ⊥) → new.results ≡ old.results → new.numbers.items ≡ old.numbers.items → NotesNumber os o old new
+  no_number os o old new no_end results numbers seen h =
+      subst (λ (r : FoundPlaces). AreNumberedEnds m os (seen ++ o ∷ []) r.texts new.numbers.items) (sym results)
+      (subst (AreNumberedEnds m os (seen ++ o ∷ []) old.results.texts) (sym numbers)
+      (record {
+        right = h.right;
+        all = λ p c end. ⊎_elim (λ d. h.all p d end) (λ e. absurd (no_end (subst (IsEnd m) (sym e) end))) (Contains-push_cases seen o p c);
+      }))
+
+  pub one_number : (os : List (List ℕ)) (place : ℕ) (old new : given.Ends) → place < length os → IsEnteredAt old.results (result_text m (get_or os place [])) place new.results
+      → IsNumberedAt old.numbers.items place new.results.texts (result_text m (get_or os place [])) new.numbers.items → NotesNumber os (get_or os place []) old new
+  one_number os place old new low entered numbered seen h = record {
+    right = λ e c. ⊎_elim
+        (λ d. let r = h.right e d in (r.0, texts_stay old.results new.results (result_text m (get_or os place [])) place e.number (result_text m (get_or os e.place [])) entered r.1))
+        (λ is. subst (λ (r : ResultAt). (r.place < length os) × (slice_get new.results.texts r.number ≡ Some (result_text m (get_or os r.place [])))) is (low, numbered.there))
+        (Contains-push_cases old.numbers.items at e (subst (λ (es : List ResultAt). Contains es e) numbered.new_is c));
+    all = λ p c end. ⊎_elim
+        (λ d. let r = h.all p d end in (r.0, subst (λ (es : List ResultAt). Contains es r.0) (sym numbered.new_is) (Contains-append_left old.numbers.items (at ∷ []) r.0 r.1), r.2))
+        (λ e. (at, subst (λ (es : List ResultAt). Contains es at) (sym numbered.new_is) (Contains-push old.numbers.items at), e))
+        (Contains-push_cases seen (get_or os place []) p c);
+  } where
+    abbrev at : ResultAt
+    at = record { place = place; number = numbered.number }
+
+  numbers_later : (os more seen texts : List (List ℕ)) (ends : List ResultAt) → AreNumberedEnds m os seen texts ends → AreNumberedEnds m (os ++ more) seen texts ends
+  numbers_later os more seen texts ends h =
+      let long = length-append os more in
+      record {
+        right = λ e c.
+            let r = h.right e c in
+            let low = r.0 in
+            (omega (arith, low, long), r.1 ∙ ap (λ o. Some (result_text m o)) (sym (get_or_append_left os more [] e.place r.0)));
+        all = λ o c end. let r = h.all o c end in (r.0, r.1, get_or_append_left os more [] r.0.place (h.right r.0 r.1).0 ∙ r.2);
+      }
+
   orders_stay : (os more : List (List ℕ)) (places : List ℕ) → All (λ p. p < length os) places → orders_at (os ++ more) places ≡ orders_at os places
   orders_stay os more [] there = refl
   orders_stay os more (p ∷ places) there =
@@ -163,6 +215,7 @@ module _ (m : Meeting) where
       record {
         there = All-weaker (λ p. p < length os) (λ p. p < length (os ++ more)) (λ p low. omega (arith, low, long)) e.results.places h.there;
         results = subst (λ orders. AreResultsOf m seen (record { keys = e.results.texts; orders = orders })) (sym (orders_stay os more e.results.places h.there)) h.results;
+        numbers = numbers_later os more seen e.results.texts e.numbers.items h.numbers;
         failures = h.failures;
       }
 
@@ -197,9 +250,10 @@ module _ (m : Meeting) where
 
   -- results and failures
   pub notes_both : (os : List (List ℕ)) (o : List ℕ) (history : List Entry) (old new : given.Ends) → history ≡ history_of m o → Take (FailsIn (state_after m history)) old.failures.items new.failures.items → (All (λ p. p < length os) old.results.places → All (λ p. p < length os) new.results.places)
-      → NotesResult m o (orders_by_text os old.results) (orders_by_text os new.results) → Notes m os o old new
-  notes_both os o history old new is takes there notes seen behind h = record {
+      → NotesResult m o (orders_by_text os old.results) (orders_by_text os new.results) → NotesNumber os o old new → Notes m os o old new
+  notes_both os o history old new is takes there notes numbers seen behind h = record {
     there = there h.there;
     results = notes seen behind h.results;
+    numbers = numbers seen h.numbers;
     failures = failures_more seen o history old.failures.items new.failures.items is takes h.failures;
   }

@@ -1,7 +1,7 @@
 -- Tallies: what is counted when they are put together.
 -- s, t and r are serials, us and vs sequences, u is a unit, k what a sequence comes to.
-use Rattle.std.proofs.Common.{◌≡◌, ℕ, zero, suc, ◌+◌, ◌<◌, List, [], ◌∷◌, ◌++◌, append-nil, length, length-append, map, Option, refl, sym, ◌∙◌, ap, subst, arith, inl, inr, ◌⊎◌, ⊎_elim}
-use Rattle.std.specs.Prelude.{Contains}
+use Rattle.std.proofs.Common.{◌≡◌, ℕ, zero, suc, ◌+◌, ◌<◌, List, [], ◌∷◌, ◌++◌, append-nil, length, length-append, get_or, map, Option, refl, sym, ◌∙◌, ap, subst, arith, inl, inr, ◌⊎◌, ⊎_elim}
+use Rattle.std.specs.Prelude.{Contains, slice_set}
 use Rattle.std.proofs.lemmas.List.{length-map, map-append}
 use Rattle.std.proofs.lemmas.List.Elements.{Contains-append_left, Contains-append_right, Contains-append_cases}
 use Rattle.dbtg_explore.specs.declared.serial.Serial.{Serial}
@@ -112,8 +112,8 @@ pub results_apart : (P : Option ℕ → List ℕ → Type 0) (ss : List Serial) 
 results_apart P [] each h = tt
 results_apart P (s ∷ ss) each h = (
   (λ t c e.
-  one_first (P t.result) s.sequence t.sequence s.count t.count (subst (λ k. AreCounted (P k) s.sequence s.count) e (each s (contains_here s ss))) (each t (contains_behind s ss t c))
-  (h.0 t.sequence (in_map (λ (r : Serial). r.sequence) ss t c))),
+      one_first (P t.result) s.sequence t.sequence s.count t.count (subst (λ k. AreCounted (P k) s.sequence s.count) e (each s (contains_here s ss))) (each t (contains_behind s ss t c))
+      (h.0 t.sequence (in_map (λ (r : Serial). r.sequence) ss t c))),
   results_apart P ss (λ t c. each t (contains_behind s ss t c)) h.1,
 )
 
@@ -206,7 +206,7 @@ module _ (P : Option ℕ → List ℕ → Type 0) (old new : List Serial) (u : �
         | inr w ↦ (led u s, subst (λ (xs : List Serial). Contains xs (led u s)) (sym is.new_is) (the_part old (led u s) []), sym w.0)
       ];
       in_order = subst (ArePairwise IsLower) (sym (ap sequences_of is.new_is ∙ map-append (λ (r : Serial). r.sequence) old (led u s ∷ [])))
-      (pairwise_push IsLower (sequences_of old) (u ∷ s.sequence) tallied.in_order (λ us c. let r = of_map (λ (t : Serial). t.sequence) old us c in subst (λ vs. IsLower vs (u ∷ s.sequence)) r.2 (above r.0 r.1)));
+          (pairwise_push IsLower (sequences_of old) (u ∷ s.sequence) tallied.in_order (λ us c. let r = of_map (λ (t : Serial). t.sequence) old us c in subst (λ vs. IsLower vs (u ∷ s.sequence)) r.2 (above r.0 r.1)));
     } where
       there : AreCounted (With s.result) (u ∷ s.sequence) s.count
       there = counted_alike (Behind u Q) (With s.result) (u ∷ s.sequence) s.count (λ us b. inr (refl, b)) (λ us q. ⊎_elim (λ p. absurd (let a = tallied.all s.result us p in is.other a.0 a.1 a.2)) (λ w. w.1) q) behind
@@ -265,7 +265,30 @@ module _ (S : Option ℕ → List ℕ → Type 0) (u : ℕ) where
       (λ k us q. ⊎_elim (λ p. inl p) (λ b. inr (let a = sub.all k b.0 b.2 in (a.0, a.1, a.2, b))) q)
       (all_joined ss P old new tallied sub.each sub.in_order (λ s c us p q. apart s.result us p) (λ t s c d. above t s.sequence c) is)
 
-  -- one more at the end
-  pub one_more_joined : (old mid new : List Serial) (ss : List Serial) (s : Serial) → AreJoined old u ss mid → IsJoined mid u s new → AreJoined old u (ss ++ s ∷ []) new
-  one_more_joined old mid new [] s is one = (new, subst (λ (xs : List Serial). IsJoined xs u s new) (sym is) one, refl)
-  one_more_joined old mid new (t ∷ ss) s is one = (is.0, is.1, one_more_joined is.0 mid new ss s is.2 one)
+-- one more at the end
+pub one_more_joined : (u : ℕ) (old mid new : List Serial) (ss : List Serial) (s : Serial) → AreJoined old u ss mid → IsJoined mid u s new → AreJoined old u (ss ++ s ∷ []) new
+one_more_joined u old mid new [] s is one = (new, subst (λ (xs : List Serial). IsJoined xs u s new) (sym is) one, refl)
+one_more_joined u old mid new (t ∷ ss) s is one = (is.0, is.1, one_more_joined u is.0 mid new ss s is.2 one)
+
+-- it counts for the one at a place
+pub counted_at : (all : List Serial) (i : ℕ) (s t : Serial) (count : ℕ) → i < length all → t ≡ get_or all i t → t.result ≡ s.result → count ≡ t.count + s.count
+    → IsCountedIn all s (slice_set all i (record { sequence = t.sequence; count = count; result = t.result }))
+counted_at [] i s t count low is same count_is = absurd (omega arith)
+counted_at (x ∷ all) zero s t count low is same count_is = record {
+  front = [];
+  one = t;
+  back = all;
+  old_is = ap (λ (r : Serial). r ∷ all) (sym is);
+  same = same;
+  new_is = λ j. record { sequence = t.sequence; count = count_is j; result = t.result } ∷ all;
+}
+counted_at (x ∷ all) (suc i) s t count low is same count_is =
+    let r = counted_at all i s t count (omega arith) is same count_is in
+    record {
+      front = x ∷ r.front;
+      one = r.one;
+      back = r.back;
+      old_is = ap (λ (l : List Serial). x ∷ l) r.old_is;
+      same = r.same;
+      new_is = ap (λ (l : List Serial). x ∷ l) r.new_is;
+    }

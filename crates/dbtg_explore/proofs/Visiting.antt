@@ -29,6 +29,7 @@ use Rattle.dbtg_explore.specs.Orders.{IsBefore, IsEnd, IsNoLater, IsOrder, Meeti
 use Rattle.dbtg_explore.specs.Pairwise.{ArePairwise}
 use Rattle.dbtg_explore.specs.Replies.{AreReplies}
 use Rattle.dbtg_explore.specs.Results.{AreFailures, AreResults, FailsBefore, is_failure}
+use Rattle.dbtg_explore.specs.Serial.{AreSerials}
 use Rattle.dbtg_explore.specs.States.{CountsStates, Essence, MeetingState, essence, essence_of, state_of}
 use Rattle.dbtg_explore.proofs.Alike.{can_go_on_alike, comes_at}
 use Rattle.dbtg_explore.proofs.Before.{no_later_trans}
@@ -203,11 +204,12 @@ module _ (m : Meeting) where
       }
 
     -- so everything is explored, except for ways round
-    pub is_explored : (all : given.Explored) → all.states ≡ length s.found.orders → all.results ≡ orders_at s.found.orders e.results.places → AreFirst m s.found.orders e.failures.items all.failures → IsFirstEndless m all.endless → AreReplies m all.replies → IsExplored m all
-    is_explored all states_are results_are are_first endless replies = record {
+    pub is_explored : (all : given.Explored) → all.states ≡ length s.found.orders → all.results ≡ orders_at s.found.orders e.results.places → AreFirst m s.found.orders e.failures.items all.failures → IsFirstEndless m all.endless → AreReplies m all.replies → AreSerials m all.results all.serials → IsExplored m all
+    is_explored all states_are results_are are_first endless replies serials = record {
       states = subst (CountsStates m) (sym states_are) counts;
       results = subst (AreResults m) (sym results_are) are_results;
       failures = are_failures all.failures are_first;
       endless = endless;
       replies = replies;
+      serials = serials;
     }

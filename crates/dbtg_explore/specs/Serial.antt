@@ -85,7 +85,6 @@ pub record AreTallied (P : Option ℕ → List ℕ → Type 0) (serials : List S
   pub all : (k : Option ℕ) (us : List ℕ) → P k us → (s : Serial) × Contains serials s × (s.result ≡ k)
   pub in_order : ArePairwise IsLower (map (λ s. s.sequence) serials)
 
--- every sequence comes to a result or to no end, and is tallied there
-pub record AreSerials (m : Meeting) (results : List (List ℕ)) (serials : List Serial) : Type 0 where
-  pub tallied : AreTallied (λ k us. IsSequence m us × ComeTo m results [] k us) serials
-  pub every : (us : List ℕ) → IsSequence m us → (s : Serial) × Contains serials s × ComeTo m results [] s.result us
+-- whatever the sequences of the units that meet come to
+abbrev pub AreSerials : Meeting → List (List ℕ) → List Serial → Type 0
+AreSerials m results serials = AreTallied (λ k us. IsSequence m us × ComeTo m results [] k us) serials

@@ -1,6 +1,6 @@
 //! What is noted of the states that a search finds: the results, told apart by their texts, and the failures.
 
-ghost use Rattle.dbtg_explore.specs.Inside.Ends.{AreEndsOf, FailsIn, FailsSo};
+ghost use Rattle.dbtg_explore.specs.Inside.Ends.{AreEndsOf, FailsIn, FailsSo, IsNumberedAt};
 ghost use Rattle.dbtg_explore.specs.Inside.Failures.{Take};
 ghost use Rattle.dbtg_explore.specs.Inside.Found.{IsEnteredAt};
 ghost use Rattle.dbtg_explore.specs.Inside.Parts.{IsNumberOf};
@@ -94,6 +94,7 @@ impl Ends {
         requires state { (history : List Entry) × IsNumberOf meeting.now numbers.now history state }
         ensures failures { OnOk result ((history : List Entry) → IsNumberOf meeting.now numbers.now history state → Take (FailsIn (state_after meeting.now history)) self.old.failures.items self.new.failures.items) }
         ensures results { OnOk result (self.new.results ≡ self.old.results) }
+        ensures numbers { OnOk result (self.new.numbers.items ≡ self.old.numbers.items) }
     {
         note_each_failure(meeting, &mut self.failures, numbers, state)
     }
@@ -110,6 +111,7 @@ impl Ends {
         requires here { IsPlace meeting.now here.now }
         requires paired { length self.old.results.places ≡ length self.old.results.texts }
         ensures result { OnOk result (IsEnteredAt self.old.results (state_text meeting.now (without_versions (state_after meeting.now here.now.database.making.history))) place self.new.results) }
+        ensures number { OnOk result (IsNumberedAt self.old.numbers.items place self.new.results.texts (state_text meeting.now (without_versions (state_after meeting.now here.now.database.making.history))) self.new.numbers.items) }
         ensures failures { OnOk result (self.new.failures.items ≡ self.old.failures.items) }
     {
         let text = meeting.text(alloc, here)?;

@@ -1,12 +1,10 @@
 //! Serial orders: each unit has all its turns alone, one unit after another.
 
-ghost use Rattle.dbtg_explore.specs.Inside.Alone.{EndsAt};
-ghost use Rattle.dbtg_explore.specs.Inside.Serials.{AreKnownTallies, ComeFrom, IsFollowed};
+ghost use Rattle.dbtg_explore.specs.Inside.Serials.{AreKnownTallies, HasEnded, IsFollowed, IsWhole, StandsBefore};
 ghost use Rattle.dbtg_explore.specs.Inside.Tallies.{factorial};
 ghost use Rattle.dbtg_explore.specs.Orders.{IsEnd, IsMeeting, Meeting as MeetingOfPrograms};
-ghost use Rattle.dbtg_explore.specs.Results.{result_text};
-ghost use Rattle.dbtg_explore.specs.Serial.{AreCounted, AreSerials, AreTallied, HasResult, IsArrangement, free_after, last_after, without};
-ghost use Rattle.std.specs.Prelude.{◌≡◌, ◌≤◌, ◌<◌, ◌++◌, ◌∷◌, ℕ, List, [], None, Some, IfOk, IfSome, OnOk, length, option_to_list, slice_get, slice_index_or};
+ghost use Rattle.dbtg_explore.specs.Serial.{AreSerials, HasResult, free_after, last_after, without};
+ghost use Rattle.std.specs.Prelude.{◌≡◌, ◌≤◌, ◌<◌, ◌++◌, ℕ, List, [], None, Some, IfOk, IfSome, OnOk, length, option_to_list, slice_get, slice_index_or};
 
 use crate::alone::end_alone;
 use crate::ends::ResultAt;
@@ -25,7 +23,7 @@ pub struct Serial {
     pub result: Option<u64>,
 }
 
-/// What serial orders are followed by: turns from state to state, how many states there are, the results at the ends, and the unit that is last.
+/// What serial orders follow: turns from state to state, how many states there are, the results at the ends, and the unit that is last.
 #[derive(Clone, Copy)]
 pub struct Following<'e> {
     pub edges: &'e [Edge],
@@ -68,8 +66,8 @@ fn arrangements(units: usize) -> u64
 impl<'e> Following<'e> {
     // The result at the end of all programs, counted from 1.
     fn result_at(self, state: usize) -> Option<u64>
-        requires { (m : MeetingOfPrograms) × (os : List (List ℕ)) × (results : List (List ℕ)) × IsFollowed m os results self × (state < length os) × IsEnd m (slice_index_or os state []) }
-        ensures { (m : MeetingOfPrograms) (os results : List (List ℕ)) → IsFollowed m os results self → state < length os → IsEnd m (slice_index_or os state []) → (k : ℕ) × (result ≡ Some k) × HasResult m results k (slice_index_or os state []) }
+        requires { (m : MeetingOfPrograms) × (os : List (List ℕ)) × (results : List (List ℕ)) × HasEnded m os results self state }
+        ensures { (m : MeetingOfPrograms) (os results : List (List ℕ)) → HasEnded m os results self state → (k : ℕ) × (result ≡ Some k) × HasResult m results k (slice_index_or os state []) }
     {
         for end in self.results {
             if end.place == state {
@@ -83,14 +81,19 @@ impl<'e> Following<'e> {
     fn push_last(self, units: &mut Vec<u8>) -> Result<(), AllocError>
         ensures { OnOk result (units.new.items ≡ units.old.items ++ option_to_list self.last) }
     {
-        if let Some(unit) = self.last {
-            units.push(unit)?;
+        match self.last {
+            Some(unit) => {
+                units.push(unit)?;
+                Ok(())
+            }
+            None => Ok(()),
         }
-        Ok(())
     }
 
-    // Where the unit that is last comes to its end.
-    fn end_of_last(self, state: usize) -> Option<usize> {
+    // Where all programs have ended, if the unit that is last comes to its end behind the others.
+    fn end_of_all(self, state: usize) -> Option<usize>
+        requires { (m : MeetingOfPrograms) × (os : List (List ℕ)) × (results : List (List ℕ)) × IsWhole m os results self state }
+    {
         match self.last {
             Some(unit) => end_alone(self.edges, self.states, state, unit),
             None => Some(state),
@@ -101,7 +104,7 @@ impl<'e> Following<'e> {
     fn last_alone(self, alloc: Global, state: usize) -> Result<Serial, AllocError> {
         let mut sequence = Vec::new(alloc);
         self.push_last(&mut sequence)?;
-        let result = match self.end_of_last(state) {
+        let result = match self.end_of_all(state) {
             Some(end) => self.result_at(end),
             None => None,
         };
@@ -134,8 +137,8 @@ impl<'e> Following<'e> {
         state: usize,
         left: &[u8],
     ) -> Result<usize, AllocError>
-        requires { (m : MeetingOfPrograms) × (os : List (List ℕ)) × (results : List (List ℕ)) × IsMeeting m × IsFollowed m os results self × AreKnownTallies m os results known.old × (state < length os) × (left.now ≡ free_after m (slice_index_or os state [])) × (self.last ≡ last_after m (slice_index_or os state [])) }
-        ensures known { OnOk result ((m : MeetingOfPrograms) (os results : List (List ℕ)) → IsFollowed m os results self → AreKnownTallies m os results known.old → state < length os → left.now ≡ free_after m (slice_index_or os state []) → self.last ≡ last_after m (slice_index_or os state []) → AreKnownTallies m os results known.new) }
+        requires { (m : MeetingOfPrograms) × (os : List (List ℕ)) × (results : List (List ℕ)) × StandsBefore m os results self known.old state left.now }
+        ensures known { OnOk result ((m : MeetingOfPrograms) (os results : List (List ℕ)) → StandsBefore m os results self known.old state left.now → AreKnownTallies m os results known.new) }
         ensures place { IfOk result (λ place. slice_get known.new.states place ≡ Some state) }
     {
         if let Some(place) = known.place_of(state) {
@@ -148,13 +151,12 @@ impl<'e> Following<'e> {
         }
         for unit in left {
             let rest = without(alloc, left, *unit)?;
-            match end_alone(self.edges, self.states, state, *unit) {
-                Some(end) => {
-                    let place = self.tally(alloc, known, end, rest.as_slice())?;
-                    join_each(alloc, &mut all, *unit, known.at(place))?;
-                }
-                None => join(alloc, &mut all, *unit, &self.endless(rest)?)?,
-            }
+            let Some(end) = end_alone(self.edges, self.states, state, *unit) else {
+                join(alloc, &mut all, *unit, &self.endless(rest)?)?;
+                continue;
+            };
+            let place = self.tally(alloc, known, end, rest.as_slice())?;
+            join_each(alloc, &mut all, *unit, known.at(place))?;
         }
         known.enter(state, all)
     }

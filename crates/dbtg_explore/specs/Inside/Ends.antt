@@ -42,6 +42,12 @@ pub record AreNumberedEnds (m : Meeting) (os seen texts : List (List ℕ)) (ends
   pub right : (e : ResultAt) → Contains ends e → (e.place < length os) × (slice_get texts e.number ≡ Some (result_text m (slice_index_or os e.place [])))
   pub all : (o : List ℕ) → Contains seen o → IsEnd m o → (e : ResultAt) × Contains ends e × (slice_index_or os e.place [] ≡ o)
 
+-- the place with the number of this text is appended
+pub record IsNumberedAt (old : List ResultAt) (place : ℕ) (texts : List (List ℕ)) (text : List ℕ) (new : List ResultAt) : Type 0 where
+  pub number : ℕ
+  pub there : slice_get texts number ≡ Some text
+  pub new_is : new ≡ old ++ record { place = place; number = number } ∷ []
+
 -- all that is noted after these orders; of each result there is the place of its order
 pub record AreEndsOf (m : Meeting) (os seen : List (List ℕ)) (ends : given.Ends) : Type 0 where
   pub there : All (λ place. place < length os) ends.results.places

@@ -49,19 +49,38 @@ module _ (es : List Edge) (first state unit : ℕ) (sorted : IsNonDecreasingBy (
       let apart : (get_or es (first + i) d).from ≡ state → ⊥ = λ e. other (at ∙ e) in
       omega (arith, from_le, same_from, not_before, apart)
 
+  found_there : (i : ℕ) (d : Edge) → first + i < length es → (get_or (from_place es first) i d).from ≡ state → (get_or (from_place es first) i d).unit ≡ unit → Contains es (turn_of state unit (get_or (from_place es first) i d).to)
+  found_there i d low from_is unit_is = (
+    first + i,
+    low,
+    same_default es (first + i) (turn_of state unit (get_or (from_place es first) i d).to) d low ∙ sym (at_place es first i d low)
+        ∙ (λ j. record { from = from_is j; unit = unit_is j; to = (get_or (from_place es first) i d).to }),
+  )
+
+abbrev none : Edge
+none = record { from = 0; unit = 0; to = 0 }
+
 pub returns-then-edge-state-clause-none : goal.returns-then-edge-state-clause-none
 returns-then-edge-state-clause-none c = λ _.
     let es = c.args.edges.now in
     let first = c.partition_point-first.result in
+    let i = c.loop-edge.edge-index in
     let point = IsPartitionPoint-from_clause (λ (e : Edge). ltb e.from c.args.state) es first c.partition_point-first.ensures.partitioned (IsPartitionedBy-ltb (λ (e : Edge). e.from) es c.args.state c.requires.sorted) (λ a r q k. search rules) in
-    ?
+    none_there es first c.args.state c.args.unit c.requires.sorted point i c.loop-edge.invariant
+    (later_behind es first c.args.state c.args.unit c.requires.sorted point i none (omega (arith, c.loop-edge-test.true, c.partition_point-first.ensures.bound)) c.if-edge-state.true)
 
 pub returns-then-edge-unit-clause-some : goal.returns-then-edge-unit-clause-some
-returns-then-edge-unit-clause-some c = ?
+returns-then-edge-unit-clause-some c =
+    let es = c.args.edges.now in
+    let first = c.partition_point-first.result in
+    let i = c.loop-edge.edge-index in
+    let point = IsPartitionPoint-from_clause (λ (e : Edge). ltb e.from c.args.state) es first c.partition_point-first.ensures.partitioned (IsPartitionedBy-ltb (λ (e : Edge). e.from) es c.args.state c.requires.sorted) (λ a r q k. search rules) in
+    found_there es first c.args.state c.args.unit c.requires.sorted point i none (omega (arith, c.loop-edge-test.true, c.partition_point-first.ensures.bound)) c.if-edge-state.false c.if-edge-unit.true
 
 pub returns-clause-none : goal.returns-clause-none
 returns-clause-none c = λ _.
     let es = c.args.edges.now in
     let first = c.partition_point-first.result in
     let point = IsPartitionPoint-from_clause (λ (e : Edge). ltb e.from c.args.state) es first c.partition_point-first.ensures.partitioned (IsPartitionedBy-ltb (λ (e : Edge). e.from) es c.args.state c.requires.sorted) (λ a r q k. search rules) in
-    none_there es first c.args.state c.args.unit c.requires.sorted point c.loop-edge.edge-index c.loop-edge.invariant (λ n d low high. absurd (?))
+    none_there es first c.args.state c.args.unit c.requires.sorted point c.loop-edge.edge-index c.loop-edge.invariant
+    (λ n d le high. absurd (omega (arith, le, high, c.loop-edge-test.false, c.partition_point-first.ensures.bound)))

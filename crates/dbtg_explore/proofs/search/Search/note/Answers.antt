@@ -5,13 +5,14 @@ use Rattle.std.proofs.lemmas.List.Elements.{Contains-get_or}
 use Rattle.std.proofs.lemmas.Result.{on_ok_weaker}
 use Rattle.dbtg_unit.specs.declared.unit.Entry.{Entry}
 use Rattle.dbtg_going.proofs.Turning.{if_both}
-use Rattle.dbtg_explore.specs.Inside.Ends.{FailsIn, NotesResult}
+use Rattle.dbtg_explore.specs.declared.ends.ResultAt.{ResultAt}
+use Rattle.dbtg_explore.specs.Inside.Ends.{FailsIn, IsNumberedAt, NotesResult}
 use Rattle.dbtg_explore.specs.Inside.Failures.{Take}
 use Rattle.dbtg_explore.specs.Inside.Found.{FoundPlaces, IsEnteredAt, orders_at, orders_by_text}
 use Rattle.dbtg_explore.specs.Orders.{IsEnd, history_of}
 use Rattle.dbtg_explore.specs.Results.{result_text, state_text}
 use Rattle.dbtg_explore.specs.States.{state_after, without_versions}
-use Rattle.dbtg_explore.proofs.Noting.{at_end, at_places, ends_there, goes_on_there, not_at_end, notes_both, still_there}
+use Rattle.dbtg_explore.proofs.Noting.{at_end, at_places, ends_there, goes_on_there, no_number, not_at_end, notes_both, one_number, still_there}
 use Rattle.dbtg_explore.proofs.Numbered.{numbered_low, state_at}
 use Rattle.dbtg_explore.proofs.Said.{is_over_is}
 use Rattle.dbtg_explore.proofs.search.Search.note.Goals as goal
@@ -40,6 +41,7 @@ returns-then-not-is_at_end-clause-notes c =
     (subst (λ (r : FoundPlaces). All (λ p. p < length os) c.args.ends.now.results.places → All (λ p. p < length os) r.places) (sym noted.results) (λ there. there))
     (subst (λ (r : FoundPlaces). NotesResult m o (orders_by_text os c.args.ends.now.results) (orders_by_text os r)) (sym noted.results)
     (goes_on_there m o (orders_by_text os c.args.ends.now.results) (λ end. not_at_end m (history_of m o) is_over (λ u. end.at_end u))))
+    (no_number m os o c.args.ends.now c.note_failures.new.self (λ end. not_at_end m (history_of m o) is_over (λ u. end.at_end u)) noted.results noted.numbers)
 
 pub go_to-requires-clause-order : goal.go_to-requires-clause-order
 go_to-requires-clause-order c =
@@ -70,15 +72,20 @@ returns-clause-notes c =
     let here = c.in_ok-go_to.ensures.stands in
     let end : IsEnd m o = record { is_order = here.is_order; at_end = at_end m (history_of m o) is_over } in
     let before = c.note_failures.new.self.results in
+    let both = if_both c.note_result.result (λ _ result number. (result, number)) c.note_result.ensures.result c.note_result.ensures.number in
     if_both c.note_result.result
-    (λ _ result failures.
-    let entered = subst (λ (es : List Entry). IsEnteredAt before (state_text m (without_versions (state_after m es))) c.args.place c.note_result.new.self.results) here.history_is result in
+    (λ _ noted_there failures.
+    let entered = subst (λ (es : List Entry). IsEnteredAt before (state_text m (without_versions (state_after m es))) c.args.place c.note_result.new.self.results) here.history_is noted_there.0 in
+    let numbered = subst (λ (es : List Entry). IsNumberedAt c.note_failures.new.self.numbers.items c.args.place c.note_result.new.self.results.texts (state_text m (without_versions (state_after m es))) c.note_result.new.self.numbers.items) here.history_is noted_there.1 in
     notes_both m os o (history_of m o) c.args.ends.now c.note_result.new.self refl
     (subst (Take (FailsIn (state_after m (history_of m o))) c.args.ends.now.failures.items) (sym failures) (noted.failures (history_of m o) at))
     (subst (λ (r : FoundPlaces). All (λ p. p < length os) r.places → All (λ p. p < length os) c.note_result.new.self.results.places) noted.results (still_there m (length os) (result_text m o) c.args.place before c.note_result.new.self.results c.requires.within entered))
     (subst (λ (r : FoundPlaces). NotesResult m o (orders_by_text os r) (orders_by_text os c.note_result.new.self.results)) noted.results
-    (ends_there m o o (result_text m o) (orders_by_text os before) (orders_by_text os c.note_result.new.self.results) end refl refl (at_places m os (result_text m o) c.args.place before c.note_result.new.self.results entered))))
-    c.note_result.ensures.result c.note_result.ensures.failures
+    (ends_there m o o (result_text m o) (orders_by_text os before) (orders_by_text os c.note_result.new.self.results) end refl refl (at_places m os (result_text m o) c.args.place before c.note_result.new.self.results entered)))
+    (one_number m os c.args.place c.args.ends.now c.note_result.new.self c.requires.within
+    (subst (λ (r : FoundPlaces). IsEnteredAt r (result_text m o) c.args.place c.note_result.new.self.results) noted.results entered)
+    (subst (λ (ns : List ResultAt). IsNumberedAt ns c.args.place c.note_result.new.self.results.texts (result_text m o) c.note_result.new.self.numbers.items) noted.numbers numbered)))
+    both c.note_result.ensures.failures
 
 pub returns-clause-stands : goal.returns-clause-stands
 returns-clause-stands c = on_ok_weaker c.note_result.result (λ _. c.in_ok-go_to.ensures.among) c.note_result.ensures.result
