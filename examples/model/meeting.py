@@ -1,4 +1,5 @@
 """All that programs can come to when they meet: docs/explore.md. Each state is made anew by the turns that lead to it."""
+import itertools
 import re
 
 import machine
@@ -58,6 +59,24 @@ class Meeting:
         """The units that can have their turn."""
         units = [unit for unit, program in enumerate(runs.programs, 1) if program.due(self.schema) is not None]
         return units[:-1] if self.then and len(units) > 1 and units[-1] == len(self.texts) else units
+
+    def sequences(self):
+        """The units that can proceed when they meet, in each sequence; that of `--then` is the last."""
+        units = [unit for unit, program in enumerate(self.after([]).programs, 1) if program.due(self.schema) is not None]
+        last = [unit for unit in units if self.then and unit == len(self.texts)]
+        return [[*others, *last] for others in itertools.permutations(units[: len(units) - len(last)])]
+
+    def serially(self, sequence):
+        """The runs after all turns of each unit, one unit after another; none where one of them alone comes back to a state."""
+        runs = self.after([])
+        for unit in sequence:
+            states = set()
+            while runs.programs[unit - 1].due(self.schema) is not None:
+                if state_of(runs) in states:
+                    return None
+                states.add(state_of(runs))
+                runs.turn(unit)
+        return runs
 
 
 def state_of(runs):
@@ -177,6 +196,20 @@ class Explored:
     def head(self):
         return f"states {len(self.orders)}, results {len(self.results)}\n"
 
+    def serial_text(self):
+        """What serial orders come to, each of them run by itself."""
+        if self.meeting.turns:
+            return "serial orders are not judged after given turns\n"
+        numbers, found = {told: number for number, told in enumerate(self.results, 1)}, {}
+        for sequence in self.meeting.sequences():
+            runs = self.meeting.serially(sequence)
+            end = "endless" if runs is None else f"result {numbers[told_apart(runs)]}"
+            found.setdefault(end, []).append(" ".join(["serial", *map(str, sequence)]))
+        if list(found) == ["endless"]:
+            return "no serial order ends\n"
+        lines = [first + (f" and {len(more)} more" if more else "") + f": {end}\n" for end, (first, *more) in found.items()]
+        return "".join(lines[:10] + [f"and {len(lines) - 10} more\n"] * (len(lines) > 10))
+
     def replies(self):
         """What each turn is answered that can be had in some state."""
         return {self.meeting.replies([*order, unit])[-1] for state, order in self.orders.items() for unit in self.units[state]}
@@ -230,4 +263,4 @@ def explore(folder, words, wanted):
         line = told[0] if holds else "endless\n"
     if "--statuses" in flags:
         return f"states {len(states.orders)}\n" + line + failures_text(states.failures, turns) + statuses_text(meeting, states.replies())
-    return states.head() + line + failures_text(states.failures, turns) + states.results_text()
+    return states.head() + states.serial_text() + line + failures_text(states.failures, turns) + states.results_text()

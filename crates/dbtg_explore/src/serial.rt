@@ -45,22 +45,18 @@ fn without(alloc: Global, units: &[u8], unit: u8) -> Result<Vec<u8>, AllocError>
     Ok(others)
 }
 
-// How many arrangements of as many units there are.
-fn arrangements(units: usize) -> u64
-    requires { units ≤ 8 }
-    ensures { result ≡ factorial units }
+// How many arrangements of as many units there are. A number that needs more than 64 bits is refused as memory is.
+fn arrangements(units: usize) -> Result<u64, AllocError>
+    ensures { IfOk result (λ count. count ≡ factorial units) }
 {
-    match units {
-        0 => 1,
-        1 => 1,
-        2 => 2,
-        3 => 6,
-        4 => 24,
-        5 => 120,
-        6 => 720,
-        7 => 5_040,
-        _ => 40_320,
+    let mut count: u64 = 1;
+    for before in 0..units {
+        match count.checked_mul(before as u64 + 1) {
+            Some(more) => count = more,
+            None => return Err(AllocError),
+        }
     }
+    Ok(count)
 }
 
 impl<'e> Following<'e> {
@@ -117,10 +113,9 @@ impl<'e> Following<'e> {
 
     // All arrangements of these units, behind a unit that runs for ever.
     fn endless(self, mut rest: Vec<u8>) -> Result<Serial, AllocError>
-        requires { length rest.items ≤ 8 }
         ensures { IfOk result (λ s. s ≡ record { sequence = rest.items ++ option_to_list self.last; count = factorial (length rest.items); result = None }) }
     {
-        let count = arrangements(rest.len());
+        let count = arrangements(rest.len())?;
         self.push_last(&mut rest)?;
         Ok(Serial {
             sequence: Row::of(rest),

@@ -74,7 +74,7 @@ pub(crate) fn join(
         })?;
         return Ok(());
     };
-    // Of eight units there are 40320 sequences.
+    // A number that needs more than 64 bits is refused as memory is.
     let Some(count) = all[place].count.checked_add(other.count) else {
         return Err(AllocError);
     };
