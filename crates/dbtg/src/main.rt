@@ -22,7 +22,7 @@ use dbtg_command::{
 use dbtg_explain::{explained, status_topic};
 use dbtg_exploring::{Said, explore_programs};
 use dbtg_replay::replay::{check_count, replay};
-use dbtg_replay::{moves_for_turns, refusals_of_first};
+use dbtg_replay::{idle_turns, moves_for_turns, refusals_of_first};
 use dbtg_running::{
     PrintedOnThreads, PrintedScripts, check_programs, run, run_programs_on_threads,
     run_scripts_on_threads,
@@ -87,7 +87,33 @@ fn told_of_first(
     }
 }
 
-// The text of a run of scripts; beside it, which statements of the script that is made first were refused.
+// Can all that a run of scripts reads be read again?
+fn reads_files(call: &Call) -> bool {
+    let order = match call.order {
+        Order::Serial => "",
+        Order::Moves(path) => path,
+        Order::Turns(path) => path,
+    };
+    order != "-" && call.schema != "-" && call.scripts.iter().all(|path| *path != "-")
+}
+
+// Which turns made nothing. Nothing is told if the files have changed since the run, which is no fault.
+fn told_of_turns(
+    alloc: Global,
+    files: &Files<HostRuntime>,
+    call: &Call,
+) -> Result<Vec<u8>, AllocError> {
+    if !reads_files(call) {
+        return Ok(Vec::new(alloc));
+    }
+    match idle_turns(alloc, files, call.first) {
+        Ok(told) => Ok(told),
+        Err(Fault::Memory) => Err(AllocError),
+        Err(_) => Ok(Vec::new(alloc)),
+    }
+}
+
+// The text of a run of scripts; beside it, which statements of the script that is made first were refused, and which turns made nothing.
 fn of_run(
     alloc: Global,
     files: &Files<HostRuntime>,
@@ -96,6 +122,8 @@ fn of_run(
 ) -> Result<Ended, Fault> {
     let mut ended = Ended::of_text(alloc, text);
     ended.told = told_of_first(alloc, files, call)?;
+    let idle = told_of_turns(alloc, files, call)?;
+    ended.told.extend_from_slice(idle.as_slice())?;
     Ok(ended)
 }
 
@@ -213,7 +241,7 @@ fn moves_of_turns(alloc: Global, files: &Files<HostRuntime>, call: &Call) -> Res
         paths: &paths,
     };
     let text = moves_for_turns(alloc, &files, call.capacity)?;
-    Ok(Ended::of_text(alloc, text))
+    of_run(alloc, &files, call, text)
 }
 
 fn verdict(alloc: Global, files: &Files<HostRuntime>, call: &Call) -> Result<Verdict, Fault>

@@ -9,4 +9,5 @@ mod MovesOfTurns
 mod MadeAgain
 mod Printed
 mod ReadBack
+mod EachUnit
 pub mod Public

@@ -14,3 +14,5 @@ pub use Rattle.dbtg_replay.proofs.ScriptLength.{room_for}
 pub use Rattle.dbtg_replay.proofs.UnitEntries.{AllWithin, all_made, all_within, total_few}
 -- units up to 99 are numbers that turns may name
 pub use Rattle.dbtg_replay.proofs.MadeAgain.{numbers}
+-- what is said of each unit, one after another, with one unit more
+pub use Rattle.dbtg_replay.proofs.EachUnit.{one_more}

@@ -4,6 +4,7 @@
 
 mod explaining;
 mod first;
+mod idle;
 mod laws;
 mod ordering;
 pub mod replay;
@@ -13,6 +14,7 @@ mod turns;
 
 pub use explaining::said_of_run;
 pub use first::{FirstUnit, refusals_of_first, refusals_text};
+pub use idle::{idle_turns, push_idle};
 pub use laws::a_printed_replay_is_read_back;
 pub use ordering::{
     AllMoves, behind, first_turns, moves_behind_first, moves_of_turns, serial_turns,
