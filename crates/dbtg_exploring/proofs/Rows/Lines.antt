@@ -1,5 +1,5 @@
 -- Lines of an exploration, as they are printed.
-use Rattle.std.specs.Prelude.{◌≡◌, refl, List, [], ◌∷◌, ◌++◌, Some, None, codes}
+use Rattle.std.specs.Prelude.{◌≡◌, refl, true, false, List, [], ◌∷◌, ◌++◌, Some, None, codes}
 use Rattle.std.specs.Fmt.{digits}
 use Rattle.dbtg_schema.specs.Lists.{Lists}
 use Rattle.dbtg_cells.specs.declared.key.Value.TheVariants.{Num}
@@ -11,6 +11,7 @@ use Rattle.dbtg_program.specs.declared.program.Relation.TheVariants.{Greater}
 use Rattle.dbtg_program.specs.declared.program.Sentence.{Sentence}
 use Rattle.dbtg_program.specs.declared.program.Sentence.TheVariants as sentence
 use Rattle.dbtg_program.specs.States.{ProgramState}
+use Rattle.dbtg_step.specs.Machine.SequentialDatabase.{unit_at}
 use Rattle.dbtg_explore.specs.declared.explored.Endless.{Endless}
 use Rattle.dbtg_explore.specs.declared.replies.Reply.{Reply}
 use Rattle.dbtg_exploring.specs.declared.setting.Exploring.{Exploring}
@@ -39,7 +40,7 @@ ways = refl
 failures : (schema : Lists) (asked : Exploring)
     → failure_text schema [] [] (1 ∷ []) asked (record { failure = record { unit = 2; how = Assert 12 }; turns = 1 ∷ 2 ∷ [] }) ++ failure_text schema [] [] [] asked (record { failure = record { unit = 3; how = Size 9 }; turns = [] })
     ≡ codes "fails 2 ASSERT line 12" ++ 10 ∷ codes "turns 1*2 2" ++ 10 ∷ codes "fails 3 SIZE line 9" ++ 10 ∷ codes "turns" ++ 10 ∷ []
-unfolding digits with_turns
+unfolding digits with_turns unit_at
 failures schema asked = refl
 
 -- THE SENTENCE AT WHICH A PROGRAM FAILS
